@@ -1,0 +1,185 @@
+// The listed types as constant tables: their codes, classes, lengths and rows. The three kinds of identifier. What is said of a
+// tuple and of a call.
+ghost use mathlib.Core.Path.{_≡_};
+ghost use Prim.Native.Nat.{_<_};
+ghost use mathlib.Core.List.{[]};
+ghost use lib.ListN.{getD};
+ghost use Rattle.layout.specs.Types.{inClass, kindOf, placeIn, lineOf, fitting};
+ghost use Rattle.layout.specs.Codes.{rowCodes};
+
+// What intake says: the tuples counted and the bytes written, or the code and the place of the first broken rule.
+pub enum Answer {
+    Accepted { tuples: usize, written: usize },
+    Refused { code: u8, place: usize },
+}
+
+// What is said of one tuple: it is fine, or the code of its first broken rule, with a place counted from the tuple's first byte.
+pub enum Verdict {
+    Fine,
+    Fault { code: u8, offset: usize },
+}
+
+// Names an echosounder tuple.
+pub struct DocumentId(pub u32);
+
+// Names a channel tuple.
+pub struct SoftwareChannel(pub u16);
+
+// The hardware channel of an echosounder. It names no tuple.
+pub struct Transceiver(pub u16);
+
+// What a type code stands for.
+pub enum Kind {
+    Signature,
+    Sounder,
+    Channel,
+    Position,
+    Navigation,
+    Attitude,
+    Threshold,
+    Event,
+    PingU,
+    PingC,
+    RunStart,
+    RunEnd,
+    FileEnd,
+    Index,
+    Unlisted,
+}
+
+// The listed types, and the longest of their rows.
+pub const LISTED: usize = 13;
+
+pub const ROW: usize = 27;
+
+// The classes by their places in the table of bounds.
+pub const POSITION: usize = 0;
+
+pub const SOUNDER: usize = 1;
+
+pub const CHANNEL: usize = 2;
+
+pub const PING: usize = 3;
+
+pub const INDEX: usize = 4;
+
+// The first and the last type code of each class.
+const CLASSES: [[u16; 2]; 5] = [
+    [20, 29],
+    [100, 999],
+    [1000, 9999],
+    [10000, 10099],
+    [65406, 65515],
+];
+
+// The least length of each listed type, and by what step it may be longer; a step of 0 allows the one length alone.
+const LEASTS: [usize; LISTED] = [24, 72, 108, 36, 28, 36, 44, 24, 40, 40, 20, 20, 24];
+
+const STEPS: [usize; LISTED] = [0, 0, 0, 0, 0, 0, 0, 4, 8, 4, 0, 0, 4];
+
+// The fields of each listed type, behind its type and before its attribute: 2 and 4 a number of as many bytes, s and S a signed
+// one, c thirty characters, z a space of two bytes, i the signature's identifier; a dot ends a row.
+const ROWS: [[u8; ROW]; LISTED] = [
+    *b"i224.......................",
+    *b"2422s2s22s22cz.............",
+    *b"244222z44ssss2222222sss44cz",
+    *b"s442zSS....................",
+    *b"242s2z.....................",
+    *b"2422sssssz.................",
+    *b"24222222444................",
+    *b"24.........................",
+    *b"24224S.....................",
+    *b"24224S4....................",
+    *b"24.........................",
+    *b"24.........................",
+    *b"242........................",
+];
+
+// Whether a type code is of a class.
+pub fn in_class(class: usize, code: u16) -> bool
+    requires { ⌜ class < 5 ⌝ }
+    ensures { λ r. ⌜ r ≡ inClass class code ⌝ }
+{
+    let bounds = CLASSES[class];
+    if code < bounds[0] {
+        return false;
+    }
+    code <= bounds[1]
+}
+
+// The kind of a type code.
+pub fn kind_of(code: u16) -> Kind
+    ensures { λ r. ⌜ r ≡ kindOf code ⌝ }
+{
+    if in_class(INDEX, code) {
+        return Kind::Index;
+    }
+    match code {
+        65535 => Kind::Signature,
+        100 => Kind::Sounder,
+        1000 => Kind::Channel,
+        20 => Kind::Position,
+        30 => Kind::Navigation,
+        40 => Kind::Attitude,
+        10100 => Kind::Threshold,
+        10110 => Kind::Event,
+        10000 => Kind::PingU,
+        10010 => Kind::PingC,
+        65516 => Kind::RunStart,
+        65517 => Kind::RunEnd,
+        65534 => Kind::FileEnd,
+        _ => Kind::Unlisted,
+    }
+}
+
+impl Kind {
+    // The line of a listed kind in the tables; LISTED for the others.
+    pub fn line(self) -> usize
+        ensures { λ r. ⌜ r ≡ placeIn self ⌝ }
+    {
+        match self {
+            Kind::Signature => 0,
+            Kind::Sounder => 1,
+            Kind::Channel => 2,
+            Kind::Position => 3,
+            Kind::Navigation => 4,
+            Kind::Attitude => 5,
+            Kind::Threshold => 6,
+            Kind::Event => 7,
+            Kind::PingU => 8,
+            Kind::PingC => 9,
+            Kind::RunStart => 10,
+            Kind::RunEnd => 11,
+            Kind::FileEnd => 12,
+            Kind::Index => LISTED,
+            Kind::Unlisted => LISTED,
+        }
+    }
+
+    // Whether a tuple of this kind may be so long: any length will do for the kinds that are not listed.
+    pub fn fits(self, length: usize) -> bool
+        ensures { λ r. ⌜ r ≡ fitting (lineOf self .length) length ⌝ }
+    {
+        let line = self.line();
+        if LISTED <= line {
+            return true;
+        }
+        let least = LEASTS[line];
+        let step = STEPS[line];
+        if step == 0 {
+            return length == least;
+        }
+        if length < least {
+            return false;
+        }
+        (length - least) % step == 0
+    }
+}
+
+// The row of a line of the tables.
+pub fn row(line: usize) -> [u8; ROW]
+    requires { ⌜ line < 13 ⌝ }
+    ensures { λ r. ⌜ r ≡ getD rowCodes line [] ⌝ }
+{
+    ROWS[line]
+}
