@@ -7,51 +7,70 @@ use mathlib.Core.Option.{Option, some, none}
 use Prim.Native.Nat.{ℕ, zero, suc, _+_, _-_, _%_, _<_, _≤_}
 use native.Mathlib.Omega.{arith}
 use borrow.Author.Tests.{le-leb, lt-leb}
-use lib.Dec.{eqb}
+use lib.Dec.{eqb, lit<}
 use lib.ListN.{getD, List·getD-map}
 use Rattle.rules.specs.Rules.{firstOf}
 use Rattle.layout.specs.declared.Kind.{Kind}
 use Rattle.layout.specs.declared.Kind.the-variants.{Signature, Sounder, Channel, Position, Navigation, Attitude, Threshold, Event, PingU, PingC, RunStart, RunEnd, FileEnd, Index, Unlisted}
-use Rattle.layout.specs.Fields.{Field, size}
-use Rattle.layout.specs.Types.{Shape, indexed, row, pairs, words, unlisted, Length, fitting, lineOf, listed, placeIn}
+use Rattle.layout.specs.Fields.{Field, u, size}
+use Rattle.layout.specs.Types.{Shape, indexed, row, pairs, words, unlisted, Length, exactly, upward, free, fitting, pingRow, lineOf, listed, placeIn}
 use Rattle.layout.specs.Codes.{fieldOf, fieldsOf, rowCodes, leasts, steps, lengthBy}
 
--- the fields that a shape begins with, and the least bytes behind them
+-- the fields that a shape begins with
 abbrev pub fieldsIn : Shape → List Field
 fieldsIn indexed = []
 fieldsIn (row fs x) = fs
-fieldsIn (pairs fs) = fs
-fieldsIn (words fs) = fs
+fieldsIn pairs = pingRow
+fieldsIn words = pingRow ++ (u 4 ∷ [])
 fieldsIn unlisted = []
 
-abbrev pub leastTail : Shape → ℕ
-leastTail indexed = 0
-leastTail (row fs none) = 0
-leastTail (row fs (some n)) = n
-leastTail (pairs fs) = 8
-leastTail (words fs) = 4
-leastTail unlisted = 0
+-- the lengths of a shape: size, type, fields, attribute and backlink; and the characters, the pairs or the words, one at least
+abbrev pub lengthFrom : Shape → Length
+lengthFrom indexed = free
+lengthFrom (row fs none) = exactly (size fs + 14)
+lengthFrom (row fs (some n)) = upward (size fs + 14 + n) 4
+lengthFrom pairs = upward (size pingRow + 14 + 8) 8
+lengthFrom words = upward (size pingRow + 4 + 14 + 4) 4
+lengthFrom unlisted = free
 
--- what the tables say of a kind: its fields, its lengths, its least length
+-- what the tables say of a kind: its fields, its lengths, and these by its row
 pub record Said : Type 0 where
   pub fields : List Field
   pub lengths : Length
-  pub least : ℕ
+  pub byRow : Length
 
 abbrev pub coded : Kind → Said
 coded q =
     let i = placeIn q in
-    record { fields = fieldsOf (getD rowCodes i []); lengths = lengthBy (getD leasts i 0) (getD steps i 0); least = getD leasts i 0 }
+    let n = lengthBy (getD leasts i 0) (getD steps i 0) in
+    record { fields = fieldsOf (getD rowCodes i []); lengths = n; byRow = n }
 
--- size, type, fields, what is behind them, attribute and backlink make the least length
 abbrev pub printed : Kind → Said
 printed q =
     let l = lineOf q in
-    record { fields = fieldsIn (l .shape); lengths = l .length; least = 4 + 2 + size (fieldsIn (l .shape)) + leastTail (l .shape) + 4 + 4 }
+    record { fields = fieldsIn (l .shape); lengths = l .length; byRow = lengthFrom (l .shape) }
 
 test : map coded listed ≡ map printed listed
 unfolding listed fieldOf fieldsOf rowCodes leasts steps lineOf
 test = refl
+
+-- what holds of the listed kinds and of the two others holds of all
+pub by-kind : (P : Kind → Type 0) → ((q : Kind) → placeIn q < 13 → P q) → P Index → P Unlisted → (q : Kind) → P q
+by-kind P l i u Signature = l Signature (lit< tt)
+by-kind P l i u Sounder = l Sounder (lit< tt)
+by-kind P l i u Channel = l Channel (lit< tt)
+by-kind P l i u Position = l Position (lit< tt)
+by-kind P l i u Navigation = l Navigation (lit< tt)
+by-kind P l i u Attitude = l Attitude (lit< tt)
+by-kind P l i u Threshold = l Threshold (lit< tt)
+by-kind P l i u Event = l Event (lit< tt)
+by-kind P l i u PingU = l PingU (lit< tt)
+by-kind P l i u PingC = l PingC (lit< tt)
+by-kind P l i u RunStart = l RunStart (lit< tt)
+by-kind P l i u RunEnd = l RunEnd (lit< tt)
+by-kind P l i u FileEnd = l FileEnd (lit< tt)
+by-kind P l i u Index = i
+by-kind P l i u Unlisted = u
 
 -- a listed kind stands at its place
 stands : (q : Kind) → placeIn q < 13 → getD listed (placeIn q) Signature ≡ q
@@ -102,18 +121,13 @@ long least (suc step) n e h = rw (le-leb least n h)
 -- any length fits a kind that is not listed
 pub any : (q : Kind) → 13 ≤ placeIn q → (n : ℕ) → true ≡ fitting (lineOf q .length) n
 unfolding lineOf
-any Signature h n = absurd (omega arith)
-any Sounder h n = absurd (omega arith)
-any Channel h n = absurd (omega arith)
-any Position h n = absurd (omega arith)
-any Navigation h n = absurd (omega arith)
-any Attitude h n = absurd (omega arith)
-any Threshold h n = absurd (omega arith)
-any Event h n = absurd (omega arith)
-any PingU h n = absurd (omega arith)
-any PingC h n = absurd (omega arith)
-any RunStart h n = absurd (omega arith)
-any RunEnd h n = absurd (omega arith)
-any FileEnd h n = absurd (omega arith)
-any Index h n = refl
-any Unlisted h n = refl
+any = by-kind (λ (q : Kind). 13 ≤ placeIn q → (n : ℕ) → true ≡ fitting (lineOf q .length) n) (λ q h k n. absurd (omega arith)) (λ k n. refl) (λ k n. refl)
+
+-- a kind's lengths are those of its row
+pub lengths-from : (q : Kind) → lineOf q .length ≡ lengthFrom (lineOf q .shape)
+unfolding lineOf
+lengths-from =
+    by-kind (λ (q : Kind). lineOf q .length ≡ lengthFrom (lineOf q .shape))
+    (λ q h. sym (ap (λ (x : Said). x .lengths) (tabled q h)) ∙ ap (λ (x : Said). x .byRow) (tabled q h))
+    refl
+    refl

@@ -1,7 +1,7 @@
 -- The type codes: classes, listed types, their lengths and their rows. Assumes nothing.
 use Prim.Native.Nat.{ℕ, _+_, _-_, _%_}
 use mathlib.Core.Bool.{Bool, true, false, _&&_}
-use mathlib.Core.List.{List, [], _∷_, _++_}
+use mathlib.Core.List.{List, [], _∷_}
 use mathlib.Core.Option.{Option, some, none}
 use lib.Dec.{leb, eqb}
 use lib.ListN.{getD}
@@ -69,13 +69,13 @@ fitting (upward least step) m = leb least m && eqb ((m - least) % step) 0
 fitting free m = true
 
 -- ---- rows
--- what the data of a kind hold: fields, then characters where `some` says how many at least; a U-32 ping's pairs; a C-32 ping's
--- words; each before the attribute
+-- what the data of a kind hold before the attribute: fields, then characters where `some` says how many at least; a U-32 ping's
+-- header and pairs; a C-32 ping's header, number of samples and words
 pub data Shape : Type 0 where
   indexed : Shape
   row : List Field → Option ℕ → Shape
-  pairs : List Field → Shape
-  words : List Field → Shape
+  pairs : Shape
+  words : Shape
   unlisted : Shape
 
 pub record Line : Type 0 where
@@ -85,7 +85,7 @@ pub record Line : Type 0 where
 abbrev pub line : Length → Shape → Line
 line n h = record { length = n; shape = h }
 
--- the header of both pings; C-32 has the number of samples behind it
+-- the header of both pings
 abbrev pub pingRow : List Field
 pingRow = u 2 ∷ u 4 ∷ u 2 ∷ u 2 ∷ u 4 ∷ s 4 ∷ []
 
@@ -103,8 +103,8 @@ lineOf Navigation = line (exactly 28) (row (u 2 ∷ u 4 ∷ u 2 ∷ s 2 ∷ u 2 
 lineOf Attitude = line (exactly 36) (row (u 2 ∷ u 4 ∷ u 2 ∷ u 2 ∷ s 2 ∷ s 2 ∷ s 2 ∷ s 2 ∷ s 2 ∷ z 2 ∷ []) none)
 lineOf Threshold = line (exactly 44) (row (u 2 ∷ u 4 ∷ u 2 ∷ u 2 ∷ u 2 ∷ u 2 ∷ u 2 ∷ u 2 ∷ u 4 ∷ u 4 ∷ u 4 ∷ []) none)
 lineOf Event = line (upward 24 4) (row (u 2 ∷ u 4 ∷ []) (some 4))
-lineOf PingU = line (upward 40 8) (pairs pingRow)
-lineOf PingC = line (upward 40 4) (words (pingRow ++ (u 4 ∷ [])))
+lineOf PingU = line (upward 40 8) pairs
+lineOf PingC = line (upward 40 4) words
 lineOf RunStart = line (exactly 20) (row (u 2 ∷ u 4 ∷ []) none)
 lineOf RunEnd = line (exactly 20) (row (u 2 ∷ u 4 ∷ []) none)
 lineOf FileEnd = line (upward 24 4) (row (u 2 ∷ u 4 ∷ u 2 ∷ []) (some 2))

@@ -1,5 +1,7 @@
 // The listed types as constant tables: their codes, classes, lengths and rows. The three kinds of identifier. What is said of a
 // tuple and of a call.
+pub mod codes;
+
 ghost use mathlib.Core.Path.{_≡_};
 ghost use Prim.Native.Nat.{_<_};
 ghost use mathlib.Core.List.{[]};
