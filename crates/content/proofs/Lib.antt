@@ -1,0 +1,4 @@
+pub mod Fine
+pub mod Plain
+pub mod Pings
+pub mod Kept

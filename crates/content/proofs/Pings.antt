@@ -1,0 +1,275 @@
+-- 32-bit pings: data of either kind are read back in either order; what a sound ping holds; and that its normal form is sound and
+-- has the same content. Assumes nothing.
+use mathlib.Core.Path.{_≡_, refl, sym, ap, ap₂, subst, _∙_}
+use mathlib.Core.Bool.{Bool, true, false, not, _&&_}
+use mathlib.Core.List.{List, [], _∷_, _++_, append-assoc}
+use mathlib.Core.Option.{Option, some, none}
+use Prim.Native.Nat.{ℕ, zero, suc, _+_, _-_, _*_, _/_, _%_, _^_, _≤_, _<_}
+use native.Mathlib.Omega.{arith}
+use borrow.Author.Tests.{ltb-false, le-ltb, eq-eqb, le-leb}
+use lib.Dec.{ltb, leb, eqb, lit<}
+use lib.ListN.{length, take, drop, length-append, length-drop}
+use lib.Seq.{length-take-le, take-at, drop-at}
+use Rattle.order.specs.Order.{numOf, bytesOf, Bytes}
+use Rattle.order.proofs.Laws.{length-bytesOf, numOf-bytesOf, numOf-bound, bytes-take, bytes-drop, bytes-append, bytes-ordered, bytes-lows}
+use Rattle.rules.specs.Rules.{Rule, _⇒_}
+use Rattle.layout.specs.declared.Verdict.{Verdict}
+use Rattle.layout.specs.declared.Verdict.the-variants.{Fine}
+use Rattle.layout.specs.Answers.{judged}
+use Rattle.layout.specs.Types.{pairs, words, fitting, classes, inClass, kindOf, lineOf, shapeOf, pingRow}
+use Rattle.layout.proofs.Tables.{lengthFrom}
+use Rattle.layout.proofs.Verdicts.{passes, passed}
+use Rattle.turning.specs.Rows.{Value, valuesOf, encode, Fit}
+use Rattle.turning.proofs.Contents.{values-encode, values-fit, values-take, length-encode, bytes-encode, Lettered}
+use Rattle.frame.specs.Frames.{Tup, lengthOf, allowed}
+use Rattle.frame.proofs.Frames.{Framed, allowed-of, allowed-most}
+use Rattle.samples.specs.Words.{Sample, allWords, unwords, pairUp, unpair}
+use Rattle.samples.specs.Words
+use Rattle.samples.specs.Runs.{radix, decode, decodeFrom, fewest, isRun, runLength, values, firstBad, isBad}
+use Rattle.samples.specs.Judging.{most, firstDrop, pairRules, wordRules}
+use Rattle.samples.proofs.Words.{Below, Within, length-unwords, all-unwords, bytes-unwords, words-below, pair-unpair, length-unpair, within-below, pairs-within, pairs-few}
+use Rattle.samples.proofs.Runs.{decode-fit}
+use Rattle.samples.proofs.Values.{length-decode, decode-within}
+use Rattle.samples.proofs.Rising.{Rising, rising-all, rises, fit-rising}
+use Rattle.content.specs.Pings.{Ping, headU, headC, wordsIn, attributeIn, countIn, contentU, contentC, dataU, dataC}
+use Rattle.content.specs.Items.{Item, ping, itemBy, itemOf}
+use Rattle.content.specs.Forms.{tupleU, tupleC, pingForm, formOf}
+use Rattle.content.proofs.Fine.{Sound, Kept, head-fine, inner-fine}
+
+-- ---- the parts of data h, m, a: a header, words, an attribute
+middle-of : (o : Bool) (h m a : List ℕ) (n : ℕ) → length h ≡ n → length a ≡ 4 → wordsIn n o (h ++ (m ++ a)) ≡ allWords 4 o m
+unfolding wordsIn
+middle-of o h m a n e f =
+    let l : length m ≡ length (h ++ (m ++ a)) - (n + 4) = omega (arith, length-append h (m ++ a), length-append m a) in
+    rw (drop-at h (m ++ a) n e, take-at m a (length (h ++ (m ++ a)) - (n + 4)) l)
+
+attribute-of : (o : Bool) (b a : List ℕ) → length a ≡ 4 → attributeIn o (b ++ a) ≡ numOf o a
+unfolding attributeIn
+attribute-of o b a f =
+    let l : length b ≡ length (b ++ a) - 4 = omega (arith, length-append b a) in
+    rw (drop-at b a (length (b ++ a) - 4) l)
+
+-- the header is read off the front of the data
+head-of : (o : Bool) (vs : List Value) (r : List ℕ) → Fit pingRow vs → valuesOf o pingRow (encode o pingRow vs ++ r) ≡ vs
+head-of o vs r f =
+    let h = encode o pingRow vs in
+    let n = length-encode o f in
+    sym (values-take o pingRow (length h) (h ++ r) (omega arith)) ∙ ap (valuesOf o pingRow) (take-at h r (length h) refl) ∙ values-encode o f
+
+-- ---- what a ping holds that can be written
+pub record Good (c : Ping) : Type 0 where
+  pub head : Fit pingRow (c .head)
+  pub lettered : Lettered (c .head)
+  pub within : Within (256 ^ 4) (c .samples)
+  pub attr : c .attr < 256 ^ 4
+  pub few : length (c .samples) ≤ most
+  pub rising : Rising 0 (c .samples)
+
+module _ (o : Bool) (c : Ping) (g : Good c) where
+  h : List ℕ
+  h = encode o pingRow (c .head)
+
+  t : List ℕ
+  t = bytesOf o 4 (c .attr)
+
+  length-h : length h ≡ 18
+  unfolding h
+  length-h = length-encode o (g .head)
+
+  length-t : length t ≡ 4
+  unfolding t
+  length-t = length-bytesOf o 4 (c .attr)
+
+  -- U-32 data say what they were made from
+  pub content-U : contentU o (dataU o c) ≡ c
+  unfolding contentU dataU h t
+  content-U =
+      let m = unwords 4 o (unpair (c .samples)) in
+      λ i. record {
+        head = head-of o (c .head) (m ++ t) (g .head) i;
+        samples = (ap pairUp (middle-of o h m t 18 length-h length-t ∙ all-unwords 4 (lit< tt) o (unpair (c .samples)) (within-below (256 ^ 4) (c .samples) (g .within))) ∙ pair-unpair (c .samples)) i;
+        attr = (ap (attributeIn o) (sym (append-assoc h m t)) ∙ attribute-of o (h ++ m) t length-t ∙ numOf-bytesOf o 4 (c .attr) (g .attr)) i;
+      }
+
+  module _ (ws : List ℕ) (w : Below (256 ^ 4) ws) where
+    n : List ℕ
+    n = bytesOf o 4 (length (c .samples))
+
+    length-n : length (h ++ n) ≡ 22
+    unfolding n
+    length-n = length-append h n ∙ omega (arith, length-h, length-bytesOf o 4 (length (c .samples)))
+
+    -- C-32 data are read back: their words, their count, and what the words say
+    pub words-C : wordsIn headC o (dataC o c ws) ≡ ws
+    unfolding dataC h t n
+    words-C =
+        let m = unwords 4 o ws in
+        ap (wordsIn headC o) (sym (append-assoc h n (m ++ t))) ∙ middle-of o (h ++ n) m t 22 length-n length-t ∙ all-unwords 4 (lit< tt) o ws w
+
+    pub count-C : countIn o (dataC o c ws) ≡ length (c .samples)
+    unfolding countIn dataC h t n
+    count-C =
+        let r = unwords 4 o ws ++ t in
+        let small : length (c .samples) < 256 ^ 4 = omega (arith, g .few) in
+        ap (λ (l : List ℕ). numOf o (take 4 l)) (drop-at h (n ++ r) 18 length-h)
+        ∙ ap (numOf o) (take-at n r 4 (length-bytesOf o 4 (length (c .samples))))
+        ∙ numOf-bytesOf o 4 (length (c .samples)) small
+
+    pub content-C : decode radix ws ≡ c .samples → contentC o (dataC o c ws) ≡ c
+    unfolding contentC dataC h t n
+    content-C e =
+        let m = unwords 4 o ws in
+        λ i. record {
+          head = head-of o (c .head) (n ++ (m ++ t)) (g .head) i;
+          samples = (ap (decode radix) words-C ∙ e) i;
+          attr = (ap (attributeIn o) (sym (append-assoc h n (m ++ t)) ∙ sym (append-assoc (h ++ n) m t))
+              ∙ attribute-of o (h ++ n ++ m) t length-t ∙ numOf-bytesOf o 4 (c .attr) (g .attr)) i;
+        }
+
+    pub length-C : length (dataC o c ws) ≡ 26 + 4 * length ws
+    unfolding dataC h t n
+    length-C =
+        let m = unwords 4 o ws in
+        length-append h (n ++ (m ++ t)) ∙ omega (arith, length-append n (m ++ t), length-append m t, length-h, length-t, length-bytesOf o 4 (length (c .samples)), length-unwords 4 o ws)
+
+    pub bytes-C : Bytes (dataC o c ws)
+    unfolding dataC h t n
+    bytes-C =
+        let m = unwords 4 o ws in
+        bytes-append h (n ++ (m ++ t)) (bytes-encode o (g .head) (g .lettered))
+        (bytes-append n (m ++ t) (bytes-ordered o _ (bytes-lows 4 (length (c .samples)))) (bytes-append m t (bytes-unwords 4 o ws) (bytes-ordered o _ (bytes-lows 4 (c .attr)))))
+
+  pub length-U : length (dataU o c) ≡ 22 + 8 * length (c .samples)
+  unfolding dataU h t
+  length-U =
+      let m = unwords 4 o (unpair (c .samples)) in
+      length-append h (m ++ t) ∙ omega (arith, length-append m t, length-h, length-t, length-unwords 4 o (unpair (c .samples)), length-unpair (c .samples))
+
+  pub bytes-U : Bytes (dataU o c)
+  unfolding dataU h t
+  bytes-U =
+      let m = unwords 4 o (unpair (c .samples)) in
+      bytes-append h (m ++ t) (bytes-encode o (g .head) (g .lettered)) (bytes-append m t (bytes-unwords 4 o (unpair (c .samples))) (bytes-ordered o _ (bytes-lows 4 (c .attr))))
+
+-- ---- what a sound ping holds
+module _ (o : Bool) (t : Tup) (g : Framed t) (long : 30 ≤ length (t .body)) where
+  most-body : length (t .body) ≤ 262134
+  most-body = omega (arith, allowed-most (lengthOf t) (g .allowed))
+
+  head-fits : Fit pingRow (valuesOf o pingRow (t .body))
+  head-fits = values-fit o pingRow (t .body) (g .bytes) (omega arith)
+
+  attr-fits : attributeIn o (t .body) < 256 ^ 4
+  unfolding attributeIn
+  attr-fits =
+      let d = drop (length (t .body) - 4) (t .body) in
+      let n : length d ≡ 4 = length-drop (length (t .body) - 4) (t .body) ∙ omega arith in
+      rw n at (numOf-bound o d (bytes-drop (length (t .body) - 4) (t .body) (g .bytes)))
+
+  -- the words between a header of a bytes and the attribute
+  inside : (a : ℕ) → a + 4 ≤ length (t .body) → Below (256 ^ 4) (wordsIn a o (t .body)) × (length (wordsIn a o (t .body)) ≡ (length (t .body) - (a + 4)) / 4)
+  unfolding allWords wordsIn
+  inside a h =
+      let d = take (length (t .body) - (a + 4)) (drop a (t .body)) in
+      let n : length d ≡ length (t .body) - (a + 4) = length-take-le (length (t .body) - (a + 4)) (drop a (t .body)) (simp length-drop (omega arith)) in
+      let r = words-below 4 (length d / 4) o d (bytes-take (length (t .body) - (a + 4)) (drop a (t .body)) (bytes-drop a (t .body) (g .bytes))) (omega arith) in
+      (r .0, r .1 ∙ ap (λ (k : ℕ). k / 4) n)
+
+  -- a U-32 ping never holds more than 32,764 values
+  pub few-U : length (contentU o (t .body) .samples) ≤ most
+  unfolding contentU
+  few-U = omega (arith, pairs-few (wordsIn headU o (t .body)), inside 18 (omega arith) .1, most-body)
+
+  pub good-U : judged (pairRules (contentU o (t .body) .samples)) ≡ Fine → Good (contentU o (t .body))
+  unfolding contentU
+  good-U e =
+      let ws = wordsIn headU o (t .body) in
+      let p = passes (pairRules (pairUp ws)) e in
+      record {
+        head = head-fits;
+        lettered = tt;
+        within = pairs-within (256 ^ 4) ws (inside 18 (omega arith) .0);
+        attr = attr-fits;
+        few = few-U;
+        rising = rises (pairUp ws) (p .0);
+      }
+
+  pub good-C : judged (wordRules (countIn o (t .body)) (wordsIn headC o (t .body))) ≡ Fine → Good (contentC o (t .body))
+  unfolding contentC
+  good-C e =
+      let ws = wordsIn headC o (t .body) in
+      let w = inside 22 (omega arith) in
+      let p = passes (wordRules (countIn o (t .body)) ws) e in
+      record {
+        head = head-fits;
+        lettered = tt;
+        within = decode-within radix (lit< tt) (256 ^ 4) ws 0 (w .0) (omega (arith, w .1, most-body));
+        attr = attr-fits;
+        few = omega (arith, length-decode radix (lit< tt) ws 0, ltb-false most (values radix ws) (p .0));
+        rising = fit-rising radix (decodeFrom radix 0 ws) 0 (decode-fit radix (lit< tt) ws 0);
+      }
+
+-- ---- its normal form
+module _ (c : Ping) (g : Good c) where
+  -- with samples
+  sound-U : 0 < length (c .samples) → Sound false (tupleU false c)
+  unfolding classes inClass kindOf lineOf
+  sound-U any =
+      let v = tupleU false c in
+      let d = dataU false c in
+      let n = length-U false c g in
+      let f = g .few in
+      record {
+        framed = record { kind = lit< tt; bytes = bytes-U false c g; allowed = allowed-of (length d + 10) (omega arith) (omega arith) (omega arith) };
+        head = head-fine false v pairs refl (rw (le-leb 40 (length d + 10) (omega arith), eq-eqb ((length d + 10 - 40) % 8) 0 (omega arith))) refl;
+        inner = inner-fine false v pairs refl (passed (pairRules (contentU false d .samples))
+            (ap (λ (p : Ping). ltb (firstDrop 0 (p .samples)) (length (p .samples))) (content-U false c g) ∙ le-ltb (firstDrop 0 (c .samples)) (length (c .samples)) (omega (arith, rising-all (c .samples) 0 (g .rising))), tt));
+      }
+
+  item-U : itemOf false (tupleU false c) ≡ some (ping c)
+  unfolding itemOf classes inClass kindOf lineOf
+  item-U = ap (λ (p : Ping). some (ping p)) (content-U false c g)
+
+  -- without samples
+  one : List ℕ
+  one = 0xffff0000 ∷ []
+
+  below-one : Below (256 ^ 4) one
+  unfolding one
+  below-one = (lit< tt, tt)
+
+  module _ (e : c .samples ≡ []) where
+    form-C : tupleC false c ≡ record { kind = 10010; body = dataC false c one }
+    unfolding one
+    form-C = ap (λ (s : List Sample). record { kind = 10010; body = dataC false c (fewest radix s) }) e
+
+    sound-C : Sound false (record { kind = 10010; body = dataC false c one })
+    unfolding classes inClass kindOf lineOf
+    sound-C =
+        let d = dataC false c one in
+        let v : Tup = record { kind = 10010; body = d } in
+        let n : length d ≡ 30 = length-C false c g one below-one ∙ unfold one in refl in
+        record {
+          framed = record { kind = lit< tt; bytes = bytes-C false c g one below-one; allowed = allowed-of (length d + 10) (omega arith) (omega arith) (omega arith) };
+          head = head-fine false v words refl (rw (le-leb 40 (length d + 10) (omega arith), eq-eqb ((length d + 10 - 40) % 4) 0 (omega arith))) refl;
+          inner = inner-fine false v words refl
+              (ap₂ (λ (k : ℕ) (ws : List ℕ). judged (wordRules k ws)) (count-C false c g one below-one ∙ ap length e) (words-C false c g one below-one) ∙ unfold values firstBad isRun isBad one in refl);
+        }
+
+    item-C : itemOf false (record { kind = 10010; body = dataC false c one }) ≡ some (ping c)
+    unfolding itemOf classes inClass kindOf lineOf
+    item-C = ap (λ (p : Ping). some (ping p)) (content-C false c g one below-one (unfold one decodeFrom isRun runLength in sym e))
+
+  -- a ping that can be written is kept
+  pub kept-ping : Kept (ping c)
+  unfolding formOf
+  kept-ping = by-samples (c .samples) refl
+    where
+      by-samples : (s : List Sample) → c .samples ≡ s → Kept (ping c)
+      by-samples [] e =
+          let f : pingForm (c .samples) c ≡ record { kind = 10010; body = dataC false c one } = ap (λ (s : List Sample). pingForm s c) e ∙ form-C e in
+          record { sound = subst (Sound false) (sym f) (sound-C e); item = subst (λ (t : Tup). itemOf false t ≡ some (ping c)) (sym f) (item-C e) }
+      by-samples (x ∷ s) e =
+          let any : 0 < length (c .samples) = omega (arith, ap length e) in
+          let f : pingForm (c .samples) c ≡ tupleU false c = ap (λ (s : List Sample). pingForm s c) e in
+          record { sound = subst (Sound false) (sym f) (sound-U any); item = subst (λ (t : Tup). itemOf false t ≡ some (ping c)) (sym f) item-U }

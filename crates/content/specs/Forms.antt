@@ -1,0 +1,42 @@
+-- The tuples that are written for a content, in either byte order, and its normal form. Assumes nothing.
+use Prim.Native.Nat.{ℕ}
+use mathlib.Core.Bool.{Bool, true, false}
+use mathlib.Core.List.{List, [], _∷_}
+use mathlib.Core.Option.{Option, some, none}
+use Rattle.layout.specs.Types.{Shape, indexed, row, pairs, words, unlisted, shapeOf}
+use Rattle.turning.specs.Rows.{Value, encode}
+use Rattle.frame.specs.Frames.{Tup}
+use Rattle.samples.specs.Words.{Sample}
+use Rattle.samples.specs.Runs.{radix, fewest}
+use Rattle.content.specs.Pings.{Ping, dataU, dataC}
+use Rattle.content.specs.Items.{Item, plain, ping, raw, rowIn}
+
+-- ---- written tuples
+-- a row's values: spaces 0, the identifier 44204; the characters are as many as there are
+abbrev pub encodeBy : Bool → Shape → List Value → List ℕ
+encodeBy o indexed vs = []
+encodeBy o (row fs x) vs = encode o (rowIn fs x 0) vs
+encodeBy o pairs vs = []
+encodeBy o words vs = []
+encodeBy o unlisted vs = []
+
+abbrev pub plainTuple : Bool → ℕ → List Value → Tup
+plainTuple o k vs = record { kind = k; body = encodeBy o (shapeOf k) vs }
+
+abbrev pub tupleU : Bool → Ping → Tup
+tupleU o p = record { kind = 10000; body = dataU o p }
+
+-- C-32 in the fewest words
+abbrev pub tupleC : Bool → Ping → Tup
+tupleC o p = record { kind = 10010; body = dataC o p (fewest radix (p .samples)) }
+
+-- ---- the normal form
+-- each 32-bit ping as U-32; one without samples is C-32 with number of samples 0 and the one word FFFF0000
+abbrev pub pingForm : List Sample → Ping → Tup
+pingForm [] p = tupleC false p
+pingForm (x ∷ s) p = tupleU false p
+
+unfoldable pub formOf : Item → Tup
+formOf (plain k vs) = plainTuple false k vs
+formOf (ping p) = pingForm (p .samples) p
+formOf (raw k d) = record { kind = k; body = d }

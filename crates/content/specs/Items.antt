@@ -1,0 +1,127 @@
+-- A tuple by itself: its content, the rules that it keeps alone, and what it says to the other tuples. Assumes nothing.
+use Prim.Native.Nat.{ℕ, _+_, _-_}
+use mathlib.Core.Bool.{Bool, true, false, not, _&&_}
+use mathlib.Core.List.{List, [], _∷_, _++_}
+use mathlib.Core.Option.{Option, some, none}
+use lib.Dec.{eqb}
+use lib.ListN.{length, getD}
+use Rattle.rules.specs.Rules.{Rule, _⇒_}
+use Rattle.layout.specs.declared.Kind.{Kind}
+use Rattle.layout.specs.declared.Kind.the-variants.{Signature, Sounder, Channel, Position, Navigation, Attitude, Threshold, Event, PingU, PingC, RunStart, RunEnd, FileEnd, Index, Unlisted}
+use Rattle.layout.specs.Fields.{Field, s, c, size}
+use Rattle.layout.specs.Types
+use Rattle.layout.specs.Types.{Shape, indexed, row, pairs, words, unlisted, kindOf, shapeOf, lengthsOf, fitting, inClass}
+use Rattle.turning.specs.Rows.{Value, number, text, valuesOf, identified}
+use Rattle.frame.specs.Frames.{Tup, lengthOf}
+use Rattle.samples.specs.Judging.{pairRules, wordRules}
+use Rattle.links.specs.Links.{Link, Digest, nothing}
+use Rattle.links.specs.Links
+use Rattle.content.specs.Pings.{Ping, headC, wordsIn, countIn, contentU, contentC}
+
+-- ---- content: each tuple with type, attribute and fields, where 10000 and 10010 count as one type
+pub data Item : Type 0 where
+  plain : ℕ → List Value → Item  -- a type code, and the values of its row, the attribute the last
+  ping : Ping → Item
+  raw : ℕ → List ℕ → Item  -- an unlisted type code, and the raw data
+
+-- a row with its characters, of m bytes of data, and its attribute
+abbrev pub rowIn : List Field → Option ℕ → ℕ → List Field
+rowIn fs none m = fs ++ (s 4 ∷ [])
+rowIn fs (some least) m = fs ++ (c (m - (size fs + 4)) ∷ s 4 ∷ [])
+
+-- index-class tuples are no content
+abbrev pub itemBy : Shape → Bool → Tup → Option Item
+itemBy indexed o t = none
+itemBy (row fs x) o t = some (plain (t .kind) (valuesOf o (rowIn fs x (length (t .body))) (t .body)))
+itemBy pairs o t = some (ping (contentU o (t .body)))
+itemBy words o t = some (ping (contentC o (t .body)))
+itemBy unlisted o t = some (raw (t .kind) (t .body))
+
+unfoldable pub itemOf : Bool → Tup → Option Item
+itemOf o t = itemBy (shapeOf (t .kind)) o t
+
+-- ---- the rules that a tuple keeps alone
+-- each identifier of a row is one that may be read
+abbrev pub identifiedBy : Shape → Bool → Tup → Bool
+identifiedBy indexed o t = true
+identifiedBy (row fs x) o t = identified o (rowIn fs x (length (t .body))) (t .body)
+identifiedBy pairs o t = true
+identifiedBy words o t = true
+identifiedBy unlisted o t = true
+
+-- 9: length unfit for a listed type; 8: identifier isn't 44204
+abbrev pub headRules : Bool → Tup → List (Rule ℕ)
+headRules o t =
+    (not (fitting (lengthsOf (t .kind)) (lengthOf t)) ⇒ 9)
+    ∷ (not (identifiedBy (shapeOf (t .kind)) o t) ⇒ 8)
+    ∷ []
+
+-- 11: ping over 32,764 values; 10: samples break a rule
+abbrev pub innerBy : Shape → Bool → Tup → List (Rule ℕ)
+innerBy indexed o t = []
+innerBy (row fs x) o t = []
+innerBy pairs o t = pairRules (contentU o (t .body) .samples)
+innerBy words o t = wordRules (countIn o (t .body)) (wordsIn headC o (t .body))
+innerBy unlisted o t = []
+
+abbrev pub innerRules : Bool → Tup → List (Rule ℕ)
+innerRules o t = innerBy (shapeOf (t .kind)) o t
+
+-- ---- what a tuple says to the others, by its content alone
+-- the number at a place of a list of values
+abbrev pub asNumber : Value → ℕ
+asNumber (number n) = n
+asNumber (text t) = 0
+
+abbrev pub numberAt : List Value → ℕ → ℕ
+numberAt vs i = asNumber (getD vs i (number 0))
+
+-- an attitude's 65535 means all channels
+abbrev pub unless : Bool → Link → Link
+unless true l = Links.none
+unless false l = l
+
+-- a sounder tuple: number of channels, document identifier; a channel tuple: software channel, document identifier; a threshold
+-- and an attitude: time fraction, time, software channel
+abbrev pub linkBy : Kind → List Value → Link
+linkBy Signature vs = Links.none
+linkBy Sounder vs = Links.sounder (record { 0 = numberAt vs 1 }) (numberAt vs 0)
+linkBy Channel vs = Links.channel (record { 0 = numberAt vs 0 }) (record { 0 = numberAt vs 1 })
+linkBy Position vs = Links.none
+linkBy Navigation vs = Links.none
+linkBy Attitude vs = unless (eqb (numberAt vs 2) 65535) (Links.names (record { 0 = numberAt vs 2 }))
+linkBy Threshold vs = Links.names (record { 0 = numberAt vs 2 })
+linkBy Event vs = Links.none
+linkBy PingU vs = Links.none
+linkBy PingC vs = Links.none
+linkBy RunStart vs = Links.none
+linkBy RunEnd vs = Links.none
+linkBy FileEnd vs = Links.none
+linkBy Index vs = Links.none
+linkBy Unlisted vs = Links.none
+
+-- the classes are those of the type code, listed or not
+abbrev pub classed : ℕ → Bool → Bool → Link → Digest
+classed k signs ends l =
+    record {
+      signs = signs;
+      ends = ends;
+      position = inClass Types.position k;
+      sounder = inClass Types.sounder k;
+      channel = inClass Types.channel k;
+      ping = inClass Types.ping k;
+      link = l;
+    }
+
+-- a ping names the channel of its header, behind time fraction and time
+unfoldable pub digestOf : Item → Digest
+digestOf (plain k vs) = classed k (eqb k 65535) (eqb k 65534) (linkBy (kindOf k) vs)
+digestOf (ping p) = record { signs = false; ends = false; position = false; sounder = false; channel = false; ping = true; link = Links.names (record { 0 = numberAt (p .head) 2 }) }
+digestOf (raw k d) = classed k false false Links.none
+
+abbrev pub digestItem : Option Item → Digest
+digestItem none = nothing
+digestItem (some i) = digestOf i
+
+abbrev pub digest : Bool → Tup → Digest
+digest o t = digestItem (itemOf o t)

@@ -1,0 +1,4 @@
+pub mod Words
+pub mod Runs
+pub mod Values
+pub mod Rising

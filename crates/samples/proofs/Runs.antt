@@ -1,0 +1,200 @@
+-- Laws of runs and values, over the radix R. Assumes nothing.
+use mathlib.Core.Path.{_≡_, refl, sym, ap, _∙_}
+use mathlib.Core.Logic.{_↔_}
+use mathlib.Core.Bool.{Bool, true, false}
+use mathlib.Core.List.{List, [], _∷_, _++_, append-assoc, append-nil}
+use Prim.Native.Nat.{ℕ, zero, suc, _+_, _-_, _*_, _/_, _%_, _≤_, _<_}
+use native.Mathlib.Nat.{div-add-mod', mod-lt, add-assoc, add-zero, zero-add, add-sub-cancel-left, le-trans, le-of-mul-le-mul-right, lt-of-mul-lt-mul-right}
+use native.Mathlib.Numerals.{add-one}
+use native.Mathlib.Omega.{arith}
+use lib.Arith.{digits-div, digits-mod}
+use lib.ListN.{length, replicate, length-append, length-replicate}
+use borrow.Author.Tests.{eq-eqb}
+use Rattle.samples.specs.Words.{Sample}
+use Rattle.samples.specs.Runs.{isRun, runLength, decodeFrom, decode, lastRun, gap, encodeFrom, fewest}
+
+-- the quiet samples behind the last value, g of them being there already
+unfoldable pub tailFrom : ℕ → ℕ → List ℕ → ℕ
+tailFrom R g [] = g
+tailFrom R g (w ∷ ws) =
+    elim (isRun R w) [
+      | true ↦ tailFrom R (g + runLength R w) ws
+      | false ↦ tailFrom R 0 ws
+    ]
+
+-- samples that the words can hold: numbers from n on rise strictly, no value is a run's pattern
+abbrev pub Fit : ℕ → ℕ → List Sample → Type 0
+Fit R n [] = Unit {0}
+Fit R n (x ∷ s) = (n ≤ x .0) × (isRun R (x .1) ≡ false) × Fit R (x .0 + 1) s
+
+-- ---- laws
+-- a test, by its two outcomes
+pub by-bool : {C : Type 0} (b : Bool) → (b ≡ true → C) → (b ≡ false → C) → C
+by-bool true f g = f refl
+by-bool false f g = g refl
+
+module _ (R : ℕ) (pos : 0 < R) where
+  -- the two clauses of decode, by what the word is
+  pub decode-run : (n w : ℕ) (ws : List ℕ) → isRun R w ≡ true → decodeFrom R n (w ∷ ws) ≡ decodeFrom R (n + runLength R w) ws
+  unfolding decodeFrom
+  decode-run n w ws e = rw (e, decodeFrom)
+
+  pub decode-value : (n w : ℕ) (ws : List ℕ) → isRun R w ≡ false → decodeFrom R n (w ∷ ws) ≡ (n, w) ∷ decodeFrom R (n + 1) ws
+  unfolding decodeFrom
+  decode-value n w ws e = rw (e, decodeFrom)
+
+  pub tail-run : (g w : ℕ) (ws : List ℕ) → isRun R w ≡ true → tailFrom R g (w ∷ ws) ≡ tailFrom R (g + runLength R w) ws
+  unfolding tailFrom
+  tail-run g w ws e = rw (e, tailFrom)
+
+  pub tail-value : (g w : ℕ) (ws : List ℕ) → isRun R w ≡ false → tailFrom R g (w ∷ ws) ≡ tailFrom R 0 ws
+  unfolding tailFrom
+  tail-value g w ws e = rw (e, tailFrom)
+
+  run-is : (r : ℕ) → r < R → isRun R ((R - 1) * R + r) ≡ true
+  unfolding isRun
+  run-is r h = rw (digits-div (R - 1)) (eq-eqb (R - 1) (R - 1) refl)
+
+  run-long : (r : ℕ) → r < R → runLength R ((R - 1) * R + r) ≡ r + 1
+  unfolding runLength
+  run-long r h = rw (digits-mod (R - 1) {m = R} {r = r} h)
+
+  -- whatever passes over a run by adding its length passes over a gap by adding the gap
+  module _ {A : Type 0} (F : ℕ → List ℕ → A) (step : (n w : ℕ) (ws : List ℕ) → isRun R w ≡ true → F n (w ∷ ws) ≡ F (n + runLength R w) ws) where
+    past-one : (n r : ℕ) (ws : List ℕ) → r < R → F n (((R - 1) * R + r) ∷ ws) ≡ F (n + (r + 1)) ws
+    past-one n r ws h = step n ((R - 1) * R + r) ws (run-is r h) ∙ ap (λ (k : ℕ). F (n + k) ws) (run-long r h)
+
+    past-full : (q n : ℕ) (ws : List ℕ) → F n (replicate q ((R - 1) * R + (R - 1)) ++ ws) ≡ F (n + q * R) ws
+    past-full zero n ws = ap (λ (k : ℕ). F k ws) (omega arith)
+    past-full (suc q) n ws =
+        past-one n (R - 1) (replicate q ((R - 1) * R + (R - 1)) ++ ws) (omega arith)
+        ∙ past-full q (n + (R - 1 + 1)) ws
+        ∙ ap (λ (k : ℕ). F k ws) (omega arith)
+
+    past-last : (r n : ℕ) (ws : List ℕ) → r < R → F n (lastRun R r ++ ws) ≡ F (n + r) ws
+    unfolding lastRun
+    past-last zero n ws h = ap (λ (k : ℕ). F k ws) (omega arith)
+    past-last (suc r) n ws h = past-one n r ws (omega arith) ∙ ap (λ (k : ℕ). F (n + k) ws) (add-one r)
+
+    past-gap : (g n : ℕ) (ws : List ℕ) → F n (gap R g ++ ws) ≡ F (n + g) ws
+    unfolding gap
+    past-gap g n ws =
+        rw append-assoc
+        (past-full (g / R) n (lastRun R (g % R) ++ ws)
+        ∙ past-last (g % R) (n + g / R * R) ws (mod-lt g pos)
+        ∙ ap (λ (k : ℕ). F k ws) (omega (arith, div-add-mod' g R)))
+
+    past-gap-only : (g n : ℕ) → F n (gap R g) ≡ F (n + g) []
+    past-gap-only g n = ap (F n) (sym (append-nil (gap R g))) ∙ past-gap g n []
+
+  -- what the fewest words say is what they were made from: the samples
+  pub decode-encode : (s : List Sample) (n t : ℕ) → Fit R n s → decodeFrom R n (encodeFrom R n s t) ≡ s
+  unfolding encodeFrom decodeFrom
+  decode-encode [] n t f = past-gap-only (decodeFrom R) decode-run t n
+  decode-encode (x ∷ s) n t f =
+      let rest = x .1 ∷ encodeFrom R (x .0 + 1) s t in
+      past-gap (decodeFrom R) decode-run (x .0 - n) n rest
+      ∙ ap (λ (k : ℕ). decodeFrom R k rest) (omega arith)
+      ∙ decode-value (x .0) (x .1) (encodeFrom R (x .0 + 1) s t) (f .1)
+      ∙ ap (λ (l : List Sample). x ∷ l) (decode-encode s (x .0 + 1) t (f .2))
+
+  -- and the quiet samples behind them
+  pub tail-encode : (s : List Sample) (n t : ℕ) → Fit R n s → tailFrom R 0 (encodeFrom R n s t) ≡ t
+  unfolding encodeFrom tailFrom
+  tail-encode [] n t f = past-gap-only (tailFrom R) tail-run t 0 ∙ omega arith
+  tail-encode (x ∷ s) n t f =
+      past-gap (tailFrom R) tail-run (x .0 - n) 0 (x .1 ∷ encodeFrom R (x .0 + 1) s t)
+      ∙ tail-value (0 + (x .0 - n)) (x .1) (encodeFrom R (x .0 + 1) s t) (f .1)
+      ∙ tail-encode s (x .0 + 1) t (f .2)
+
+  -- what words say rises and holds no run's pattern
+  fit-less : (s : List Sample) (m n : ℕ) → n ≤ m → Fit R m s → Fit R n s
+  fit-less [] m n h f = f
+  fit-less (x ∷ s) m n h f = (omega arith, f .1, f .2)
+
+  pub decode-fit : (ws : List ℕ) (n : ℕ) → Fit R n (decodeFrom R n ws)
+  unfolding decodeFrom
+  decode-fit [] n = tt
+  decode-fit (w ∷ ws) n =
+      by-bool (isRun R w)
+      (λ e. rw (decode-run n w ws e) (fit-less (decodeFrom R (n + runLength R w) ws) (n + runLength R w) n (omega arith) (decode-fit ws (n + runLength R w))))
+      (λ e. rw (decode-value n w ws e) (omega arith, e, decode-fit ws (n + 1)))
+
+  -- ---- the fewest words
+  gap-words : (g : ℕ) → length (gap R g) ≡ g / R + length (lastRun R (g % R))
+  unfolding gap
+  gap-words g = simp (length-append, length-replicate)
+
+  -- a gap's words cover it, and no smaller number of runs does
+  last-covers : (q r g : ℕ) → q * R + r ≡ g → r < R → g ≤ (q + length (lastRun R r)) * R
+  unfolding lastRun
+  last-covers q zero g e h = omega arith
+  last-covers q (suc r) g e h = omega arith
+
+  last-least : (q r g c : ℕ) → q * R + r ≡ g → g ≤ c * R → q + length (lastRun R r) ≤ c
+  unfolding lastRun
+  last-least q zero g c e h = let k : q ≤ c = le-of-mul-le-mul-right {k = R} (omega arith) pos in omega arith
+  last-least q (suc r) g c e h = let k : q < c = lt-of-mul-lt-mul-right R (omega arith) in omega arith
+
+  gap-covers : (g : ℕ) → g ≤ length (gap R g) * R
+  gap-covers g = rw (gap-words g) (last-covers (g / R) (g % R) g (div-add-mod' g R) (mod-lt g pos))
+
+  gap-least : (g c : ℕ) → g ≤ c * R → length (gap R g) ≤ c
+  gap-least g c h = rw (gap-words g) (last-least (g / R) (g % R) g c (div-add-mod' g R) h)
+
+  pub run-short : (w : ℕ) → runLength R w ≤ R
+  unfolding runLength
+  run-short w = omega (arith, mod-lt w pos)
+
+  -- one more run adds at most one word to a gap
+  gap-more : (g w : ℕ) → length (gap R (g + runLength R w)) ≤ length (gap R g) + 1
+  gap-more g w = gap-least (g + runLength R w) (length (gap R g) + 1) (omega (arith, gap-covers g, run-short w))
+
+  gap-none : length (gap R 0) ≡ 0
+  gap-none = omega (arith, gap-least 0 0 (omega arith))
+
+  pub encode-length : (n : ℕ) (x : Sample) (s : List Sample) (t : ℕ) → length (encodeFrom R n (x ∷ s) t) ≡ length (gap R (x .0 - n)) + suc (length (encodeFrom R (x .0 + 1) s t))
+  unfolding encodeFrom
+  encode-length n x s t = length-append (gap R (x .0 - n)) (x .1 ∷ encodeFrom R (x .0 + 1) s t)
+
+  -- words that stand behind g quiet samples since n: encoding what they say takes no more words than they and a gap of g
+  fewest-from : (ws : List ℕ) (n g : ℕ) → length (encodeFrom R n (decodeFrom R (n + g) ws) (tailFrom R g ws)) ≤ length (gap R g) + length ws
+  fewest-from [] n g = unfold encodeFrom decodeFrom tailFrom in omega arith
+  fewest-from (w ∷ ws) n g =
+      by-bool (isRun R w)
+      (λ e. rw (decode-run (n + g) w ws e, tail-run g w ws e, add-assoc n g (runLength R w)) (omega (arith, fewest-from ws n (g + runLength R w), gap-more g w)))
+      (λ e.
+      rw (decode-value (n + g) w ws e, tail-value g w ws e)
+      (rw (encode-length n (n + g, w), add-sub-cancel-left n g) (omega (arith, gap-none, rw add-zero at (fewest-from ws (n + g + 1) 0)))))
+
+  -- without the quiet samples behind the last value there are no more words
+  no-tail : (s : List Sample) (n t : ℕ) → length (encodeFrom R n s 0) ≤ length (encodeFrom R n s t)
+  unfolding encodeFrom
+  no-tail [] n t = omega (arith, gap-none)
+  no-tail (x ∷ s) n t = simp length-append (omega (arith, no-tail s (x .0 + 1) t))
+
+-- ---- a whole ping: samples from 0
+module _ (R : ℕ) (pos : 0 < R) where
+  -- the fewest words say what they were made from
+  pub there-back : (s : List Sample) → Fit R 0 s → decode R (fewest R s) ≡ s
+  there-back [] f = decode-run R pos 0 ((R - 1) * R) [] zero-run ∙ unfold decodeFrom in refl
+    where
+      zero-run : isRun R ((R - 1) * R) ≡ true
+      zero-run = ap (isRun R) (sym (add-zero ((R - 1) * R))) ∙ run-is R pos 0 pos
+  there-back (x ∷ s) f = decode-encode R pos (x ∷ s) 0 0 f
+
+  -- also of what any words say
+  pub again : (ws : List ℕ) → decode R (fewest R (decode R ws)) ≡ decode R ws
+  again ws = there-back (decode R ws) (decode-fit R pos ws 0)
+
+  -- words say the same exactly where their fewest words are the same
+  pub same : (us ws : List ℕ) → (decode R us ≡ decode R ws) ↔ (fewest R (decode R us) ≡ fewest R (decode R ws))
+  same us ws = (λ e. ap (fewest R) e, λ e. sym (again us) ∙ ap (decode R) e ∙ again ws)
+
+  -- no words that say s are fewer; of a ping without samples, none that are at least one
+  pub fewest-words : (ws : List ℕ) (s : List Sample) → decode R ws ≡ s → 1 ≤ length ws → length (fewest R s) ≤ length ws
+  fewest-words ws [] e h = h
+  fewest-words ws (x ∷ s) e h =
+      let a = no-tail R pos (x ∷ s) 0 (tailFrom R 0 ws) in
+      let b : length (encodeFrom R 0 (decode R ws) (tailFrom R 0 ws)) ≤ length ws = omega (arith, gap-none R pos, rw (zero-add 0) at (fewest-from R pos ws 0 0)) in
+      le-trans a (rw e at b)

@@ -1,0 +1,45 @@
+-- Laws of the values among words: how many, the first outside the limits, and how far their numbers go. Assumes nothing.
+use mathlib.Core.Path.{_≡_, refl, sym, ap, _∙_}
+use mathlib.Core.Bool.{Bool, true, false}
+use mathlib.Core.List.{List, [], _∷_}
+use Prim.Native.Nat.{ℕ, _+_, _*_, _≤_, _<_}
+use native.Mathlib.Omega.{arith}
+use lib.ListN.{length}
+use Rattle.samples.specs.Words.{Sample}
+use Rattle.samples.specs.Runs.{isRun, runLength, decodeFrom, isBad, values, firstBad}
+use Rattle.samples.proofs.Words.{Below, Within}
+use Rattle.samples.proofs.Runs.{decode-run, decode-value, run-short, by-bool}
+
+module _ (R : ℕ) where
+  pub values-run : (w : ℕ) (ws : List ℕ) → isRun R w ≡ true → values R (w ∷ ws) ≡ values R ws
+  unfolding values
+  values-run w ws e = rw (e, values)
+
+  pub values-value : (w : ℕ) (ws : List ℕ) → isRun R w ≡ false → values R (w ∷ ws) ≡ values R ws + 1
+  unfolding values
+  values-value w ws e = rw (e, values)
+
+  pub bad-here : (w : ℕ) (ws : List ℕ) → isBad R w ≡ true → firstBad R (w ∷ ws) ≡ 0
+  unfolding firstBad
+  bad-here w ws e = rw (e, firstBad)
+
+  pub bad-later : (w : ℕ) (ws : List ℕ) → isBad R w ≡ false → firstBad R (w ∷ ws) ≡ firstBad R ws + 1
+  unfolding firstBad
+  bad-later w ws e = rw (e, firstBad)
+
+module _ (R : ℕ) (pos : 0 < R) where
+  -- as many samples as values, wherever the words start
+  pub length-decode : (ws : List ℕ) (n : ℕ) → length (decodeFrom R n ws) ≡ values R ws
+  length-decode [] n = unfold decodeFrom values in refl
+  length-decode (w ∷ ws) n =
+      by-bool (isRun R w)
+      (λ e. rw (decode-run R pos n w ws e, values-run R w ws e) (length-decode ws (n + runLength R w)))
+      (λ e. rw (decode-value R pos n w ws e, values-value R w ws e) (omega (arith, length-decode ws (n + 1))))
+
+  -- numbers stay below the words times R: 65527 words of 65536 stay below 2 ^ 32
+  pub decode-within : (b : ℕ) (ws : List ℕ) (n : ℕ) → Below b ws → n + R * length ws ≤ b → Within b (decodeFrom R n ws)
+  decode-within b [] n f h = unfold decodeFrom in tt
+  decode-within b (w ∷ ws) n f h =
+      by-bool (isRun R w)
+      (λ e. rw (decode-run R pos n w ws e) (decode-within b ws (n + runLength R w) (f .1) (omega (arith, run-short R pos w))))
+      (λ e. rw (decode-value R pos n w ws e) (omega arith, f .0, decode-within b ws (n + 1) (f .1) (omega arith)))

@@ -1,0 +1,35 @@
+-- The rules on a ping's samples. Assumes nothing.
+use Prim.Native.Nat.{ℕ, _+_}
+use mathlib.Core.Bool.{Bool, true, false, not, _||_}
+use mathlib.Core.List.{List, [], _∷_}
+use lib.Dec.{eqb, leb, ltb}
+use lib.ListN.{length}
+use Rattle.rules.specs.Rules.{Rule, _⇒_}
+use Rattle.samples.specs.Words.{Sample}
+use Rattle.samples.specs.Runs.{radix, isRun, isBad, values, firstBad}
+
+-- a ping holds at most 32,764 values
+abbrev pub most : ℕ
+most = 32764
+
+-- the place in the list of the first number below n or not above the one before it; the list's length where all rise
+unfoldable pub firstDrop : ℕ → List Sample → ℕ
+firstDrop n [] = 0
+firstDrop n (x ∷ s) = elim (leb n (x .0)) [ true ↦ firstDrop (x .0 + 1) s + 1 | false ↦ 0 ]
+
+-- the place in the list of the first value that has no C-32 word; the list's length where all have one
+unfoldable pub firstWordless : List Sample → ℕ
+firstWordless [] = 0
+firstWordless (x ∷ s) = elim (isRun radix (x .1) || isBad radix (x .1)) [ true ↦ 0 | false ↦ firstWordless s + 1 ]
+
+-- U-32: numbers strictly rise
+abbrev pub pairRules : List Sample → List (Rule ℕ)
+pairRules s = (ltb (firstDrop 0 s) (length s) ⇒ 10) ∷ []
+
+-- C-32: at most 32,764 values; each within its limits; the number of samples equals the number of value words
+abbrev pub wordRules : ℕ → List ℕ → List (Rule ℕ)
+wordRules count ws =
+    (ltb most (values radix ws) ⇒ 11)
+    ∷ (ltb (firstBad radix ws) (length ws) ⇒ 10)
+    ∷ (not (eqb count (values radix ws)) ⇒ 10)
+    ∷ []

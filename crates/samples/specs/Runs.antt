@@ -1,0 +1,68 @@
+-- Runs and values of a compressed ping, over the radix R of a word's halves: 65,536 for C-32. A word is a number below R * R.
+-- Assumes nothing.
+use Prim.Native.Nat.{ℕ, zero, suc, _+_, _-_, _*_, _/_, _%_}
+use mathlib.Core.Bool.{Bool, true, false, _&&_}
+use mathlib.Core.List.{List, [], _∷_, _++_}
+use lib.Dec.{eqb, leb, ltb}
+use lib.ListN.{length, replicate}
+use Rattle.samples.specs.Words.{Sample}
+
+-- the radix of C-32: sixteen leading ones make a word a run
+abbrev pub radix : ℕ
+radix = 65536
+
+-- a word is a run where its upper half is all ones
+unfoldable pub isRun : ℕ → ℕ → Bool
+isRun R w = eqb (w / R) (R - 1)
+
+-- a run's samples below threshold: the lower half + 1
+unfoldable pub runLength : ℕ → ℕ → ℕ
+runLength R w = w % R + 1
+
+-- the samples of words, the first word standing at sample n
+unfoldable pub decodeFrom : ℕ → ℕ → List ℕ → List Sample
+decodeFrom R n [] = []
+decodeFrom R n (w ∷ ws) =
+    elim (isRun R w) [
+      | true ↦ decodeFrom R (n + runLength R w) ws
+      | false ↦ (n, w) ∷ decodeFrom R (n + 1) ws
+    ]
+
+-- sample numbers start at 0
+abbrev pub decode : ℕ → List ℕ → List Sample
+decode R ws = decodeFrom R 0 ws
+
+-- ---- values
+-- a value outside the limits: for C-32 the patterns 7FFF0000 to 8000FFFF
+unfoldable pub isBad : ℕ → ℕ → Bool
+isBad R w = leb (R * (R / 2 - 1)) w && ltb w (R * (R / 2) + R)
+
+-- the number of value words, good or bad
+unfoldable pub values : ℕ → List ℕ → ℕ
+values R [] = 0
+values R (w ∷ ws) = elim (isRun R w) [ true ↦ values R ws | false ↦ values R ws + 1 ]
+
+-- the place among the words of the first bad one; as many as there are words where none is
+unfoldable pub firstBad : ℕ → List ℕ → ℕ
+firstBad R [] = 0
+firstBad R (w ∷ ws) = elim (isBad R w) [ true ↦ 0 | false ↦ firstBad R ws + 1 ]
+
+-- ---- the fewest words
+-- the last run of a gap: none, or the word of a run of r + 1
+unfoldable pub lastRun : ℕ → ℕ → List ℕ
+lastRun R zero = []
+lastRun R (suc r) = ((R - 1) * R + r) ∷ []
+
+-- a gap of g samples: full runs first, the remainder last
+unfoldable pub gap : ℕ → ℕ → List ℕ
+gap R g = replicate (g / R) ((R - 1) * R + (R - 1)) ++ lastRun R (g % R)
+
+-- the words of samples, the next of which is sample n, with t samples below threshold behind the last value
+unfoldable pub encodeFrom : ℕ → ℕ → List Sample → ℕ → List ℕ
+encodeFrom R n [] t = gap R t
+encodeFrom R n (x ∷ s) t = gap R (x .0 - n) ++ (x .1 ∷ encodeFrom R (x .0 + 1) s t)
+
+-- a ping without samples gets the one word of a run of 1; any other no run after the last value
+abbrev pub fewest : ℕ → List Sample → List ℕ
+fewest R [] = ((R - 1) * R) ∷ []
+fewest R (x ∷ s) = encodeFrom R 0 (x ∷ s) 0

@@ -1,0 +1,57 @@
+-- The worked examples hold, and the small whole file is accepted and has one normal form: computed from the definitions.
+-- Assumes nothing.
+use mathlib.Core.Path.{_≡_, refl}
+use mathlib.Core.Bool.{true}
+use mathlib.Core.List.{List, [], _∷_, map}
+use Prim.Native.Nat.{ℕ}
+use Prim.Native.String.{String}
+use lib.Dec.{eqb}
+use Rattle.layout.specs.declared.Answer.{Answer}
+use Rattle.layout.specs.declared.Answer.the-variants.{Accepted}
+use Rattle.layout.specs.Text.{ascii}
+use Rattle.layout.specs.Types.{classes, inClass, kindOf, lineOf}
+use Rattle.frame.specs.Frames.{allowed, frame, sizeAt, kindAt, backAt, framing}
+use Rattle.frame.specs.Files.{mark, isMsb, marked}
+use Rattle.frame.specs.Steps.{stepForward}
+use Rattle.frame.specs.Tuples.{tuplesFrom, tuplesOf}
+use Rattle.samples.specs.Words.{words, allWords, unwords, pairUp, unpair}
+use Rattle.samples.specs.Runs.{isRun, runLength, decodeFrom, isBad, values, firstBad}
+use Rattle.samples.specs.Judging.{firstDrop}
+use Rattle.links.specs.Links.{has, naming, firstWrong}
+use Rattle.content.specs.Pings.{wordsIn, attributeIn, countIn, contentU, contentC, dataU, dataC}
+use Rattle.content.specs.Items.{itemOf, digestOf}
+use Rattle.content.specs.Forms.{formOf}
+use Rattle.intake.specs.Check.{ending, turn, checkFrom, checkFile}
+use Rattle.normal.specs.Contents.{items, contentOf, normalTuples, formed, normalOf}
+use Rattle.normal.specs.Normaliser.{firstUnlisted, normalAnswer}
+use Rattle.hexlines.specs.Lines.{linesOf, allDigits, bytesIn, Input, inputOf, inputFrom, hex, decimals}
+use Rattle.hexlines.specs.Programs.{normalFile, normalTuple}
+use Rattle.worked.specs.Examples.{text, holds, allHold, table}
+use Rattle.worked.specs.Cruise.{lsb, lsbOtherCut, msb, msbOtherCut, normal}
+
+-- every line of the table holds
+pub worked : allHold table ≡ true
+unfolding table allHold holds normalFile normalTuple linesOf allDigits bytesIn inputFrom hex decimals normalAnswer firstUnlisted items contentOf normalTuples formed normalOf ending turn checkFrom checkFile formOf itemOf digestOf wordsIn attributeIn countIn contentU contentC dataU dataC has naming firstWrong words allWords unwords pairUp unpair isRun runLength decodeFrom isBad values firstBad firstDrop allowed frame sizeAt kindAt backAt framing mark isMsb marked stepForward tuplesFrom tuplesOf classes inClass kindOf lineOf
+worked = refl
+
+-- ---- the small whole file
+-- the bytes of lines
+abbrev bytesBy : Input → List ℕ
+bytesBy (Input.bad n) = []
+bytesBy (Input.bytes bs) = bs
+
+abbrev fileOf : List String → List ℕ
+fileOf ls = bytesBy (inputOf (text ls))
+
+abbrev variants : List (List String)
+variants = lsb ∷ lsbOtherCut ∷ msb ∷ msbOtherCut ∷ []
+
+-- each variant is accepted, with its mark and six tuples
+pub accepted : map (λ (v : List String). checkFile (fileOf v)) variants ≡ Accepted 6 0 ∷ Accepted 6 0 ∷ Accepted 6 0 ∷ Accepted 6 0 ∷ []
+unfolding lsb lsbOtherCut msb msbOtherCut normalFile normalTuple linesOf allDigits bytesIn inputFrom hex decimals normalAnswer firstUnlisted items contentOf normalTuples formed normalOf ending turn checkFrom checkFile formOf itemOf digestOf wordsIn attributeIn countIn contentU contentC dataU dataC has naming firstWrong words allWords unwords pairUp unpair isRun runLength decodeFrom isBad values firstBad firstDrop allowed frame sizeAt kindAt backAt framing mark isMsb marked stepForward tuplesFrom tuplesOf classes inClass kindOf lineOf
+accepted = refl
+
+-- and printed as the one normal form, which is printed as itself
+pub one-form : map (λ (v : List String). normalFile (text v)) (normal ∷ variants) ≡ text normal ∷ text normal ∷ text normal ∷ text normal ∷ text normal ∷ []
+unfolding normal lsb lsbOtherCut msb msbOtherCut normalFile normalTuple linesOf allDigits bytesIn inputFrom hex decimals normalAnswer firstUnlisted items contentOf normalTuples formed normalOf ending turn checkFrom checkFile formOf itemOf digestOf wordsIn attributeIn countIn contentU contentC dataU dataC has naming firstWrong words allWords unwords pairUp unpair isRun runLength decodeFrom isBad values firstBad firstDrop allowed frame sizeAt kindAt backAt framing mark isMsb marked stepForward tuplesFrom tuplesOf classes inClass kindOf lineOf
+one-form = refl

@@ -1,0 +1,103 @@
+-- E1 to E8 of 01: one table, and a test of each of its lines. Assumes nothing.
+use Prim.Native.Nat.{ℕ}
+use Prim.Native.String.{String}
+use mathlib.Core.Bool.{Bool, true, false, not, _&&_}
+use mathlib.Core.List.{List, [], _∷_, _++_}
+use lib.Dec.{eqb}
+use lib.IntN.{ℤ, pos, negsuc}
+use Rattle.order.specs.Order.{signedOf}
+use Rattle.layout.specs.Text.{ascii}
+use Rattle.frame.specs.declared.Step.{Step}
+use Rattle.frame.specs.declared.Step.the-variants.{Tuple, End, Refused}
+use Rattle.frame.specs.Steps.{stepForward}
+use Rattle.samples.specs.Runs.{radix, isRun, runLength}
+use Rattle.hexlines.specs.Lines.{line, bytesIn}
+use Rattle.hexlines.specs.Programs.{normalFile, normalTuple}
+
+-- lines of text, each with its line feed
+abbrev pub text : List String → List ℕ
+text [] = []
+text (l ∷ ls) = line (ascii l) ++ text ls
+
+-- what an example says
+pub data Example : Type 0 where
+  fileProgram : List String → List String → Example  -- program one prints these lines for those
+  tupleProgram : List String → List String → Example  -- program two does
+  run : ℕ → ℕ → Example  -- a word is a run of so many
+  value : ℕ → ℤ → Example  -- a word is this value
+  signed : ℕ → ℕ → ℤ → Example  -- a signed field of so many bytes, by its pattern, is this number
+  framed : String → Example  -- the tuple behind the mark is found
+  unframed : String → ℕ → Example  -- it is refused with this code
+
+abbrev pub same : List ℕ → List ℕ → Bool
+same [] [] = true
+same [] (y ∷ ys) = false
+same (x ∷ xs) [] = false
+same (x ∷ xs) (y ∷ ys) = eqb x y && same xs ys
+
+abbrev pub sameInt : ℤ → ℤ → Bool
+sameInt (pos m) (pos n) = eqb m n
+sameInt (pos m) (negsuc n) = false
+sameInt (negsuc m) (pos n) = false
+sameInt (negsuc m) (negsuc n) = eqb m n
+
+-- a step's code, 0 for a tuple
+abbrev pub codeOf : Step → ℕ
+codeOf (Tuple p n k w) = 0
+codeOf End = 0
+codeOf (Refused c p) = c
+
+abbrev pub stepCode : String → ℕ
+stepCode s = codeOf (stepForward (bytesIn (ascii s)) 4)
+
+-- the example holds
+unfoldable pub holds : Example → Bool
+holds (fileProgram is os) = same (normalFile (text is)) (text os)
+holds (tupleProgram is os) = same (normalTuple (text is)) (text os)
+holds (run w n) = isRun radix w && eqb (runLength radix w) n
+holds (value w z) = not (isRun radix w) && sameInt (signedOf 4 w) z
+holds (signed w n z) = sameInt (signedOf w n) z
+holds (framed s) = eqb (stepCode s) 0
+holds (unframed s c) = eqb (stepCode s) c
+
+unfoldable pub allHold : List Example → Bool
+allHold [] = true
+allHold (e ∷ es) = holds e && allHold es
+
+-- one table holds these
+unfoldable pub table : List Example
+table =
+    -- E1
+    fileProgram ("ac000000" ∷ "0e000000ffffacac64006400acac01df0000000018000000" ∷ []) ("refused 4 28" ∷ [])
+    -- E2
+    ∷ fileProgram ("ac000000" ∷ []) ("refused 4 4" ∷ [])
+    ∷ fileProgram [] ("refused 2 0" ∷ [])
+    -- E3, heading -905
+    ∷ tupleProgram
+    ("000000ac" ∷ "00000012001e13880000003c0001fc7714180000000000000000001c" ∷ [])
+    ("ac000000" ∷ "120000001e0088133c000000010077fc18140000000000001c000000" ∷ [])
+    ∷ signed 2 0xfc77 (negsuc 904)
+    -- E4, samples (2, 100), (3, -70000)
+    ∷ tupleProgram
+    ("ac000000" ∷ "260000001a2700003c0000000100000001000000ffffff7f020000000100ffff6400000090eefeff0000000030000000" ∷ [])
+    ("ac000000" ∷ "26000000102700003c0000000100000001000000ffffff7f02000000640000000300000090eefeff0000000030000000" ∷ [])
+    ∷ value 0xfffeee90 (negsuc 69999)
+    -- E5
+    ∷ run 0xffff0000 1
+    ∷ run 0xffffffff 65536
+    -- E6
+    ∷ value 0xfffeffff (negsuc 65536)
+    -- E7: 7FFEFFFF and 80010000 are taken, 7FFF0000 and 8000FFFF give 10
+    ∷ tupleProgram
+    ("ac000000" ∷ "1e0000001a2700003c0000000100000001000000ffffff7f01000000fffffe7f0000000028000000" ∷ [])
+    ("ac000000" ∷ "1e000000102700003c0000000100000001000000ffffff7f00000000fffffe7f0000000028000000" ∷ [])
+    ∷ tupleProgram
+    ("ac000000" ∷ "1e0000001a2700003c0000000100000001000000ffffff7f01000000000001800000000028000000" ∷ [])
+    ("ac000000" ∷ "1e000000102700003c0000000100000001000000ffffff7f00000000000001800000000028000000" ∷ [])
+    ∷ tupleProgram ("ac000000" ∷ "1e0000001a2700003c0000000100000001000000ffffff7f010000000000ff7f0000000028000000" ∷ []) ("refused 10 4" ∷ [])
+    ∷ tupleProgram ("ac000000" ∷ "1e0000001a2700003c0000000100000001000000ffffff7f01000000ffff00800000000028000000" ∷ []) ("refused 10 4" ∷ [])
+    -- E8: with bytes enough left, length 16 is allowed, 14 and 12 give 5
+    ∷ framed "ac00000006000000dcff61626364656610000000"
+    ∷ unframed "ac00000004000000dcff616263640e0000000000000000" 5
+    ∷ unframed "ac00000002000000dcff61620c000000000000000000" 5
+    ∷ []
