@@ -2,3 +2,4 @@ pub mod Fine
 pub mod Plain
 pub mod Pings
 pub mod Kept
+pub mod Places

@@ -1,6 +1,7 @@
 // The listed types as constant tables: their codes, classes, lengths and rows. The three kinds of identifier. What is said of a
 // tuple and of a call.
 pub mod codes;
+pub mod types;
 
 ghost use mathlib.Core.Path.{_≡_};
 ghost use Prim.Native.Nat.{_<_};
@@ -48,6 +49,9 @@ pub enum Kind {
     Index,
     Unlisted,
 }
+
+// The signature's identifier.
+pub const IDENTIFIER: u16 = 44204;
 
 // The listed types, and the longest of their rows.
 pub const LISTED: usize = 13;
@@ -97,6 +101,20 @@ const ROWS: [[u8; ROW]; LISTED] = [
     *b"242........................",
 ];
 
+// A fault at a tuple's first byte.
+pub fn fault(code: u8) -> Verdict
+    ensures { λ r. ⌜ r ≡ Verdict.Fault code 0 ⌝ }
+{
+    Verdict::Fault { code, offset: 0 }
+}
+
+// A refusal.
+pub fn refuse(code: u8, place: usize) -> Answer
+    ensures { λ r. ⌜ r ≡ Answer.Refused code place ⌝ }
+{
+    Answer::Refused { code, place }
+}
+
 // Whether a type code is of a class.
 pub fn in_class(class: usize, code: u16) -> bool
     requires { ⌜ class < 5 ⌝ }
@@ -117,19 +135,19 @@ pub fn kind_of(code: u16) -> Kind
         return Kind::Index;
     }
     match code {
-        65535 => Kind::Signature,
-        100 => Kind::Sounder,
-        1000 => Kind::Channel,
-        20 => Kind::Position,
-        30 => Kind::Navigation,
-        40 => Kind::Attitude,
-        10100 => Kind::Threshold,
-        10110 => Kind::Event,
-        10000 => Kind::PingU,
-        10010 => Kind::PingC,
-        65516 => Kind::RunStart,
-        65517 => Kind::RunEnd,
-        65534 => Kind::FileEnd,
+        types::SIGNATURE => Kind::Signature,
+        types::SOUNDER => Kind::Sounder,
+        types::CHANNEL => Kind::Channel,
+        types::POSITION => Kind::Position,
+        types::NAVIGATION => Kind::Navigation,
+        types::ATTITUDE => Kind::Attitude,
+        types::THRESHOLD => Kind::Threshold,
+        types::EVENT => Kind::Event,
+        types::PING_U => Kind::PingU,
+        types::PING_C => Kind::PingC,
+        types::RUN_START => Kind::RunStart,
+        types::RUN_END => Kind::RunEnd,
+        types::FILE_END => Kind::FileEnd,
         _ => Kind::Unlisted,
     }
 }

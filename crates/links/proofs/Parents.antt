@@ -36,7 +36,7 @@ module _ {A : Type 0} (key : A → ℕ) where
   Apart [] = Unit {0}
   Apart (a ∷ l) = (has key (key a) l ≡ false) × Apart l
 
-  has-in : (b : A) (l : List A) → In b l → has key (key b) l ≡ true
+  pub has-in : (b : A) (l : List A) → In b l → has key (key b) l ≡ true
   unfolding has
   has-in b (a ∷ l) first = rw (eq-eqb (key b) (key b) refl)
   has-in b (a ∷ l) (later i) = or-true (eqb (key b) (key a)) (has-in b l i)

@@ -5,7 +5,9 @@ use mathlib.Core.List.{List, [], _∷_}
 use lib.Dec.{eqb, leb, ltb}
 use lib.ListN.{length}
 use Rattle.rules.specs.Rules.{Rule, _⇒_}
-use Rattle.samples.specs.Words.{Sample}
+use Rattle.layout.specs.declared.Verdict.{Verdict}
+use Rattle.layout.specs.Answers.{judged}
+use Rattle.samples.specs.Words.{Sample, allWords, pairUp}
 use Rattle.samples.specs.Runs.{radix, isRun, isBad, values, firstBad}
 
 -- a ping holds at most 32,764 values
@@ -33,3 +35,10 @@ wordRules count ws =
     ∷ (ltb (firstBad radix ws) (length ws) ⇒ 10)
     ∷ (not (eqb count (values radix ws)) ⇒ 10)
     ∷ []
+
+-- ---- the verdict on the part of a file that a ping's samples fill
+unfoldable pub judgedPairs : Bool → List ℕ → Verdict
+judgedPairs o part = judged (pairRules (pairUp (allWords 4 o part)))
+
+unfoldable pub judgedWords : Bool → ℕ → List ℕ → Verdict
+judgedWords o count part = judged (wordRules count (allWords 4 o part))

@@ -8,10 +8,8 @@ ghost use Rattle.layout.specs.Fields.{size};
 ghost use Rattle.layout.specs.Codes.{fieldOf, fieldsOf};
 ghost use Rattle.turning.specs.Rows.{turned, codeWidth, codeTurned};
 
-// The characters of a remark, and the signature's identifier.
+// The characters of a remark.
 const REMARK: usize = 30;
-
-const IDENTIFIER: u16 = 44204;
 
 // Copies w bytes as they stand.
 pub fn copy(src: &[u8], at: usize, w: usize, out: &mut [u8], to: usize)
@@ -52,7 +50,7 @@ fn turn_field(src: &[u8], at: usize, msb: bool, code: u8, out: &mut [u8], to: us
             2
         }
         b'i' => {
-            order::store2(out, to, false, IDENTIFIER);
+            order::store2(out, to, false, layout::IDENTIFIER);
             2
         }
         _ => 0,

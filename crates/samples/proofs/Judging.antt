@@ -1,0 +1,91 @@
+-- What is left to judge: a loop's turn past a word or a pair, and its end. Assumes nothing.
+use mathlib.Core.Path.{_≡_, sym, ap, _∙_}
+use mathlib.Core.Bool.{Bool, true, false, not, _||_, or-assoc, or-false}
+use mathlib.Core.List.{List, [], _∷_}
+use Prim.Native.Nat.{ℕ, suc, _+_, _-_, _≤_, _<_}
+use native.Mathlib.Numerals.{add-one}
+use native.Mathlib.Omega.{arith}
+use mir.Val.{boolByte}
+use lib.Dec.{ltb, leb·suc-suc, lit<}
+use lib.ListN.{length}
+use borrow.Author.Tests.{lt-ltb, lt-leb}
+use Rattle.samples.specs.Words.{Sample, pairUp}
+use Rattle.samples.specs.Runs.{radix, isRun, isBad, values, firstBad}
+use Rattle.samples.specs.Judging.{firstDrop}
+use Rattle.samples.proofs.Words.{wordAt, wordsFrom, from-cons, from-end}
+use Rattle.samples.proofs.Runs.{by-bool}
+use Rattle.samples.proofs.Values.{values-run, values-value, bad-here, bad-later}
+use Rattle.samples.proofs.Rising.{drop-later, drop-here, pairs-next, pairs-end}
+
+-- ---- the tests of the rules
+-- some word is bad
+abbrev pub anyBad : ℕ → List ℕ → Bool
+anyBad R ws = ltb (firstBad R ws) (length ws)
+
+-- some number is below n or not above the one before it
+abbrev pub anyDrop : ℕ → List Sample → Bool
+anyDrop n s = ltb (firstDrop n s) (length s)
+
+-- a place in a list, and the same place behind one more element
+one-more : (a b n : ℕ) → b ≡ a + 1 → ltb b (suc n) ≡ ltb a n
+one-more a b n e = rw (e, add-one a) (leb·suc-suc (suc a) n)
+
+-- at most one value a word
+pub counts-one : (b : Bool) → boolByte b ≤ 1
+counts-one true = omega arith
+counts-one false = omega arith
+
+pub values-cons : (R w : ℕ) (ws : List ℕ) → values R (w ∷ ws) ≡ boolByte (not (isRun R w)) + values R ws
+values-cons R w ws =
+    by-bool (isRun R w) (λ e. rw (values-run R w ws e, e) (omega arith)) (λ e. rw (values-value R w ws e, e) (omega arith))
+
+pub bad-cons : (R w : ℕ) (ws : List ℕ) → anyBad R (w ∷ ws) ≡ (isBad R w || anyBad R ws)
+bad-cons R w ws =
+    by-bool (isBad R w)
+    (λ e. rw (bad-here R w ws e, e) (lt-ltb 0 (suc (length ws)) (omega arith)))
+    (λ e. rw e (one-more _ _ (length ws) (bad-later R w ws e)))
+
+pub drops-here : (n : ℕ) (x : Sample) (s : List Sample) → x .0 < n → anyDrop n (x ∷ s) ≡ true
+drops-here n x s h = rw (drop-here n x s (lt-leb n (x .0) h)) (lt-ltb 0 (suc (length s)) (omega arith))
+
+pub drops-later : (n : ℕ) (x : Sample) (s : List Sample) → n ≤ x .0 → anyDrop n (x ∷ s) ≡ anyDrop (x .0 + 1) s
+drops-later n x s h = one-more _ _ (length s) (drop-later n x s h)
+
+-- ---- words: the word w at p, and those from p + 4 on
+module _ (o : Bool) (part : List ℕ) (p w : ℕ) (h : 4 ≤ length part - p) (e : w ≡ wordAt 4 o part p) where
+  next : wordsFrom 4 o part p ≡ w ∷ wordsFrom 4 o part (p + 4)
+  next = rw e (from-cons 4 o part p (lit< tt) (omega arith))
+
+  pub values-turn : (n : ℕ) (run : Bool) → run ≡ isRun radix w
+      → n + boolByte (not run) + values radix (wordsFrom 4 o part (p + 4)) ≡ n + values radix (wordsFrom 4 o part p)
+  values-turn n run t = rw (next, values-cons, t) (omega arith)
+
+  pub bad-turn : (b bad : Bool) → bad ≡ isBad radix w
+      → ((b || bad) || anyBad radix (wordsFrom 4 o part (p + 4))) ≡ (b || anyBad radix (wordsFrom 4 o part p))
+  bad-turn b bad t = rw (t, next, bad-cons, or-assoc)
+
+-- no word is left: what the loop holds is what the rules ask for
+module _ (o : Bool) (part : List ℕ) (p : ℕ) (h : length part - p < 4) where
+  pub values-end : (n : ℕ) → n + values radix (wordsFrom 4 o part p) ≡ n
+  unfolding values
+  values-end n = rw (from-end 4 o part p (lit< tt) (omega arith)) (omega arith)
+
+  pub bad-end : (b : Bool) → (b || anyBad radix (wordsFrom 4 o part p)) ≡ b
+  unfolding firstBad
+  bad-end b = rw (from-end 4 o part p (lit< tt) (omega arith)) (or-false b)
+
+-- ---- pairs: the number x at p, where n is the least that may stand there, and the pairs from p + 8 on
+module _ (o : Bool) (part : List ℕ) (p n : ℕ) where
+  module _ (x : ℕ) (h : 8 ≤ length part - p) (e : x ≡ wordAt 4 o part p) where
+    next-pair : pairUp (wordsFrom 4 o part p) ≡ (x, wordAt 4 o part (p + 4)) ∷ pairUp (wordsFrom 4 o part (p + 8))
+    next-pair = pairs-next o part p (omega arith) ∙ ap (λ (y : ℕ). (y, wordAt 4 o part (p + 4)) ∷ pairUp (wordsFrom 4 o part (p + 8))) (sym e)
+
+    pub drop-found : x < n → anyDrop n (pairUp (wordsFrom 4 o part p)) ≡ true
+    drop-found l = ap (anyDrop n) next-pair ∙ drops-here n _ _ l
+
+    pub drop-turn : n ≤ x → anyDrop (x + 1) (pairUp (wordsFrom 4 o part (p + 8))) ≡ anyDrop n (pairUp (wordsFrom 4 o part p))
+    drop-turn l = sym (ap (anyDrop n) next-pair ∙ drops-later n _ _ l)
+
+  pub drop-end : length part - p < 8 → anyDrop n (pairUp (wordsFrom 4 o part p)) ≡ false
+  unfolding firstDrop
+  drop-end h = rw (pairs-end o part p (omega arith))
