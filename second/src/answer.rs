@@ -1,0 +1,39 @@
+//! Chapter "What intake says": the answer.
+
+/// A code, a place, a number of tuples and a length written.
+#[derive(Clone, Copy, PartialEq, Eq, Debug)]
+pub struct Answer {
+    pub code: u32,
+    pub place: u64,
+    pub tuples: u64,
+    pub length: u64,
+}
+
+impl Answer {
+    /// Acceptance: code 0 and place 0.
+    pub const fn accepted(tuples: u64, length: u64) -> Answer {
+        Answer {
+            code: 0,
+            place: 0,
+            tuples,
+            length,
+        }
+    }
+
+    /// A refusal: no tuples and no length.
+    pub const fn refused(code: u32, place: u64) -> Answer {
+        Answer {
+            code,
+            place,
+            tuples: 0,
+            length: 0,
+        }
+    }
+
+    pub const fn is_accepted(&self) -> bool {
+        self.code == 0
+    }
+}
+
+/// What a reader gives: the acceptance with what was read, or the refusal.
+pub type Reply<T> = Result<(Answer, T), Answer>;

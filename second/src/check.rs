@@ -1,0 +1,151 @@
+//! The whole check, in one pass.
+
+use crate::answer::Answer;
+use crate::layout::{self, class, Class};
+use crate::links::{DocumentId, Links, SoftwareChannel};
+use crate::order::{four_at, two_at, Order};
+use crate::records::judge_fields;
+use crate::samples::{judge_ping, SILENT_LENGTH};
+use crate::walk::{frame, mark, Tuple};
+
+/// What one pass over an accepted file finds out.
+pub(crate) struct Survey {
+    pub order: Order,
+    pub tuples: u64,
+    pub links: Links,
+    /// Length of the normal form, mark and all.
+    pub normal_length: u64,
+    /// Code 18: the first unlisted type outside the index class, in MSB order.
+    pub not_turnable: Option<u64>,
+}
+
+/// The classes seen so far that a file must have.
+#[derive(Default)]
+struct Seen {
+    position: bool,
+    sounder: bool,
+    channel: bool,
+    ping: bool,
+}
+
+impl Seen {
+    fn note(&mut self, class: Option<Class>) {
+        match class {
+            Some(Class::Position) => self.position = true,
+            Some(Class::Sounder) => self.sounder = true,
+            Some(Class::Channel) => self.channel = true,
+            Some(Class::Ping) => self.ping = true,
+            Some(Class::Index) | None => {}
+        }
+    }
+
+    fn all(&self) -> bool {
+        self.position && self.sounder && self.channel && self.ping
+    }
+}
+
+/// 12, 14 and 13 of one listed tuple of fit length.
+fn judge_links(links: &mut Links, tuple: &Tuple, bytes: &[u8], order: Order) -> Result<(), u32> {
+    let two = |at| two_at(order, bytes, at);
+    let four = |at| four_at(order, bytes, at);
+    match tuple.code {
+        layout::SOUNDER => links.declare_sounder(DocumentId(four(8)), two(6), tuple.place),
+        layout::CHANNEL => {
+            let (id, parent) = (SoftwareChannel(two(6)), DocumentId(four(8)));
+            links.declare_channel(id, parent, tuple.place)
+        }
+        layout::ATTITUDE if SoftwareChannel(two(12)) == SoftwareChannel::ALL => Ok(()),
+        layout::PING_U32 | layout::PING_C32 | layout::THRESHOLD | layout::ATTITUDE => {
+            if links.has_channel(SoftwareChannel(two(12))) {
+                Ok(())
+            } else {
+                Err(13)
+            }
+        }
+        _ => Ok(()),
+    }
+}
+
+/// Length of a tuple's normal form, 0 for the index class: 11 and 10 of a
+/// ping are judged on the way.
+pub(crate) fn normal_length(bytes: &[u8], code: u16, order: Order) -> Result<u64, u32> {
+    match code {
+        layout::PING_U32 | layout::PING_C32 => Ok(match judge_ping(bytes, code, order)? {
+            0 => SILENT_LENGTH,
+            values => 32 + 8 * values,
+        }),
+        _ if class(code) == Some(Class::Index) => Ok(0),
+        _ => Ok(bytes.len() as u64),
+    }
+}
+
+/// Whether code 18 bars a type: its bytes can't be turned.
+pub(crate) fn not_turnable(code: u16, order: Order) -> bool {
+    order == Order::Msb && !layout::is_listed(code) && class(code) != Some(Class::Index)
+}
+
+/// The one pass: the check's refusals, or what it found.
+pub(crate) fn survey(file: &[u8]) -> Result<Survey, Answer> {
+    let order = mark(file).map_err(|code| Answer::refused(code, 0))?;
+    let mut survey = Survey {
+        order,
+        tuples: 0,
+        links: Links::new(),
+        normal_length: 4,
+        not_turnable: None,
+    };
+    let mut seen = Seen::default();
+    let mut place = 4;
+    loop {
+        if place == file.len() {
+            return Err(Answer::refused(4, place as u64));
+        }
+        let tuple = survey
+            .take_tuple(file, place, &mut seen)
+            .map_err(|code| Answer::refused(code, place as u64))?;
+        place += tuple.length as usize;
+        if tuple.code == layout::END_OF_FILE {
+            break;
+        }
+    }
+    if place < file.len() {
+        return Err(Answer::refused(15, place as u64));
+    }
+    if !seen.all() {
+        return Err(Answer::refused(16, place as u64));
+    }
+    if let Some(sounder) = survey.links.wrong_count() {
+        return Err(Answer::refused(17, sounder));
+    }
+    Ok(survey)
+}
+
+impl Survey {
+    /// One tuple: 3, 5, 3, 6, 7, 9, 8, 12, 14, 13, 11, 10.
+    fn take_tuple(&mut self, file: &[u8], place: usize, seen: &mut Seen) -> Result<Tuple, u32> {
+        let order = self.order;
+        let tuple = frame(file, order, place)?;
+        let bytes = &file[place..place + tuple.length as usize];
+        let first = self.tuples == 0;
+        if first != (tuple.code == layout::SIGNATURE) {
+            return Err(7);
+        }
+        judge_fields(bytes, tuple.code, order)?;
+        judge_links(&mut self.links, &tuple, bytes, order)?;
+        self.normal_length += normal_length(bytes, tuple.code, order)?;
+        if self.not_turnable.is_none() && not_turnable(tuple.code, order) {
+            self.not_turnable = Some(tuple.place);
+        }
+        seen.note(class(tuple.code));
+        self.tuples += 1;
+        Ok(tuple)
+    }
+}
+
+/// Checks a whole file.
+pub fn check(file: &[u8]) -> Answer {
+    match survey(file) {
+        Ok(survey) => Answer::accepted(survey.tuples, 0),
+        Err(refusal) => refusal,
+    }
+}

@@ -1,0 +1,686 @@
+//! Damaged files: by rule, with the answer that the rule tells, and at random.
+
+use super::draft::{render, Body, Draft, Patch, Pen, Piece, Rendered, Style};
+use super::sound::*;
+use super::{Case, Rng};
+use crate::layout::{class, Class, LAYOUTS};
+use crate::order::Order;
+
+/// A kind of damage made by rule.
+#[derive(Clone, Copy, PartialEq, Eq, Debug)]
+pub enum Kind {
+    Mark,
+    Truncated,
+    NoEnd,
+    PassesEnd,
+    Size,
+    Backlink,
+    NoSignature,
+    SecondSignature,
+    Identifier,
+    UnfitSignature,
+    Unfit,
+    Pairs,
+    Word,
+    Count,
+    TooMany,
+    TwiceSounder,
+    TwiceChannel,
+    OrphanPing,
+    OrphanOther,
+    OrphanChannel,
+    ManySounders,
+    ManyChannels,
+    Behind,
+    NoClass,
+    WrongCount,
+}
+
+pub const FAULT_KINDS: [Kind; 25] = [
+    Kind::Mark,
+    Kind::Truncated,
+    Kind::NoEnd,
+    Kind::PassesEnd,
+    Kind::Size,
+    Kind::Backlink,
+    Kind::NoSignature,
+    Kind::SecondSignature,
+    Kind::Identifier,
+    Kind::UnfitSignature,
+    Kind::Unfit,
+    Kind::Pairs,
+    Kind::Word,
+    Kind::Count,
+    Kind::TooMany,
+    Kind::TwiceSounder,
+    Kind::TwiceChannel,
+    Kind::OrphanPing,
+    Kind::OrphanOther,
+    Kind::OrphanChannel,
+    Kind::ManySounders,
+    Kind::ManyChannels,
+    Kind::Behind,
+    Kind::NoClass,
+    Kind::WrongCount,
+];
+
+/// Kinds that one tuple carries, wherever it stands behind the signature.
+const LOCAL: [Kind; 16] = [
+    Kind::PassesEnd,
+    Kind::Size,
+    Kind::Backlink,
+    Kind::SecondSignature,
+    Kind::Unfit,
+    Kind::Pairs,
+    Kind::Word,
+    Kind::Count,
+    Kind::TooMany,
+    Kind::TwiceSounder,
+    Kind::TwiceChannel,
+    Kind::OrphanPing,
+    Kind::OrphanOther,
+    Kind::OrphanChannel,
+    Kind::ManySounders,
+    Kind::ManyChannels,
+];
+
+fn number(piece: &Piece) -> u32 {
+    match piece {
+        Piece::Two(number) => u32::from(*number),
+        Piece::Four(number) => *number,
+        _ => 0,
+    }
+}
+
+/// Documents and channels declared by some drafts.
+fn declared(drafts: &[Draft]) -> (Vec<u32>, Vec<u16>) {
+    let (mut documents, mut channels) = (Vec::new(), Vec::new());
+    for draft in drafts {
+        if let Body::Fields(pieces) = &draft.body {
+            match draft.code {
+                100 => documents.push(number(&pieces[1])),
+                1000 => channels.push(number(&pieces[0]) as u16),
+                _ => {}
+            }
+        }
+    }
+    (documents, channels)
+}
+
+fn unused_document(rng: &mut Rng, used: &[u32]) -> u32 {
+    loop {
+        let id = rng.four();
+        if !used.contains(&id) {
+            return id;
+        }
+    }
+}
+
+/// An undeclared channel; often one that is a transceiver number.
+fn unused_channel(rng: &mut Rng, used: &[u16]) -> u16 {
+    loop {
+        let id = if rng.chance(50) {
+            rng.pick(&SMALL_IDS)
+        } else {
+            rng.two()
+        };
+        if !used.contains(&id) {
+            return id;
+        }
+    }
+}
+
+/// A data size whose whole length isn't allowed.
+fn bad_size(rng: &mut Rng) -> u32 {
+    match rng.below(3) {
+        0 => rng.pick(&[0, 1, 2, 3, 4, 5, 7, 8, 9, 262_135, 262_138, 262_142]),
+        1 => rng.pick(&[u32::MAX, u32::MAX - 9, u32::MAX - 5, 1 << 31, 16_777_206]),
+        _ => 262_138 + rng.below(1 << 24) as u32,
+    }
+}
+
+/// An unfit but allowed length of a listed type that is no signature.
+fn unfit(rng: &mut Rng) -> Draft {
+    loop {
+        let layout = &LAYOUTS[1 + rng.index(LAYOUTS.len() - 1)];
+        let length = 16 + 4 * rng.below(28);
+        if !layout.fits(length) {
+            let data = rng.bytes(length as usize - 10);
+            return Draft::new(rng, layout.code, Body::Raw(data));
+        }
+    }
+}
+
+fn bad_pairs(rng: &mut Rng, channel: u16) -> Draft {
+    let before = rng.below(5) as u32;
+    let mut pairs: Vec<(u32, u32)> = (0..before).map(|n| (n * 3 + 1, rng.four())).collect();
+    let last = pairs.last().map_or(9, |pair| pair.0);
+    if pairs.is_empty() {
+        pairs.push((last, rng.four()));
+    }
+    let fallen = rng.pick(&[last, last - 1, 0]);
+    pairs.push((fallen, rng.four()));
+    for n in 0..rng.below(4) as u32 {
+        pairs.push((n * 2 + 100, rng.four()));
+    }
+    let header = ping_header(rng, channel);
+    Draft::new(rng, 10000, Body::Pairs { header, pairs })
+}
+
+fn some_words(rng: &mut Rng) -> Vec<u32> {
+    let count = 1 + rng.below(8);
+    (0..count)
+        .map(|_| {
+            rng.pick(&[
+                0,
+                5,
+                0xFFFF_0000,
+                0xFFFF_FFFF,
+                0xFFFE_FFFF,
+                0x7FFE_FFFF,
+                0x8001_0000,
+            ])
+        })
+        .collect()
+}
+
+/// Words that are no run, the count that a C-32 ping has to state.
+fn no_runs(words: &[u32]) -> u32 {
+    words.iter().filter(|word| **word >> 16 != 0xFFFF).count() as u32
+}
+
+fn bad_word(rng: &mut Rng, channel: u16) -> Draft {
+    let mut words = some_words(rng);
+    let at = rng.index(words.len());
+    words[at] = rng.pick(&[
+        0x7FFF_0000,
+        0x8000_FFFF,
+        0x7FFF_FFFF,
+        0x8000_0000,
+        0x7FFF_8000,
+    ]);
+    let count = no_runs(&words);
+    let header = ping_header(rng, channel);
+    let body = Body::Words {
+        header,
+        count,
+        words,
+    };
+    Draft::new(rng, 10010, body)
+}
+
+fn bad_count(rng: &mut Rng, channel: u16) -> Draft {
+    let words = some_words(rng);
+    let right = no_runs(&words);
+    let wrong = [
+        right + 1,
+        right.wrapping_sub(1),
+        right | 0x8000_0000,
+        right << 16 | 0x10000,
+    ];
+    let count = rng.pick(&wrong);
+    let header = ping_header(rng, channel);
+    let body = Body::Words {
+        header,
+        count,
+        words,
+    };
+    Draft::new(rng, 10010, body)
+}
+
+/// Over 32,764 words that are no run, good and bad, rightly counted or not.
+fn too_many(rng: &mut Rng, channel: u16) -> Draft {
+    let over = 32_765 + rng.below(3) as u32;
+    let mut words = vec![rng.pick(&[0, 7, 0x7FFF_0000]); over as usize];
+    for _ in 0..rng.below(3) {
+        words.insert(rng.index(words.len()), 0xFFFF_0003);
+    }
+    let count = rng.pick(&[over, over - 1, 32_764, 0]);
+    let header = ping_header(rng, channel);
+    let body = Body::Words {
+        header,
+        count,
+        words,
+    };
+    Draft::new(rng, 10010, body)
+}
+
+/// Gives the tuple at `at`, or new ones set in before it, a fault of a local
+/// kind. Tells where the offender now stands and its code; none where the
+/// tuples before don't allow the kind.
+fn spoil(drafts: &mut Vec<Draft>, at: usize, kind: Kind, rng: &mut Rng) -> Option<(usize, u32)> {
+    let (documents, channels) = declared(&drafts[..at]);
+    let channel_known = (!channels.is_empty()).then(|| channels[rng.index(channels.len())]);
+    let mut insert = |draft: Draft, code: u32| {
+        drafts.insert(at, draft);
+        Some((at, code))
+    };
+    match kind {
+        Kind::PassesEnd => {
+            drafts[at].patch = Some(Patch::Size(262_134));
+            Some((at, 3))
+        }
+        Kind::Size => {
+            drafts[at].patch = Some(Patch::Size(bad_size(rng)));
+            Some((at, 5))
+        }
+        Kind::Backlink => {
+            let wrong = rng.pick(&[0, 1, 12, u32::MAX, 262_148, 18]);
+            drafts[at].patch = Some(Patch::Backlink(wrong));
+            Some((at, 6))
+        }
+        Kind::SecondSignature => {
+            let mut second = signature(rng);
+            match rng.below(3) {
+                0 => second.pieces()[0] = Piece::Two(44201),
+                1 => second.body = Body::Raw(rng.bytes(18)),
+                _ => {}
+            }
+            insert(second, 7)
+        }
+        Kind::Unfit => insert(unfit(rng), 9),
+        Kind::Pairs => insert(bad_pairs(rng, channel_known?), 10),
+        Kind::Word => insert(bad_word(rng, channel_known?), 10),
+        Kind::Count => insert(bad_count(rng, channel_known?), 10),
+        Kind::TooMany => insert(too_many(rng, channel_known?), 11),
+        Kind::TwiceSounder if documents.is_empty() => None,
+        Kind::TwiceSounder => {
+            let id = rng.pick(&documents);
+            let count = rng.two();
+            insert(sounder(rng, count, id), 12)
+        }
+        Kind::TwiceChannel => {
+            let id = channel_known?;
+            let known = rng.pick(&documents);
+            let parent = rng.pick(&[known, u32::from(id), 77]);
+            insert(channel(rng, id, parent), 12)
+        }
+        Kind::OrphanPing => {
+            let id = unused_channel(rng, &channels);
+            let orphan = match rng.below(4) {
+                0 => bad_pairs(rng, id),
+                1 => bad_word(rng, id),
+                2 => ping(rng, id, vec![]),
+                _ => ping(rng, id, vec![(4, 4)]),
+            };
+            insert(orphan, 13)
+        }
+        Kind::OrphanOther => {
+            let mut used = channels.clone();
+            let all = rng.chance(50);
+            if !all {
+                used.push(65535);
+            }
+            let id = unused_channel(rng, &used);
+            // 65535 says "all" in an attitude alone
+            let orphan = if all {
+                threshold(rng, id)
+            } else {
+                attitude(rng, id)
+            };
+            insert(orphan, 13)
+        }
+        Kind::OrphanChannel if channels.len() >= 64 => None,
+        Kind::OrphanChannel => {
+            let id = unused_channel(rng, &channels);
+            let mut parent = u32::from(id);
+            if documents.contains(&parent) {
+                parent = unused_document(rng, &documents);
+            }
+            insert(channel(rng, id, parent), 13)
+        }
+        Kind::ManySounders => {
+            let mut used = documents.clone();
+            let more = 17 - documents.len();
+            for nth in 0..more {
+                let id = unused_document(rng, &used);
+                used.push(id);
+                let count = rng.two();
+                drafts.insert(at + nth, sounder(rng, count, id));
+            }
+            Some((at + more - 1, 14))
+        }
+        Kind::ManyChannels if documents.is_empty() => None,
+        Kind::ManyChannels => {
+            let mut used = channels.clone();
+            let more = 65 - channels.len();
+            for nth in 0..more {
+                let id = unused_channel(rng, &used);
+                used.push(id);
+                let last = nth + 1 == more;
+                let parent = if last && rng.chance(50) {
+                    unused_document(rng, &documents)
+                } else {
+                    rng.pick(&documents)
+                };
+                drafts.insert(at + nth, channel(rng, id, parent));
+            }
+            Some((at + more - 1, 14))
+        }
+        _ => None,
+    }
+}
+
+/// A place behind the signature.
+fn somewhere(drafts: &[Draft], rng: &mut Rng) -> usize {
+    1 + rng.index(drafts.len() - 1)
+}
+
+/// Names the answer, unless "passes the end" has found room after all.
+fn local_case(name: String, rendered: Rendered, offender: (usize, u32), kind: Kind) -> Case {
+    let place = rendered.places[offender.0];
+    let left = rendered.bytes.len() - place;
+    let expected =
+        (kind != Kind::PassesEnd || left < 262_144).then_some((offender.1, place as u64));
+    Case::new(name, rendered.bytes, expected)
+}
+
+/// Takes away all tuples of a class, and those that link to them.
+fn drop_class(drafts: &mut Vec<Draft>, absent: Class) {
+    let names_channel = |draft: &mut Draft| match draft.code {
+        10000 | 10010 | 10100 => true,
+        40 => draft.pieces()[2] != Piece::Two(65535),
+        _ => false,
+    };
+    drafts.retain_mut(|draft| {
+        let gone = class(draft.code) == Some(absent);
+        let orphan = match absent {
+            Class::Channel => names_channel(draft),
+            Class::Sounder => draft.code == 1000 || names_channel(draft),
+            _ => false,
+        };
+        !gone && !orphan
+    });
+    if absent == Class::Channel {
+        for draft in drafts.iter_mut().filter(|draft| draft.code == 100) {
+            draft.pieces()[0] = Piece::Two(0);
+        }
+    }
+}
+
+fn any_class(rng: &mut Rng) -> Class {
+    rng.pick(&[Class::Position, Class::Sounder, Class::Channel, Class::Ping])
+}
+
+/// Spoils the stated channel count of some sounders; tells the first.
+fn wrong_counts(drafts: &mut Vec<Draft>, rng: &mut Rng) -> usize {
+    if !drafts.iter().any(|draft| draft.code == 100) {
+        drafts.insert(1, sounder(rng, 1, 5));
+        return 1;
+    }
+    let sounders: Vec<usize> = (0..drafts.len())
+        .filter(|at| drafts[*at].code == 100)
+        .collect();
+    let first = rng.index(sounders.len());
+    for (nth, at) in sounders.iter().enumerate().skip(first) {
+        if nth == first || rng.chance(40) {
+            let right = number(&drafts[*at].pieces()[0]) as u16;
+            let wrong = rng.pick(&[right.wrapping_add(1), right.wrapping_sub(1), right ^ 0x100]);
+            drafts[*at].pieces()[0] = Piece::Two(wrong);
+        }
+    }
+    sounders[first]
+}
+
+fn some_bytes(rng: &mut Rng) -> Vec<u8> {
+    let count = rng.pick(&[1, 2, 3, 4, 15, 16, 40]);
+    rng.bytes(count)
+}
+
+fn bad_mark(rng: &mut Rng, mut bytes: Vec<u8>) -> Vec<u8> {
+    match rng.below(4) {
+        0 => bytes.truncate(rng.index(4)),
+        1 => bytes[..4].copy_from_slice(&rng.pick(&[[0, 0xAC, 0, 0], [0, 0, 0xAC, 0], [0; 4]])),
+        2 => bytes[rng.index(4)] ^= 1 << rng.below(8),
+        _ => {
+            bytes.remove(0);
+        }
+    }
+    bytes
+}
+
+/// A file with one fault of a kind, and the answer that its rule tells.
+pub fn fault(rng: &mut Rng, kind: Kind) -> Case {
+    let mut drafts = sound_drafts(rng, &Wish::any());
+    let style = Style::any(rng);
+    let name = format!("damaged-{kind:?}-{}", style.name()).to_lowercase();
+    if LOCAL.contains(&kind) {
+        let mut at = somewhere(&drafts, rng);
+        if [Kind::PassesEnd, Kind::Size, Kind::Backlink].contains(&kind) && rng.chance(10) {
+            at = 0;
+        }
+        // The end of file has everything declared before it.
+        if spoil(&mut drafts.clone(), at, kind, &mut rng.clone()).is_none() {
+            at = drafts.len() - 1;
+        }
+        return match spoil(&mut drafts, at, kind, rng) {
+            Some(offender) => local_case(name, render(&drafts, &style, rng), offender, kind),
+            None => fault(rng, Kind::Backlink),
+        };
+    }
+    whole_file_fault(rng, kind, drafts, style, name)
+}
+
+fn whole_file_fault(
+    rng: &mut Rng,
+    kind: Kind,
+    mut drafts: Vec<Draft>,
+    style: Style,
+    name: String,
+) -> Case {
+    let mut expected = None;
+    match kind {
+        Kind::NoEnd => {
+            drafts.pop();
+            drafts.truncate(1 + rng.index(drafts.len()));
+        }
+        Kind::NoSignature => {
+            drafts.remove(0);
+            expected = Some((7, 4));
+        }
+        Kind::Identifier => {
+            let wrong = rng.pick(&[44201, 0, 44203, 44205, 0xACAD]);
+            drafts[0].pieces()[0] = Piece::Two(wrong);
+            expected = Some((8, 4));
+        }
+        Kind::UnfitSignature => {
+            let length = rng.pick(&[16, 20, 28, 72, 1000]);
+            drafts[0].body = Body::Raw(rng.bytes(length - 10));
+            expected = Some((9, 4));
+        }
+        Kind::NoClass => drop_class(&mut drafts, any_class(rng)),
+        _ => {}
+    }
+    let first = (kind == Kind::WrongCount).then(|| wrong_counts(&mut drafts, rng));
+    let Rendered { mut bytes, places } = render(&drafts, &style, rng);
+    let length = bytes.len() as u64;
+    match kind {
+        Kind::Mark => {
+            bytes = bad_mark(rng, bytes);
+            expected = Some((2, 0));
+        }
+        Kind::Truncated => {
+            let at = rng.pick(&places);
+            let tuple = Order::of(&bytes).and_then(|order| order.read_four(&bytes, at));
+            let left = 1 + rng.index(tuple.unwrap_or(6) as usize + 9);
+            bytes.truncate(at + left);
+            expected = Some((3, at as u64));
+        }
+        Kind::NoEnd => expected = Some((4, length)),
+        Kind::Behind => {
+            bytes.extend(some_bytes(rng));
+            expected = Some((15, length));
+        }
+        Kind::NoClass => expected = Some((16, length)),
+        Kind::WrongCount => expected = first.map(|at| (17, places[at] as u64)),
+        _ => {}
+    }
+    Case::new(name, bytes, expected)
+}
+
+/// A file with two faults, by rule; the earlier tuple's, or the one that
+/// stands first in the order, tells the answer.
+pub fn two_faults(rng: &mut Rng) -> Case {
+    if rng.chance(25) {
+        return two_late_faults(rng);
+    }
+    let mut drafts = sound_drafts(rng, &Wish::any());
+    let style = Style::any(rng);
+    let (a, b) = (somewhere(&drafts, rng), somewhere(&drafts, rng));
+    let (early, late) = (a.min(b), a.max(b));
+    let (first, second) = (rng.pick(&LOCAL), rng.pick(&LOCAL));
+    // The later one first, so that the places before it stay.
+    spoil(&mut drafts, late, second, rng);
+    let Some(offender) = spoil(&mut drafts, early, first, rng) else {
+        return two_faults(rng);
+    };
+    let name = format!("two-faults-{first:?}-{second:?}").to_lowercase();
+    local_case(name, render(&drafts, &style, rng), offender, first)
+}
+
+/// Two of 15, 16 and 17.
+fn two_late_faults(rng: &mut Rng) -> Case {
+    let mut drafts = sound_drafts(rng, &Wish::any());
+    let style = Style::any(rng);
+    let left_out = rng.below(3);
+    if left_out != 1 {
+        drop_class(&mut drafts, any_class(rng));
+    }
+    if left_out != 2 {
+        wrong_counts(&mut drafts, rng);
+    }
+    let mut bytes = render(&drafts, &style, rng).bytes;
+    let length = bytes.len() as u64;
+    if left_out != 0 {
+        bytes.extend(some_bytes(rng));
+    }
+    let code = if left_out == 0 { 16 } else { 15 };
+    // A sounder set in for its count may have brought its class back.
+    let known = left_out != 0 || !has_all_classes(&drafts);
+    Case::new("two-faults-late", bytes, known.then_some((code, length)))
+}
+
+fn has_all_classes(drafts: &[Draft]) -> bool {
+    [Class::Position, Class::Sounder, Class::Channel, Class::Ping]
+        .iter()
+        .all(|wanted| {
+            drafts
+                .iter()
+                .any(|draft| class(draft.code) == Some(*wanted))
+        })
+}
+
+/// Changes one thing in the bytes of a file, knowing only its places.
+fn damage(rng: &mut Rng, bytes: &mut Vec<u8>, places: &[usize]) {
+    let at = rng.pick(places).min(bytes.len().saturating_sub(1));
+    let next = places.iter().copied().find(|place| *place > at);
+    let next = next.unwrap_or(bytes.len()).min(bytes.len());
+    let near = |rng: &mut Rng, bytes: &Vec<u8>| {
+        let reach = (bytes.len() - at).min(48);
+        at + rng.index(reach)
+    };
+    match rng.below(12) {
+        0..=2 => {
+            let place = rng.index(bytes.len());
+            bytes[place] ^= 1 << rng.below(8);
+        }
+        3 | 4 => {
+            let place = near(rng, bytes);
+            bytes[place] = rng.number() as u8;
+        }
+        5 => {
+            // the low byte of the size, in either order
+            let place = at + rng.pick(&[0, 3]);
+            if let Some(byte) = bytes.get_mut(place) {
+                *byte = byte.wrapping_add(rng.pick(&[4, 252, 8, 1, 2]));
+            }
+        }
+        6 => {
+            let place = next.saturating_sub(rng.pick(&[1, 4]));
+            if let Some(byte) = bytes.get_mut(place) {
+                *byte ^= rng.pick(&[4, 8, 1, 128]);
+            }
+        }
+        7 => bytes.truncate(rng.index(bytes.len() + 1)),
+        8 => {
+            let tuple = bytes[at..next].to_vec();
+            let again = rng.pick(places).min(bytes.len());
+            bytes.splice(again..again, tuple);
+        }
+        9 => {
+            bytes.drain(at..next);
+        }
+        10 => {
+            // swapped with the tuple behind it
+            let behind = places.iter().copied().find(|place| *place > next);
+            let behind = behind.unwrap_or(bytes.len()).clamp(next, bytes.len());
+            bytes[at..behind].rotate_left(next - at);
+        }
+        _ => {
+            let more = some_bytes(rng);
+            bytes.extend(more);
+        }
+    }
+}
+
+/// A sound file with one or two blind changes.
+pub fn random_damage(rng: &mut Rng) -> Case {
+    let drafts = sound_drafts(rng, &Wish::any());
+    let style = Style::any(rng);
+    let Rendered { mut bytes, places } = render(&drafts, &style, rng);
+    let twice = rng.chance(40);
+    for _ in 0..1 + u64::from(twice) {
+        if !bytes.is_empty() {
+            damage(rng, &mut bytes, &places);
+        }
+    }
+    let name = if twice {
+        "damaged-twice"
+    } else {
+        "damaged-once"
+    };
+    Case::new(name, bytes, None)
+}
+
+/// Random bytes, mostly behind a mark, or framed tuples with anything in them.
+pub fn noise(rng: &mut Rng) -> Case {
+    let style = Style::any(rng);
+    let mut pen = Pen::new(style.order);
+    if rng.chance(90) {
+        pen.four(0xAC);
+    }
+    if rng.chance(50) {
+        let count = rng.index(200);
+        pen.bytes.extend(rng.bytes(count));
+        return Case::new("noise-bytes", pen.bytes, None);
+    }
+    if rng.chance(80) {
+        let draft = signature(rng);
+        pen.tuple(&draft, &style, rng);
+    }
+    for _ in 0..rng.below(12) {
+        let draft = noise_tuple(rng);
+        pen.tuple(&draft, &style, rng);
+    }
+    Case::new("noise-tuples", pen.bytes, None)
+}
+
+/// A framed tuple of any type; listed ones often of a fit length.
+fn noise_tuple(rng: &mut Rng) -> Draft {
+    let layout = &LAYOUTS[rng.index(LAYOUTS.len())];
+    let code = if rng.chance(80) {
+        layout.code
+    } else {
+        rng.number() as u16
+    };
+    let mut length = 16 + 4 * rng.index(24);
+    for fit in (16..120).step_by(4) {
+        if layout.fits(fit) && rng.chance(80) {
+            length = fit as usize;
+        }
+    }
+    let data = (0..length - 10)
+        .map(|_| rng.pick(&[0, 0, 0, 1, 2, 0xFF, 0x7F, 0x80]))
+        .collect();
+    Draft::new(rng, code, Body::Raw(data))
+}

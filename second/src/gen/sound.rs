@@ -1,0 +1,409 @@
+//! Drafts of sound files.
+
+use super::draft::{Body, Draft, Piece};
+use super::Rng;
+use crate::layout::{class, is_listed, Class};
+use Piece::{Chars, Four, Space, Two};
+
+/// What a sound file is to have.
+#[derive(Clone, Debug)]
+pub struct Wish {
+    /// Unlisted types outside the index class.
+    pub unlisted: bool,
+    /// Values in -65536..-1 or past the C-32 limits, and numbers too far out:
+    /// such pings can only be U-32.
+    pub wild: bool,
+    /// Tuples between signature and end of file, about.
+    pub size: u64,
+}
+
+impl Wish {
+    pub fn any() -> Wish {
+        Wish {
+            unlisted: true,
+            wild: true,
+            size: 24,
+        }
+    }
+
+    pub fn listed_only() -> Wish {
+        Wish {
+            unlisted: false,
+            ..Wish::any()
+        }
+    }
+}
+
+pub(super) fn signature(rng: &mut Rng) -> Draft {
+    let pieces = vec![Two(44204), Two(rng.two()), Two(rng.two()), Four(rng.four())];
+    Draft::fields(rng, 65535, pieces)
+}
+
+pub(super) fn sounder(rng: &mut Rng, count: u16, id: u32) -> Draft {
+    let mut pieces = vec![Two(count), Four(id)];
+    pieces.extend((0..10).map(|_| Two(rng.two())));
+    pieces.extend([Chars(rng.bytes(30)), Space]);
+    Draft::fields(rng, 100, pieces)
+}
+
+pub(super) fn channel(rng: &mut Rng, id: u16, parent: u32) -> Draft {
+    let transceiver = rng.pick(&SMALL_IDS);
+    let mut pieces = vec![Two(id), Four(parent), Four(rng.four())];
+    pieces.extend([Two(rng.two()), Two(rng.two()), Two(transceiver), Space]);
+    pieces.extend([Four(rng.four()), Four(rng.four())]);
+    pieces.extend((0..14).map(|_| Two(rng.two())));
+    pieces.extend([
+        Four(rng.four()),
+        Four(rng.four()),
+        Chars(rng.bytes(30)),
+        Space,
+    ]);
+    Draft::fields(rng, 1000, pieces)
+}
+
+pub(super) fn position(rng: &mut Rng) -> Draft {
+    let pieces = vec![
+        Two(rng.two()),
+        Four(rng.four()),
+        Four(rng.four()),
+        Two(rng.two()),
+        Space,
+        Four(rng.four()),
+        Four(rng.four()),
+    ];
+    Draft::fields(rng, 20, pieces)
+}
+
+pub(super) fn navigation(rng: &mut Rng) -> Draft {
+    let mut pieces = vec![Two(rng.two()), Four(rng.four())];
+    pieces.extend([Two(rng.two()), Two(rng.two()), Two(rng.two()), Space]);
+    Draft::fields(rng, 30, pieces)
+}
+
+pub(super) fn attitude(rng: &mut Rng, channel: u16) -> Draft {
+    let mut pieces = vec![Two(rng.two()), Four(rng.four()), Two(channel)];
+    pieces.extend((0..6).map(|_| Two(rng.two())));
+    pieces.push(Space);
+    Draft::fields(rng, 40, pieces)
+}
+
+pub(super) fn threshold(rng: &mut Rng, channel: u16) -> Draft {
+    let mut pieces = vec![Two(rng.two()), Four(rng.four()), Two(channel)];
+    pieces.extend((0..5).map(|_| Two(rng.two())));
+    pieces.extend((0..3).map(|_| Four(rng.four())));
+    Draft::fields(rng, 10100, pieces)
+}
+
+/// An event marker with a text of so many bytes.
+pub(super) fn marker(rng: &mut Rng, text: usize) -> Draft {
+    let pieces = vec![Two(rng.two()), Four(rng.four()), Chars(rng.bytes(text))];
+    Draft::fields(rng, 10110, pieces)
+}
+
+pub(super) fn run(rng: &mut Rng) -> Draft {
+    let code = rng.pick(&[65516, 65517]);
+    let pieces = vec![Two(rng.two()), Four(rng.four())];
+    Draft::fields(rng, code, pieces)
+}
+
+/// An end of file with so many bytes of possible data.
+pub(super) fn end_of_file(rng: &mut Rng, data: usize) -> Draft {
+    let pieces = vec![
+        Two(rng.two()),
+        Four(rng.four()),
+        Two(rng.two()),
+        Chars(rng.bytes(data)),
+    ];
+    Draft::fields(rng, 65534, pieces)
+}
+
+pub(super) fn ping_header(rng: &mut Rng, channel: u16) -> Vec<Piece> {
+    vec![
+        Two(rng.two()),
+        Four(rng.four()),
+        Two(channel),
+        Two(rng.two()),
+        Four(rng.four()),
+        Four(rng.four()),
+    ]
+}
+
+pub(super) fn ping(rng: &mut Rng, channel: u16, samples: Vec<(u32, i32)>) -> Draft {
+    let header = ping_header(rng, channel);
+    Draft::new(rng, 10000, Body::Ping { header, samples })
+}
+
+/// An unlisted tuple of some code with anything in it.
+pub(super) fn unlisted(rng: &mut Rng, code: u16) -> Draft {
+    let data = match rng.below(10) {
+        0 => 402,
+        _ => rng.index(8) * 4 + 6,
+    };
+    let data = rng.bytes(data);
+    Draft::new(rng, code, Body::Raw(data))
+}
+
+/// Codes inside the classes, beside them, private ones and any others.
+pub(super) fn unlisted_code(rng: &mut Rng) -> u16 {
+    const CODES: [u16; 34] = [
+        0, 10, 19, 21, 29, 31, 41, 99, 101, 200, 999, 1001, 2000, 9999, 10001, 10011, 10030, 10040,
+        10050, 10099, 10101, 10109, 10111, 11000, 12000, 65396, 65400, 65405, 65518, 65525, 65526,
+        65533, 300, 3000,
+    ];
+    loop {
+        let code = if rng.chance(80) {
+            rng.pick(&CODES)
+        } else {
+            rng.number() as u16
+        };
+        if !is_listed(code) && class(code) != Some(Class::Index) {
+            return code;
+        }
+    }
+}
+
+/// Few enough that identifiers of different kinds often coincide.
+pub(super) const SMALL_IDS: [u16; 7] = [0, 1, 2, 3, 7, 256, 65535];
+
+fn new_document(rng: &mut Rng, taken: &[u32]) -> u32 {
+    loop {
+        let id = match rng.below(4) {
+            0 => rng.four(),
+            1 => u32::from(rng.pick(&SMALL_IDS)) << 16,
+            _ => u32::from(rng.pick(&SMALL_IDS)),
+        };
+        if !taken.contains(&id) {
+            return id;
+        }
+    }
+}
+
+fn new_channel(rng: &mut Rng, taken: &[u16]) -> u16 {
+    loop {
+        let id = match rng.below(3) {
+            0 => rng.two(),
+            _ => rng.pick(&SMALL_IDS),
+        };
+        if !taken.contains(&id) {
+            return id;
+        }
+    }
+}
+
+fn value(rng: &mut Rng, wild: bool) -> i32 {
+    const WILD: [i32; 7] = [
+        -1,
+        -65_536,
+        -32_768,
+        i32::MIN,
+        i32::MAX,
+        2_147_418_112,
+        -2_147_418_113,
+    ];
+    const TAME: [i32; 8] = [
+        0,
+        0,
+        1,
+        -65_537,
+        2_147_418_111,
+        -2_147_418_112,
+        65_535,
+        65_536,
+    ];
+    if wild && rng.chance(30) {
+        return rng.pick(&WILD);
+    }
+    match rng.below(3) {
+        0 => rng.pick(&TAME),
+        1 => rng.below(100_000) as i32,
+        _ => -65_537 - rng.below(2_147_418_112 - 65_537 + 1) as i32,
+    }
+}
+
+fn gap(rng: &mut Rng) -> u64 {
+    const GAPS: [u64; 9] = [
+        1, 65_534, 65_535, 65_536, 65_537, 131_071, 131_072, 131_073, 200_000,
+    ];
+    match rng.below(20) {
+        0 => rng.pick(&GAPS),
+        1 => rng.below(400_000),
+        2..=5 => 1 + rng.below(40),
+        _ => 0,
+    }
+}
+
+/// A sound list of samples; a wild one may suit U-32 alone.
+pub fn sample_list(rng: &mut Rng, wild: bool) -> Vec<(u32, i32)> {
+    let count = match rng.below(20) {
+        0..=2 => 0,
+        3 => rng.below(600),
+        4 => 1,
+        _ => 1 + rng.below(12),
+    };
+    let wild = wild && rng.chance(20);
+    let far = wild && rng.chance(30);
+    let mut samples = Vec::new();
+    // Mostly too far out for C-32: a gap there takes 65,535 words or so.
+    let mut next = match rng.below(5) {
+        _ if !far => 0,
+        0 => rng.below(1 << 32),
+        _ => (1 << 32) - 1 - rng.below(500_000),
+    };
+    for _ in 0..count {
+        next += gap(rng);
+        if far && rng.chance(10) {
+            next = next.max(u64::from(u32::MAX) - rng.below(3));
+        }
+        let Ok(number) = u32::try_from(next) else {
+            break;
+        };
+        samples.push((number, value(rng, wild)));
+        next += 1;
+    }
+    samples
+}
+
+/// A file under way.
+struct Plan {
+    drafts: Vec<Draft>,
+    /// Document identifiers, and where each sounder stands.
+    sounders: Vec<(u32, usize)>,
+    /// Channels, and the sounder that each names.
+    channels: Vec<(u16, usize)>,
+}
+
+impl Plan {
+    fn add_sounder(&mut self, rng: &mut Rng) {
+        if self.sounders.len() == 16 {
+            return;
+        }
+        let taken: Vec<u32> = self.sounders.iter().map(|(id, _)| *id).collect();
+        let id = new_document(rng, &taken);
+        self.sounders.push((id, self.drafts.len()));
+        self.drafts.push(sounder(rng, 0, id));
+    }
+
+    fn add_channel(&mut self, rng: &mut Rng) {
+        if self.sounders.is_empty() || self.channels.len() == 64 {
+            return;
+        }
+        let taken: Vec<u16> = self.channels.iter().map(|(id, _)| *id).collect();
+        let id = new_channel(rng, &taken);
+        let parent = rng.index(self.sounders.len());
+        self.channels.push((id, parent));
+        self.drafts.push(channel(rng, id, self.sounders[parent].0));
+    }
+
+    fn any_channel(&self, rng: &mut Rng) -> Option<u16> {
+        (!self.channels.is_empty()).then(|| self.channels[rng.index(self.channels.len())].0)
+    }
+
+    fn add_ping(&mut self, rng: &mut Rng, wild: bool) {
+        if let Some(id) = self.any_channel(rng) {
+            let samples = sample_list(rng, wild);
+            self.drafts.push(ping(rng, id, samples));
+        }
+    }
+
+    fn add_other(&mut self, rng: &mut Rng) {
+        let channel = self.any_channel(rng);
+        let draft = match (rng.below(8), channel) {
+            (0, _) => position(rng),
+            (1, _) => navigation(rng),
+            (2, Some(id)) => {
+                let id = if rng.chance(30) { 65535 } else { id };
+                attitude(rng, id)
+            }
+            (2, None) => attitude(rng, 65535),
+            (3 | 4, Some(id)) => threshold(rng, id),
+            (5, _) => {
+                let text = 4 + 4 * rng.index(6);
+                marker(rng, text)
+            }
+            _ => run(rng),
+        };
+        self.drafts.push(draft);
+    }
+
+    /// A tuple of a class that is still missing; unlisted ones will do.
+    fn fill_classes(&mut self, rng: &mut Rng, wish: &Wish) {
+        let has = |plan: &Plan, wanted: Class| {
+            let mut codes = plan.drafts.iter().map(|draft| draft.code);
+            codes.any(|code| class(code) == Some(wanted))
+        };
+        for (wanted, stand_in) in [
+            (Class::Position, 21),
+            (Class::Sounder, 200),
+            (Class::Channel, 2000),
+            (Class::Ping, 10030),
+        ] {
+            if has(self, wanted) {
+                continue;
+            }
+            if wish.unlisted && rng.chance(40) {
+                self.drafts.push(unlisted(rng, stand_in));
+                continue;
+            }
+            match wanted {
+                Class::Position => self.drafts.push(position(rng)),
+                Class::Sounder => self.add_sounder(rng),
+                Class::Channel => {
+                    if self.sounders.is_empty() {
+                        self.add_sounder(rng);
+                    }
+                    self.add_channel(rng);
+                }
+                _ => {
+                    if self.sounders.is_empty() {
+                        self.add_sounder(rng);
+                    }
+                    if self.channels.is_empty() {
+                        self.add_channel(rng);
+                    }
+                    self.add_ping(rng, wish.wild);
+                }
+            }
+        }
+    }
+
+    /// Every sounder states the number of channels that name it.
+    fn state_counts(&mut self) {
+        for (nth, (_, at)) in self.sounders.iter().enumerate() {
+            let named = self.channels.iter().filter(|(_, parent)| *parent == nth);
+            let count = named.count() as u16;
+            self.drafts[*at].pieces()[0] = Two(count);
+        }
+    }
+}
+
+/// The drafts of a sound file, signature first, end of file last.
+pub fn sound_drafts(rng: &mut Rng, wish: &Wish) -> Vec<Draft> {
+    let mut plan = Plan {
+        drafts: vec![signature(rng)],
+        sounders: Vec::new(),
+        channels: Vec::new(),
+    };
+    let crowded = rng.chance(4);
+    let steps = if crowded {
+        120
+    } else {
+        2 + rng.below(wish.size)
+    };
+    for _ in 0..steps {
+        match rng.below(100) {
+            0..=11 => plan.add_sounder(rng),
+            12..=34 => plan.add_channel(rng),
+            35..=64 => plan.add_ping(rng, wish.wild),
+            65..=74 if wish.unlisted => {
+                let code = unlisted_code(rng);
+                plan.drafts.push(unlisted(rng, code));
+            }
+            _ => plan.add_other(rng),
+        }
+    }
+    plan.fill_classes(rng, wish);
+    plan.state_counts();
+    let data = 2 + 4 * rng.pick(&[0, 0, 0, 1, 2, 7]);
+    plan.drafts.push(end_of_file(rng, data));
+    plan.drafts
+}

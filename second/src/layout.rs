@@ -1,0 +1,281 @@
+//! Kinds, classes, lengths and rows of the listed types.
+
+use self::Field::*;
+
+pub const SIGNATURE: u16 = 65535;
+pub const SOUNDER: u16 = 100;
+pub const CHANNEL: u16 = 1000;
+pub const POSITION: u16 = 20;
+pub const NAVIGATION: u16 = 30;
+pub const ATTITUDE: u16 = 40;
+pub const THRESHOLD: u16 = 10100;
+pub const EVENT_MARKER: u16 = 10110;
+pub const PING_U32: u16 = 10000;
+pub const PING_C32: u16 = 10010;
+pub const START_OF_RUN: u16 = 65516;
+pub const END_OF_RUN: u16 = 65517;
+pub const END_OF_FILE: u16 = 65534;
+
+/// 0xACAC, which decides over TR's printed 44201.
+pub const HAC_IDENTIFIER: u16 = 44204;
+
+pub const FILE_LIMIT: u64 = 16_777_216;
+pub const TUPLE_LEAST: u64 = 16;
+pub const TUPLE_LIMIT: u64 = 262_144;
+/// Values in one ping, of either kind.
+pub const VALUE_LIMIT: u64 = 32_764;
+pub const SOUNDER_LIMIT: usize = 16;
+pub const CHANNEL_LIMIT: usize = 64;
+
+/// A width of a row. Attribute and backlink, which end every row, aren't
+/// written out.
+#[derive(Clone, Copy, PartialEq, Eq, Debug)]
+pub enum Field {
+    Two,
+    SignedTwo,
+    Four,
+    SignedFour,
+    /// Characters, never turned.
+    Chars(usize),
+    /// A space: anything when read, 0 when written.
+    Space(usize),
+    /// As many characters or bytes of data as the length leaves.
+    Text,
+    /// Pairs of sample number and value.
+    Pairs,
+    /// Words of a C-32 ping.
+    Words,
+}
+
+impl Field {
+    /// The width where it doesn't hang on the tuple's length, else 0.
+    pub const fn width(self) -> usize {
+        match self {
+            Two | SignedTwo => 2,
+            Four | SignedFour => 4,
+            Chars(n) | Space(n) => n,
+            Text | Pairs | Words => 0,
+        }
+    }
+
+    pub const fn is_signed(self) -> bool {
+        matches!(self, SignedTwo | SignedFour)
+    }
+}
+
+/// The lengths that a listed type may have; all are multiples of 4 anyway.
+#[derive(Clone, Copy, PartialEq, Eq, Debug)]
+pub enum Lengths {
+    Exactly(u64),
+    /// `least`, or more by a multiple of `step`.
+    From {
+        least: u64,
+        step: u64,
+    },
+}
+
+pub struct Layout {
+    pub code: u16,
+    pub name: &'static str,
+    pub lengths: Lengths,
+    pub row: &'static [Field],
+}
+
+const fn fixed(code: u16, name: &'static str, length: u64, row: &'static [Field]) -> Layout {
+    Layout {
+        code,
+        name,
+        lengths: Lengths::Exactly(length),
+        row,
+    }
+}
+
+const fn open(
+    code: u16,
+    name: &'static str,
+    least: u64,
+    step: u64,
+    row: &'static [Field],
+) -> Layout {
+    Layout {
+        code,
+        name,
+        lengths: Lengths::From { least, step },
+        row,
+    }
+}
+
+/// The thirteen listed types, one row each.
+#[rustfmt::skip]
+pub static LAYOUTS: [Layout; 13] = [
+    fixed(SIGNATURE, "signature", 24, &[Two, Two, Two, Four]),
+    fixed(SOUNDER, "echosounder", 72, &[
+        Two, Four, Two, Two, SignedTwo, Two, SignedTwo, Two, Two, SignedTwo, Two, Two,
+        Chars(30), Space(2),
+    ]),
+    fixed(CHANNEL, "channel", 108, &[
+        Two, Four, Four, Two, Two, Two, Space(2), Four, Four,
+        SignedTwo, SignedTwo, SignedTwo, SignedTwo,
+        Two, Two, Two, Two, Two, Two, Two,
+        SignedTwo, SignedTwo, SignedTwo, Four, Four, Chars(30), Space(2),
+    ]),
+    fixed(POSITION, "position", 36, &[
+        SignedTwo, Four, Four, Two, Space(2), SignedFour, SignedFour,
+    ]),
+    fixed(NAVIGATION, "navigation", 28, &[Two, Four, Two, SignedTwo, Two, Space(2)]),
+    fixed(ATTITUDE, "attitude", 36, &[
+        Two, Four, Two, Two, SignedTwo, SignedTwo, SignedTwo, SignedTwo, SignedTwo, Space(2),
+    ]),
+    fixed(THRESHOLD, "threshold", 44, &[
+        Two, Four, Two, Two, Two, Two, Two, Two, Four, Four, Four,
+    ]),
+    open(EVENT_MARKER, "event marker", 24, 4, &[Two, Four, Text]),
+    open(PING_U32, "ping U-32", 40, 8, &[Two, Four, Two, Two, Four, SignedFour, Pairs]),
+    open(PING_C32, "ping C-32", 40, 4, &[Two, Four, Two, Two, Four, SignedFour, Four, Words]),
+    fixed(START_OF_RUN, "start of run", 20, &[Two, Four]),
+    fixed(END_OF_RUN, "end of run", 20, &[Two, Four]),
+    open(END_OF_FILE, "end of file", 24, 4, &[Two, Four, Two, Text]),
+];
+
+/// The layout of a listed type.
+pub fn layout(code: u16) -> Option<&'static Layout> {
+    let row = match code {
+        SIGNATURE => 0,
+        SOUNDER => 1,
+        CHANNEL => 2,
+        POSITION => 3,
+        NAVIGATION => 4,
+        ATTITUDE => 5,
+        THRESHOLD => 6,
+        EVENT_MARKER => 7,
+        PING_U32 => 8,
+        PING_C32 => 9,
+        START_OF_RUN => 10,
+        END_OF_RUN => 11,
+        END_OF_FILE => 12,
+        _ => return None,
+    };
+    Some(&LAYOUTS[row])
+}
+
+pub fn is_listed(code: u16) -> bool {
+    layout(code).is_some()
+}
+
+impl Layout {
+    /// Whether a whole length suits this type.
+    pub fn fits(&self, length: u64) -> bool {
+        match self.lengths {
+            Lengths::Exactly(exact) => length == exact,
+            Lengths::From { least, step } => length >= least && (length - least) % step == 0,
+        }
+    }
+}
+
+/// The lengths that any tuple may have.
+pub fn length_allowed(length: u64) -> bool {
+    length % 4 == 0 && (TUPLE_LEAST..=TUPLE_LIMIT).contains(&length)
+}
+
+#[derive(Clone, Copy, PartialEq, Eq, Debug)]
+pub enum Class {
+    Position,
+    Sounder,
+    Channel,
+    Ping,
+    Index,
+}
+
+/// The class of a type code, listed or not.
+pub fn class(code: u16) -> Option<Class> {
+    match code {
+        20..=29 => Some(Class::Position),
+        100..=999 => Some(Class::Sounder),
+        1000..=9999 => Some(Class::Channel),
+        10000..=10099 => Some(Class::Ping),
+        65406..=65515 => Some(Class::Index),
+        _ => None,
+    }
+}
+
+/// First byte behind size and type, where every row starts.
+pub(crate) const ROW_START: usize = 6;
+
+#[cfg(test)]
+mod tests {
+    use super::*;
+
+    /// Size, type, row, attribute and backlink make up the listed length.
+    #[test]
+    fn rows_add_up() {
+        for layout in &LAYOUTS {
+            let sum: usize = layout.row.iter().map(|field| field.width()).sum();
+            let whole = (6 + sum + 8) as u64;
+            match layout.lengths {
+                Lengths::Exactly(length) => assert_eq!(whole, length, "{}", layout.name),
+                Lengths::From { least, .. } => {
+                    let smallest = match layout.code {
+                        EVENT_MARKER => 4,
+                        PING_U32 => 8,
+                        PING_C32 => 4,
+                        _ => 2,
+                    };
+                    assert_eq!(whole + smallest, least, "{}", layout.name);
+                }
+            }
+        }
+    }
+
+    #[test]
+    fn every_row_is_found_under_its_code() {
+        for row in &LAYOUTS {
+            assert_eq!(layout(row.code).map(|l| l.code), Some(row.code));
+        }
+        let listed = (0..=u16::MAX).filter(|code| is_listed(*code)).count();
+        assert_eq!(listed, 13);
+    }
+
+    #[test]
+    fn class_bounds() {
+        use Class::*;
+        for (code, expected) in [
+            (19, None),
+            (20, Some(Position)),
+            (29, Some(Position)),
+            (30, None),
+            (99, None),
+            (100, Some(Sounder)),
+            (999, Some(Sounder)),
+            (1000, Some(Channel)),
+            (9999, Some(Channel)),
+            (10000, Some(Ping)),
+            (10099, Some(Ping)),
+            (10100, None),
+            (65405, None),
+            (65406, Some(Index)),
+            (65515, Some(Index)),
+            (65516, None),
+        ] {
+            assert_eq!(class(code), expected, "{code}");
+        }
+    }
+
+    #[test]
+    fn lengths_of_any_tuple() {
+        for (length, allowed) in [
+            (0, false),
+            (12, false),
+            (14, false),
+            (16, true),
+            (18, false),
+            (20, true),
+            (262_140, true),
+            (262_144, true),
+            (262_146, false),
+            (262_148, false),
+            (u64::MAX, false),
+        ] {
+            assert_eq!(length_allowed(length), allowed, "{length}");
+        }
+    }
+}

@@ -1,0 +1,29 @@
+//! The second program: the rules of document 01 in plain Rust, written from
+//! 01, its page of readings and TR 2174 alone.
+//!
+//! One module a chapter. Every public function answers on every input: none
+//! panics, and a refused call leaves all lent memory as it was.
+
+#![forbid(unsafe_code)]
+
+pub mod answer;
+pub mod check;
+pub mod content;
+pub mod gen;
+pub mod layout;
+pub mod links;
+pub mod normal;
+pub mod order;
+pub mod parents;
+pub mod programs;
+pub mod records;
+pub mod samples;
+pub mod walk;
+
+pub use answer::{Answer, Reply};
+pub use check::check;
+pub use content::{content, Entry};
+pub use links::{DocumentId, SoftwareChannel, TransceiverNumber};
+pub use normal::normalise;
+pub use order::Order;
+pub use parents::{parents, Parents};

@@ -1,0 +1,529 @@
+//! Chapter "Fields": a record, a reader and a writer for every listed type.
+//!
+//! Names and offsets are those of TR's tables; a test holds them against the
+//! rows of `layout`, which are those of 01.
+
+use crate::answer::{Answer, Reply};
+use crate::layout::{self, HAC_IDENTIFIER, PING_C32, PING_U32, TUPLE_LIMIT};
+use crate::links::{DocumentId, SoftwareChannel, TransceiverNumber};
+use crate::order::{four_at, put_four, put_two, two_at, Order};
+use crate::samples::judge_ping;
+use crate::walk::{forward, mark, Step};
+
+/// Width of the remarks of sounder and channel.
+pub const REMARKS: usize = 30;
+
+/// A number as it stands in a tuple.
+pub(crate) trait Number: Copy {
+    const WIDTH: usize;
+    const SIGNED: bool;
+    fn take(order: Order, tuple: &[u8], at: usize) -> Self;
+    fn put(self, order: Order, tuple: &mut [u8], at: usize);
+}
+
+macro_rules! number {
+    ($type:ty, $width:expr, $signed:expr, $take:ident, $put:ident, $from:expr, $to:expr) => {
+        impl Number for $type {
+            const WIDTH: usize = $width;
+            const SIGNED: bool = $signed;
+            fn take(order: Order, tuple: &[u8], at: usize) -> Self {
+                $from($take(order, tuple, at))
+            }
+            fn put(self, order: Order, tuple: &mut [u8], at: usize) {
+                $put(order, tuple, at, $to(self))
+            }
+        }
+    };
+}
+
+number!(u16, 2, false, two_at, put_two, |n| n, |n| n);
+number!(i16, 2, true, two_at, put_two, |n| n as i16, |n| n as u16);
+number!(u32, 4, false, four_at, put_four, |n| n, |n| n);
+number!(i32, 4, true, four_at, put_four, |n| n as i32, |n| n as u32);
+number!(
+    DocumentId,
+    4,
+    false,
+    four_at,
+    put_four,
+    DocumentId,
+    |n: DocumentId| n.0
+);
+number!(
+    SoftwareChannel,
+    2,
+    false,
+    two_at,
+    put_two,
+    SoftwareChannel,
+    |n: SoftwareChannel| n.0
+);
+number!(
+    TransceiverNumber,
+    2,
+    false,
+    two_at,
+    put_two,
+    TransceiverNumber,
+    |n: TransceiverNumber| n.0
+);
+
+/// The tuple of a listed type that a reader asks for: the step's refusals
+/// (3 at the end), 9 for another type, 9 for an unfit length, then 8.
+pub(crate) fn listed_tuple<'a>(
+    file: &'a [u8],
+    place: u64,
+    asked: &[u16],
+) -> Result<(&'a [u8], u16, Order), Answer> {
+    let order = mark(file).map_err(|code| Answer::refused(code, place))?;
+    let tuple = match forward(file, place) {
+        Step::Tuple { tuple, .. } => tuple,
+        Step::End => return Err(Answer::refused(3, place)),
+        Step::Refused(refusal) => return Err(refusal),
+    };
+    if !asked.contains(&tuple.code) {
+        return Err(Answer::refused(9, place));
+    }
+    let bytes = tuple.bytes(file);
+    judge_fields(bytes, tuple.code, order).map_err(|code| Answer::refused(code, place))?;
+    Ok((bytes, tuple.code, order))
+}
+
+/// 9 and 8 of a framed tuple of any type.
+pub(crate) fn judge_fields(tuple: &[u8], code: u16, order: Order) -> Result<(), u32> {
+    match layout::layout(code) {
+        Some(layout) if !layout.fits(tuple.len() as u64) => Err(9),
+        Some(_) if code == layout::SIGNATURE && two_at(order, tuple, 6) != HAC_IDENTIFIER => Err(8),
+        _ => Ok(()),
+    }
+}
+
+/// Writes size, type, attribute and backlink of a tuple as long as the slice
+/// and puts 0 everywhere else.
+pub(crate) fn write_frame(tuple: &mut [u8], code: u16, attribute: i32, order: Order) {
+    let length = tuple.len();
+    tuple.fill(0);
+    put_four(order, tuple, 0, (length - 10) as u32);
+    put_two(order, tuple, 4, code);
+    put_four(order, tuple, length - 8, attribute as u32);
+    put_four(order, tuple, length - 4, length as u32);
+}
+
+/// A record's field as the tests see it: offset, width, signed.
+pub type FieldPlace = (usize, usize, bool);
+
+/// Makes a record from a table: field, type and offset, then, behind an @, the
+/// characters, if it has any, with their range in a tuple of some length.
+macro_rules! record {
+    (
+        $(#[$doc:meta])*
+        $name:ident $(<$life:lifetime>)? = $code:expr;
+        $($field:ident: $type:ty = $offset:expr,)*
+        $(@ $chars:ident: $range:expr,)?
+    ) => {
+        $(#[$doc])*
+        #[derive(Clone, Copy, PartialEq, Eq, Debug)]
+        pub struct $name $(<$life>)? {
+            $(pub $field: $type,)*
+            $(pub $chars: &$life [u8],)?
+            pub tuple_attribute: i32,
+        }
+
+        impl $(<$life>)? $name $(<$life>)? {
+            pub const CODE: u16 = $code;
+
+            /// The numbers' offsets, widths and signs.
+            pub const FIELDS: &'static [FieldPlace] = &[
+                $(($offset, <$type as Number>::WIDTH, <$type as Number>::SIGNED),)*
+            ];
+
+            /// Reads the record at a place of a file.
+            pub fn read(file: & $($life)? [u8], place: u64) -> Reply<Self> {
+                let (tuple, _, order) = listed_tuple(file, place, &[Self::CODE])?;
+                Ok((Answer::accepted(1, 0), Self::take(tuple, order)))
+            }
+
+            fn take(tuple: & $($life)? [u8], order: Order) -> Self {
+                $name {
+                    $($field: <$type as Number>::take(order, tuple, $offset),)*
+                    $($chars: &tuple[$range(tuple.len())],)?
+                    tuple_attribute: four_at(order, tuple, tuple.len() - 8) as i32,
+                }
+            }
+
+            /// Writes all but the characters into a tuple of the right length.
+            fn put(&self, order: Order, tuple: &mut [u8]) {
+                write_frame(tuple, Self::CODE, self.tuple_attribute, order);
+                $(<$type as Number>::put(self.$field, order, tuple, $offset);)*
+            }
+        }
+    };
+}
+
+/// Lends a tuple of some length at the start of the output: 19.
+fn lend(out: &mut [u8], length: u64) -> Result<&mut [u8], Answer> {
+    usize::try_from(length)
+        .ok()
+        .and_then(|length| out.get_mut(..length))
+        .ok_or(Answer::refused(19, 0))
+}
+
+/// The writer of a record that refuses only by 19.
+macro_rules! plain_writer {
+    ($name:ident, $length:expr) => {
+        impl $name {
+            pub const LENGTH: u64 = $length;
+
+            /// Writes the record in the order asked; refuses only by 19.
+            pub fn write(&self, order: Order, out: &mut [u8]) -> Answer {
+                match lend(out, Self::LENGTH) {
+                    Ok(tuple) => {
+                        self.put(order, tuple);
+                        Answer::accepted(1, Self::LENGTH)
+                    }
+                    Err(refusal) => refusal,
+                }
+            }
+        }
+    };
+}
+
+record! {
+    /// Table 18.
+    Signature = layout::SIGNATURE;
+    hac_identifier: u16 = 6,
+    hac_version: u16 = 8,
+    acquisition_software_version: u16 = 10,
+    acquisition_software_identifier: u32 = 12,
+}
+
+impl Signature {
+    pub const LENGTH: u64 = 24;
+
+    /// Writes the record, always with 44204; refuses only by 19.
+    pub fn write(&self, order: Order, out: &mut [u8]) -> Answer {
+        match lend(out, Self::LENGTH) {
+            Ok(tuple) => {
+                self.put(order, tuple);
+                put_two(order, tuple, 6, HAC_IDENTIFIER);
+                Answer::accepted(1, Self::LENGTH)
+            }
+            Err(refusal) => refusal,
+        }
+    }
+}
+
+record! {
+    /// Table 2.
+    Echosounder<'a> = layout::SOUNDER;
+    number_of_software_channels: u16 = 6,
+    echosounder_document_identifier: DocumentId = 8,
+    sound_speed: u16 = 12,
+    ping_interval: u16 = 14,
+    transmitter_attenuation_setting: i16 = 16,
+    multiplexing_mode: u16 = 18,
+    blanking_at_tvg_max_range: i16 = 20,
+    tvg_max_range: u16 = 22,
+    blanking_up_to_range: u16 = 24,
+    calibrator_signal: i16 = 26,
+    calibrator_mode: u16 = 28,
+    calibrator_separator: u16 = 30,
+    @ remarks: |_| 32..62,
+}
+
+record! {
+    /// Table 4.
+    Channel<'a> = layout::CHANNEL;
+    software_channel_identifier: SoftwareChannel = 6,
+    echosounder_document_identifier: DocumentId = 8,
+    sampling_rate: u32 = 12,
+    type_of_data_sample: u16 = 16,
+    time_varied_gain_mode: u16 = 18,
+    transceiver_channel_number: TransceiverNumber = 20,
+    acoustic_frequency: u32 = 24,
+    installation_depth_of_transducer: u32 = 28,
+    alongship_angle_offset_of_the_transducer_face: i16 = 32,
+    athwartship_angle_offset_of_the_transducer_face: i16 = 34,
+    alongship_angle_offset_of_the_main_axis_of_the_acoustic_beam: i16 = 36,
+    athwartship_angle_offset_of_the_main_axis_of_the_acoustic_beam: i16 = 38,
+    absorption_of_sound: u16 = 40,
+    pulse_length: u16 = 42,
+    bandwidth: u16 = 44,
+    calibration_source_level: u16 = 46,
+    beamwidth_3_db_of_the_transducer_beam: u16 = 48,
+    beam_pattern: u16 = 50,
+    wide_beam_drop_off: u16 = 52,
+    calibration_receiving_sensitivity: i16 = 54,
+    receiver_gain: i16 = 56,
+    bottom_detection_minimum_level: i16 = 58,
+    bottom_window_min: u32 = 60,
+    bottom_window_max: u32 = 64,
+    @ remarks: |_| 68..98,
+}
+
+/// The writer of a record with remarks: 9 at 0 where these haven't their
+/// field's width, then 19.
+macro_rules! remarks_writer {
+    ($name:ident, $length:expr, $remarks:expr) => {
+        impl $name<'_> {
+            pub const LENGTH: u64 = $length;
+
+            /// Writes the record in the order asked: 9 for the remarks, 19.
+            pub fn write(&self, order: Order, out: &mut [u8]) -> Answer {
+                if self.remarks.len() != REMARKS {
+                    return Answer::refused(9, 0);
+                }
+                match lend(out, Self::LENGTH) {
+                    Ok(tuple) => {
+                        self.put(order, tuple);
+                        tuple[$remarks].copy_from_slice(self.remarks);
+                        Answer::accepted(1, Self::LENGTH)
+                    }
+                    Err(refusal) => refusal,
+                }
+            }
+        }
+    };
+}
+
+remarks_writer!(Echosounder, 72, 32..62);
+remarks_writer!(Channel, 108, 68..98);
+
+record! {
+    /// Table 7; its time fraction is SHORT there, so signed.
+    Position = layout::POSITION;
+    time_fraction: i16 = 6,
+    time_cpu_ansi_c_standard_time: u32 = 8,
+    gps_time: u32 = 12,
+    positioning_system: u16 = 16,
+    latitude: i32 = 20,
+    longitude: i32 = 24,
+}
+plain_writer!(Position, 36);
+
+record! {
+    /// Table 9.
+    Navigation = layout::NAVIGATION;
+    time_fraction: u16 = 6,
+    time_cpu_ansi_c_standard_time: u32 = 8,
+    navigation_system: u16 = 12,
+    heading: i16 = 14,
+    navigation_speed: u16 = 16,
+}
+plain_writer!(Navigation, 28);
+
+record! {
+    /// Table 10.
+    Attitude = layout::ATTITUDE;
+    time_fraction: u16 = 6,
+    time_cpu_ansi_c_standard_time: u32 = 8,
+    software_channel_identifier: SoftwareChannel = 12,
+    platform_referred_to: u16 = 14,
+    alongship_offset: i16 = 16,
+    athwartship_offset: i16 = 18,
+    pitch: i16 = 20,
+    roll: i16 = 22,
+    heave: i16 = 24,
+}
+plain_writer!(Attitude, 36);
+
+record! {
+    /// Table 8.
+    Threshold = layout::THRESHOLD;
+    time_fraction: u16 = 6,
+    time_cpu_ansi_c_standard_time: u32 = 8,
+    software_channel_identifier: SoftwareChannel = 12,
+    tvg_max_range: u16 = 14,
+    tvg_min_range: u16 = 16,
+    tvt_evaluation_mode: u16 = 18,
+    tvt_evaluation_interval: u16 = 20,
+    tvt_evaluation_no_of_pings: u16 = 22,
+    tvt_evaluation_starting_tvt_ping_number: u32 = 24,
+    tvt_offset_parameter_or_constant_threshold: u32 = 28,
+    tvt_amplification_parameter: u32 = 32,
+}
+plain_writer!(Threshold, 44);
+
+record! {
+    /// Table 11. The text is a part of the file that was read.
+    EventMarker<'a> = layout::EVENT_MARKER;
+    time_fraction: u16 = 6,
+    time_cpu_ansi_c_standard_time: u32 = 8,
+    @ text: |length| 12..length - 8,
+}
+
+impl EventMarker<'_> {
+    /// Writes the marker in the order asked: 9 where the text's length is no
+    /// multiple of 4 or under 4, 11 where the tuple would be over 262,144
+    /// bytes, then 19.
+    pub fn write(&self, order: Order, out: &mut [u8]) -> Answer {
+        let text = self.text.len() as u64;
+        if text % 4 != 0 || text < 4 {
+            return Answer::refused(9, 0);
+        }
+        if text > TUPLE_LIMIT - 20 {
+            return Answer::refused(11, 0);
+        }
+        match lend(out, text + 20) {
+            Ok(tuple) => {
+                self.put(order, tuple);
+                tuple[12..12 + self.text.len()].copy_from_slice(self.text);
+                Answer::accepted(1, text + 20)
+            }
+            Err(refusal) => refusal,
+        }
+    }
+}
+
+record! {
+    /// Table 15.
+    StartOfRun = layout::START_OF_RUN;
+    time_fraction: u16 = 6,
+    time_cpu_ansi_c_standard_time: u32 = 8,
+}
+plain_writer!(StartOfRun, 20);
+
+record! {
+    /// Table 16.
+    EndOfRun = layout::END_OF_RUN;
+    time_fraction: u16 = 6,
+    time_cpu_ansi_c_standard_time: u32 = 8,
+}
+plain_writer!(EndOfRun, 20);
+
+record! {
+    /// Table 17. The data are a part of the file that was read; the writer
+    /// doesn't look at them.
+    EndOfFile<'a> = layout::END_OF_FILE;
+    time_fraction: u16 = 6,
+    time_cpu_ansi_c_standard_time: u32 = 8,
+    closing_mode: u16 = 12,
+    @ data: |length| 14..length - 8,
+}
+
+impl EndOfFile<'_> {
+    /// The length that the writer gives it: two data bytes, both 0.
+    pub const LENGTH: u64 = 24;
+
+    /// Writes the record with two data bytes 0; refuses only by 19.
+    pub fn write(&self, order: Order, out: &mut [u8]) -> Answer {
+        match lend(out, Self::LENGTH) {
+            Ok(tuple) => {
+                self.put(order, tuple);
+                Answer::accepted(1, Self::LENGTH)
+            }
+            Err(refusal) => refusal,
+        }
+    }
+}
+
+/// The header fields that both kinds of ping share: Tables 6 and 20.
+#[derive(Clone, Copy, PartialEq, Eq, Debug)]
+pub struct PingHeader {
+    pub time_fraction: u16,
+    pub time_cpu_ansi_c_standard_time: u32,
+    pub software_channel_identifier: SoftwareChannel,
+    pub transmitter_mode: u16,
+    pub ping_number: u32,
+    pub detected_bottom_range: i32,
+}
+
+impl PingHeader {
+    fn take(tuple: &[u8], order: Order) -> PingHeader {
+        PingHeader {
+            time_fraction: two_at(order, tuple, 6),
+            time_cpu_ansi_c_standard_time: four_at(order, tuple, 8),
+            software_channel_identifier: SoftwareChannel(two_at(order, tuple, 12)),
+            transmitter_mode: two_at(order, tuple, 14),
+            ping_number: four_at(order, tuple, 16),
+            detected_bottom_range: four_at(order, tuple, 20) as i32,
+        }
+    }
+
+    pub(crate) fn put(&self, order: Order, tuple: &mut [u8]) {
+        put_two(order, tuple, 6, self.time_fraction);
+        put_four(order, tuple, 8, self.time_cpu_ansi_c_standard_time);
+        put_two(order, tuple, 12, self.software_channel_identifier.0);
+        put_two(order, tuple, 14, self.transmitter_mode);
+        put_four(order, tuple, 16, self.ping_number);
+        put_four(order, tuple, 20, self.detected_bottom_range as u32);
+    }
+}
+
+#[derive(Clone, Copy, PartialEq, Eq, Debug)]
+pub enum PingKind {
+    U32,
+    C32,
+}
+
+/// What a ping says besides its samples.
+#[derive(Clone, Copy, PartialEq, Eq, Debug)]
+pub struct Ping {
+    pub header: PingHeader,
+    pub tuple_attribute: i32,
+    pub kind: PingKind,
+    /// The number of values, as counted.
+    pub values: u32,
+}
+
+impl Ping {
+    /// Reads the ping, of either kind, at a place of a file; gives 11 and 10
+    /// as the sample reader does.
+    pub fn read(file: &[u8], place: u64) -> Reply<Ping> {
+        let (tuple, code, order) = listed_tuple(file, place, &[PING_U32, PING_C32])?;
+        let values = judge_ping(tuple, code, order).map_err(|code| Answer::refused(code, place))?;
+        let ping = Ping {
+            header: PingHeader::take(tuple, order),
+            tuple_attribute: four_at(order, tuple, tuple.len() - 8) as i32,
+            kind: if code == PING_U32 {
+                PingKind::U32
+            } else {
+                PingKind::C32
+            },
+            values: values as u32,
+        };
+        Ok((Answer::accepted(1, 0), ping))
+    }
+}
+
+#[cfg(test)]
+mod tests {
+    use super::*;
+    use crate::layout::Field;
+
+    /// A row's numbers with their offsets.
+    fn row_numbers(code: u16) -> Vec<FieldPlace> {
+        let mut at = 6;
+        let mut numbers = Vec::new();
+        for field in layout::layout(code).unwrap().row {
+            match field {
+                Field::Two | Field::SignedTwo | Field::Four | Field::SignedFour => {
+                    numbers.push((at, field.width(), field.is_signed()));
+                }
+                _ => {}
+            }
+            at += field.width();
+        }
+        numbers
+    }
+
+    /// TR's offsets and 01's rows say the same.
+    #[test]
+    fn tables_agree_with_rows() {
+        for (code, fields) in [
+            (Signature::CODE, Signature::FIELDS),
+            (Echosounder::CODE, Echosounder::FIELDS),
+            (Channel::CODE, Channel::FIELDS),
+            (Position::CODE, Position::FIELDS),
+            (Navigation::CODE, Navigation::FIELDS),
+            (Attitude::CODE, Attitude::FIELDS),
+            (Threshold::CODE, Threshold::FIELDS),
+            (EventMarker::CODE, EventMarker::FIELDS),
+            (StartOfRun::CODE, StartOfRun::FIELDS),
+            (EndOfRun::CODE, EndOfRun::FIELDS),
+            (EndOfFile::CODE, EndOfFile::FIELDS),
+        ] {
+            assert_eq!(row_numbers(code), fields, "{code}");
+        }
+    }
+}

@@ -1,0 +1,382 @@
+//! Chapter "Samples": words, runs and values; judging, reading and writing
+//! the samples of a 32-bit ping.
+
+use crate::answer::Answer;
+use crate::layout::{PING_C32, PING_U32, TUPLE_LIMIT, VALUE_LIMIT};
+use crate::order::{four_at, put_four, unword, word, Order};
+use crate::records::{listed_tuple, write_frame, PingHeader};
+
+/// Least and greatest value that a C-32 word may hold.
+pub const VALUE_LEAST: i32 = -2_147_418_112;
+pub const VALUE_MOST: i32 = 2_147_418_111;
+
+/// The longest run one word can hold.
+pub const RUN_MOST: u32 = 65_536;
+
+/// The one word of a ping without samples: a run of 1.
+pub const SILENT_WORD: u32 = 0xFFFF_0000;
+
+/// Bytes from a U-32 ping's start to its pairs.
+pub(crate) const PAIRS_AT: usize = 24;
+/// Where a C-32 ping states its number of samples.
+pub(crate) const COUNT_AT: usize = 24;
+/// Bytes from a C-32 ping's start to its words.
+pub(crate) const WORDS_AT: usize = 28;
+/// Attribute and backlink.
+pub(crate) const TAIL: usize = 8;
+/// Length of the normal form of a ping without samples.
+pub(crate) const SILENT_LENGTH: u64 = 40;
+
+/// What a word of a C-32 ping says.
+#[derive(Clone, Copy, PartialEq, Eq, Debug)]
+pub enum Word {
+    /// So many samples below threshold, 1 to 65,536.
+    Run(u32),
+    Value(i32),
+    /// No run, yet outside the limits of a value.
+    Bad,
+}
+
+/// The definition; the loops below use quicker forms of it.
+pub fn read_word(word: u32) -> Word {
+    if word.leading_ones() >= 16 {
+        return Word::Run((word & 0xFFFF) + 1);
+    }
+    let value = word as i32;
+    if (VALUE_LEAST..=VALUE_MOST).contains(&value) {
+        Word::Value(value)
+    } else {
+        Word::Bad
+    }
+}
+
+/// Whether a value has a C-32 word of its own.
+pub fn has_word(value: i32) -> bool {
+    read_word(value as u32) == Word::Value(value)
+}
+
+/// Sixteen leading ones or more.
+fn is_run(word: u32) -> bool {
+    word >= 0xFFFF_0000
+}
+
+/// Counts the words that are no run, and tells whether one of them is bad.
+///
+/// A run has its upper half all ones; a bad value has 7FFF or 8000 there. So
+/// only upper halves are compared, and words in MSB order needn't be turned.
+fn judge_words<const MSB: bool>(words: &[u8]) -> (u64, bool) {
+    let (low, high) = if MSB {
+        (0xFF7F, 0x0080)
+    } else {
+        (0x7FFF, 0x8000)
+    };
+    let mut no_runs = 0u32; // a tuple has at most 65,527 words
+    let mut bad = 0u32;
+    for chunk in words.chunks_exact(4) {
+        let word = word::<false>(chunk);
+        let upper = if MSB { word & 0xFFFF } else { word >> 16 };
+        no_runs += u32::from(upper != 0xFFFF);
+        bad |= u32::from((upper == low) | (upper == high));
+    }
+    (u64::from(no_runs), bad != 0)
+}
+
+/// Whether the numbers of the pairs strictly rise.
+fn rises<const MSB: bool>(pairs: &[u8]) -> bool {
+    let Some(later) = pairs.get(8..) else {
+        return true;
+    };
+    let mut bad = false;
+    for (before, after) in pairs.chunks_exact(8).zip(later.chunks_exact(8)) {
+        bad |= word::<MSB>(after) <= word::<MSB>(before);
+    }
+    !bad
+}
+
+/// Judges a framed ping whose length suits its type: 11, then 10. Gives the
+/// number of values.
+///
+/// A U-32 ping can't hold over 32,764 pairs in 262,144 bytes, so its 11 never
+/// comes.
+pub(crate) fn judge_ping(tuple: &[u8], code: u16, order: Order) -> Result<u64, u32> {
+    if code == PING_U32 {
+        let pairs = pairs_of(tuple);
+        let sound = match order {
+            Order::Lsb => rises::<false>(pairs),
+            Order::Msb => rises::<true>(pairs),
+        };
+        return if sound {
+            Ok(pairs.len() as u64 / 8)
+        } else {
+            Err(10)
+        };
+    }
+    let words = words_of(tuple);
+    let (values, bad) = match order {
+        Order::Lsb => judge_words::<false>(words),
+        Order::Msb => judge_words::<true>(words),
+    };
+    if values > VALUE_LIMIT {
+        return Err(11);
+    }
+    if bad || u64::from(four_at(order, tuple, COUNT_AT)) != values {
+        return Err(10);
+    }
+    Ok(values)
+}
+
+pub(crate) fn pairs_of(tuple: &[u8]) -> &[u8] {
+    &tuple[PAIRS_AT..tuple.len() - TAIL]
+}
+
+pub(crate) fn words_of(tuple: &[u8]) -> &[u8] {
+    &tuple[WORDS_AT..tuple.len() - TAIL]
+}
+
+/// Reads the samples of the ping, of either kind, at a place of a file.
+///
+/// Accepts with 1 tuple and the number of samples as length; that many
+/// entries of both slices change, and none past them.
+pub fn read_samples(file: &[u8], place: u64, numbers: &mut [u32], values: &mut [i32]) -> Answer {
+    let (tuple, code, order) = match listed_tuple(file, place, &[PING_U32, PING_C32]) {
+        Ok(found) => found,
+        Err(refusal) => return refusal,
+    };
+    let count = match judge_ping(tuple, code, order) {
+        Ok(count) => count,
+        Err(code) => return Answer::refused(code, place),
+    };
+    let n = count as usize;
+    if numbers.len() < n || values.len() < n {
+        return Answer::refused(19, 0);
+    }
+    let (numbers, values) = (&mut numbers[..n], &mut values[..n]);
+    match (code, order) {
+        (PING_U32, Order::Lsb) => take_pairs::<false>(pairs_of(tuple), numbers, values),
+        (PING_U32, Order::Msb) => take_pairs::<true>(pairs_of(tuple), numbers, values),
+        (_, Order::Lsb) => take_words::<false>(words_of(tuple), numbers, values),
+        (_, Order::Msb) => take_words::<true>(words_of(tuple), numbers, values),
+    }
+    Answer::accepted(1, count)
+}
+
+fn take_pairs<const MSB: bool>(pairs: &[u8], numbers: &mut [u32], values: &mut [i32]) {
+    let slots = numbers.iter_mut().zip(values);
+    for ((number, value), pair) in slots.zip(pairs.chunks_exact(8)) {
+        *number = word::<MSB>(&pair[..4]);
+        *value = word::<MSB>(&pair[4..]) as i32;
+    }
+}
+
+/// Takes the values of a C-32 ping's words; the slices have exactly their
+/// number of entries.
+fn take_words<const MSB: bool>(words: &[u8], numbers: &mut [u32], values: &mut [i32]) {
+    // 65,527 words of 65,536 samples stay below 2^32
+    let mut at = 0u32;
+    let mut taken = 0;
+    for chunk in words.chunks_exact(4) {
+        // An entry is filled for every word, and one filled for a run is
+        // filled again: so the loop has no branch on the kind of word.
+        let (Some(number), Some(value)) = (numbers.get_mut(taken), values.get_mut(taken)) else {
+            return;
+        };
+        let word = word::<MSB>(chunk);
+        let run = is_run(word);
+        *number = at;
+        *value = word as i32;
+        taken += usize::from(!run);
+        at += if run { (word & 0xFFFF) + 1 } else { 1 };
+    }
+}
+
+/// Writes the pairs of a C-32 ping's words in LSB order. `pairs` has exactly
+/// the room of all values.
+pub(crate) fn words_to_pairs<const MSB: bool>(words: &[u8], pairs: &mut [u8]) {
+    let mut number = 0u32;
+    let mut at = 0;
+    for chunk in words.chunks_exact(4) {
+        // As above: a pair written for a run is written over by the next,
+        // and behind the last value nothing counts.
+        let Some(slot) = pairs.get_mut(at..at + 8) else {
+            return;
+        };
+        let word = word::<MSB>(chunk);
+        let run = is_run(word);
+        let pair = u64::from(number) | u64::from(word) << 32;
+        slot.copy_from_slice(&pair.to_le_bytes());
+        at += if run { 0 } else { 8 };
+        number += if run { (word & 0xFFFF) + 1 } else { 1 };
+    }
+}
+
+/// The place of the first number not above the one before it.
+fn first_not_rising(numbers: &[u32]) -> Option<usize> {
+    let later = numbers.iter().skip(1);
+    let offender = numbers.iter().zip(later).position(|(a, b)| b <= a)?;
+    Some(offender + 1)
+}
+
+/// What both ping writers refuse first: unequal lists, then 11 (count), 22
+/// where it applies, and 10.
+fn judge_lists(numbers: &[u32], values: &[i32], silent_allowed: bool) -> Result<(), Answer> {
+    if numbers.len() != values.len() {
+        let smaller = numbers.len().min(values.len());
+        return Err(Answer::refused(10, smaller as u64));
+    }
+    if numbers.len() as u64 > VALUE_LIMIT {
+        return Err(Answer::refused(11, 0));
+    }
+    if numbers.is_empty() && !silent_allowed {
+        return Err(Answer::refused(22, 0));
+    }
+    match first_not_rising(numbers) {
+        Some(place) => Err(Answer::refused(10, place as u64)),
+        None => Ok(()),
+    }
+}
+
+/// Writes a U-32 ping. Refuses by 10 (unequal lists), 11 (count), 22, 10, 19.
+pub fn write_u32(
+    header: &PingHeader,
+    attribute: i32,
+    numbers: &[u32],
+    values: &[i32],
+    order: Order,
+    out: &mut [u8],
+) -> Answer {
+    if let Err(refusal) = judge_lists(numbers, values, false) {
+        return refusal;
+    }
+    let length = 32 + 8 * numbers.len(); // at most 262,144
+    let Some(tuple) = out.get_mut(..length) else {
+        return Answer::refused(19, 0);
+    };
+    write_frame(tuple, PING_U32, attribute, order);
+    header.put(order, tuple);
+    let pairs = &mut tuple[PAIRS_AT..length - TAIL];
+    match order {
+        Order::Lsb => put_pairs::<false>(numbers, values, pairs),
+        Order::Msb => put_pairs::<true>(numbers, values, pairs),
+    }
+    Answer::accepted(1, length as u64)
+}
+
+fn put_pairs<const MSB: bool>(numbers: &[u32], values: &[i32], pairs: &mut [u8]) {
+    let samples = numbers.iter().zip(values);
+    for (pair, (number, value)) in pairs.chunks_exact_mut(8).zip(samples) {
+        pair[..4].copy_from_slice(&unword::<MSB>(*number));
+        pair[4..].copy_from_slice(&unword::<MSB>(*value as u32));
+    }
+}
+
+/// The fewest words that hold a list of rising numbers: every value one word,
+/// every gap its full runs and, if it leaves one, a remainder.
+pub fn fewest_words(numbers: &[u32]) -> u64 {
+    if numbers.is_empty() {
+        return 1;
+    }
+    let mut words = numbers.len() as u64;
+    let mut next = 0u64;
+    for number in numbers {
+        let gap = u64::from(*number).saturating_sub(next);
+        words += gap.div_ceil(u64::from(RUN_MOST));
+        next = u64::from(*number) + 1;
+    }
+    words
+}
+
+/// Writes a C-32 ping in the fewest words. Refuses by 10 (unequal lists), 11
+/// (count), 10, 21, 11 (length), 19.
+pub fn write_c32(
+    header: &PingHeader,
+    attribute: i32,
+    numbers: &[u32],
+    values: &[i32],
+    order: Order,
+    out: &mut [u8],
+) -> Answer {
+    if let Err(refusal) = judge_lists(numbers, values, true) {
+        return refusal;
+    }
+    if let Some(place) = values.iter().position(|value| !has_word(*value)) {
+        return Answer::refused(21, place as u64);
+    }
+    // 32,764 gaps of at most 65,536 words each: far inside 64 bits
+    let length = 36 + 4 * fewest_words(numbers);
+    if length > TUPLE_LIMIT {
+        return Answer::refused(11, 0);
+    }
+    let Some(tuple) = out.get_mut(..length as usize) else {
+        return Answer::refused(19, 0);
+    };
+    write_frame(tuple, PING_C32, attribute, order);
+    header.put(order, tuple);
+    put_four(order, tuple, COUNT_AT, numbers.len() as u32);
+    let words = &mut tuple[WORDS_AT..length as usize - TAIL];
+    match order {
+        Order::Lsb => put_words::<false>(numbers, values, words),
+        Order::Msb => put_words::<true>(numbers, values, words),
+    }
+    Answer::accepted(1, length)
+}
+
+fn put_words<const MSB: bool>(numbers: &[u32], values: &[i32], words: &mut [u8]) {
+    let mut slots = words.chunks_exact_mut(4);
+    let mut put = |word: u32| {
+        if let Some(slot) = slots.next() {
+            slot.copy_from_slice(&unword::<MSB>(word));
+        }
+    };
+    if numbers.is_empty() {
+        put(SILENT_WORD);
+    }
+    let mut next = 0u64;
+    for (number, value) in numbers.iter().zip(values) {
+        let mut gap = u64::from(*number) - next; // the numbers rise
+        while gap >= u64::from(RUN_MOST) {
+            put(0xFFFF_FFFF);
+            gap -= u64::from(RUN_MOST);
+        }
+        if gap > 0 {
+            put(SILENT_WORD | (gap as u32 - 1));
+        }
+        put(*value as u32);
+        next = u64::from(*number) + 1;
+    }
+}
+
+#[cfg(test)]
+mod tests {
+    use super::*;
+
+    /// The comparisons of upper halves say what the definition says.
+    #[test]
+    fn quick_forms_agree_with_the_definition() {
+        let edges = [0u32, 1, 0x7FFF, 0x8000, 0xFFFE, 0xFFFF];
+        for upper in 0..=0xFFFFu32 {
+            for lower in edges {
+                let word = upper << 16 | lower;
+                let said = read_word(word);
+                let no_run = !matches!(said, Word::Run(_));
+                assert_eq!(is_run(word), !no_run, "{word:08X}");
+                let expected = (u64::from(no_run), said == Word::Bad);
+                assert_eq!(judge_words::<false>(&word.to_le_bytes()), expected);
+                assert_eq!(judge_words::<true>(&word.to_be_bytes()), expected);
+            }
+        }
+    }
+
+    #[test]
+    fn words_at_the_limits() {
+        assert_eq!(read_word(0xFFFF_0000), Word::Run(1));
+        assert_eq!(read_word(0xFFFF_FFFF), Word::Run(65_536));
+        assert_eq!(read_word(0xFFFE_FFFF), Word::Value(-65_537));
+        assert_eq!(read_word(0x7FFE_FFFF), Word::Value(VALUE_MOST));
+        assert_eq!(read_word(0x8001_0000), Word::Value(VALUE_LEAST));
+        assert_eq!(read_word(0x7FFF_0000), Word::Bad);
+        assert_eq!(read_word(0x8000_FFFF), Word::Bad);
+        assert_eq!(read_word(0), Word::Value(0));
+        assert!(!has_word(-1) && !has_word(-65_536) && has_word(-65_537) && has_word(0));
+        assert!(!has_word(i32::MIN) && !has_word(i32::MAX));
+    }
+}
