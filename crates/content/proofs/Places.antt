@@ -32,14 +32,14 @@ use Rattle.content.specs.Pings.{headU, headC, wordsIn, countIn, contentU
 use Rattle.content.specs.Items.{Item, plain, ping, raw, rowIn, itemBy, itemOf, identifiedBy, innerBy, innerRules, numberAt, unless, linkBy, digestOf, digestItem, digest}
 
 -- ---- what a shape tells of the type code
-abbrev Shaped : ℕ → Shape → Type 0
+abbrev pub Shaped : ℕ → Shape → Type 0
 Shaped k indexed = (65406 ≤ k) × (k ≤ 65515)
 Shaped k (row fs x) = Unit {0}
 Shaped k pairs = k ≡ 10000
 Shaped k words = k ≡ 10010
 Shaped k unlisted = (eqb k 65535 ≡ false) × (eqb k 65534 ≡ false)
 
-shaped : (k : ℕ) → Shaped k (shapeOf k)
+pub shaped : (k : ℕ) → Shaped k (shapeOf k)
 unfolding kindOf lineOf
 shaped k =
     by-rules (λ (q : Kind). Shaped k (lineOf q .shape)) (kindRules k) Unlisted (
@@ -165,7 +165,8 @@ module _ (o : Bool) (f : List ℕ) (at n : ℕ) (w : Whole o f at n) where
   link-attitude e h = row-link Attitude _ e refl (omega arith)
 
   -- both pings name the channel of their header
-  header : 40 ≤ n → numberAt (valuesOf o pingRow (t .body)) 2 ≡ fieldAt o f at 2 12
+  pub header : 40 ≤ n → numberAt (valuesOf o pingRow (tupAt o (drop at f) .body)) 2 ≡ fieldAt o f at 2 12
+  unfolding t
   header h = ap (λ (vs : List Value). numberAt vs 2) (values-place pingRow (omega arith))
 
   pub link-ping-U : kindOf (kindAt o (drop at f)) ≡ PingU → 40 ≤ n → digest o (tupAt o (drop at f)) .link ≡ Links.names (record { 0 = fieldAt o f at 2 12 })

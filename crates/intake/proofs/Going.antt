@@ -47,6 +47,10 @@ module _ (o : Bool) (f : List ℕ) (w : Course) (low : w .at ≤ length f) where
       by-verdict Fine e = by-end (both-right (emptied r) (framing o r) (both-left (both (emptied r) (framing o r)) (judgement o w (tupAt o r)) e)) (digest o (tupAt o r) .ends)
       by-verdict (Fault c p) e = tt
 
+-- of a turn that goes on
+pub onward-of : (o : Bool) (f : List ℕ) (w v : Course) → w .at ≤ length f → turn o f w ≡ go v → Onward f w v
+onward-of o f w v h e = subst (Goes f w) e (goes o f w h)
+
 -- the loop's invariant: what is still to come of the turns is the whole answer
 pub record Going (o : Bool) (f : List ℕ) (w : Course) : Type 0 where
   pub few : w .count * 16 + 4 ≤ w .at
@@ -68,7 +72,7 @@ module _ (o : Bool) (f : List ℕ) (w : Course) (g : Going o f w) where
 
   pub again : (v : Course) → turn o f w ≡ go v → Going o f v × (length f - v .at < length f - w .at)
   again v e =
-      let n : Onward f w v = subst (Goes f w) e (goes o f w (g .within)) in (
+      let n = onward-of o f w v (g .within) e in (
         record {
           few = omega (arith, g .few, n .count, n .long);
           within = n .within;

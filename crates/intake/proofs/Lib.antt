@@ -1,3 +1,10 @@
 pub mod Turns
 pub mod Accepted
 pub mod Going
+pub mod Judges
+pub mod Said
+pub mod Tallies
+pub mod Asks
+pub mod Checks
+pub mod Lines
+pub mod Seeks

@@ -49,9 +49,13 @@ abbrev pub askCourse : List ℕ → ℕ → ℕ → Option Course → Asked
 askCourse f p n none = Refused 9 p
 askCourse f p n (some w) = askItem w p n (itemOf (isMsb f) (tupAt (isMsb f) (drop p f)))
 
+-- in an accepted file of n tuples
+unfoldable pub askAccepted : List ℕ → ℕ → ℕ → Asked
+askAccepted f p n = askCourse f p n (courseTo (length f) (isMsb f) f p begin)
+
 -- the check's refusals first, for the whole file
 abbrev pub askChecked : List ℕ → ℕ → Answer → Asked
-askChecked f p (Accepted n m) = askCourse f p n (courseTo (length f) (isMsb f) f p begin)
+askChecked f p (Accepted n m) = askAccepted f p n
 askChecked f p (the-variants.Refused c q) = Refused c q
 
 unfoldable pub askAt : List ℕ → ℕ → Asked

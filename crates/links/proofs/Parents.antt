@@ -123,6 +123,9 @@ steady-note s (Link.channel c x) h e =
     rw (append-nil (s .sounders)) (h .docs, apart-snoc idOf (s .channels) y (h .ids) (p .0), housed-snoc (s .sounders) (s .channels) y (h .housed) (not-false _ (p .1 .1 .0)))
 steady-note s (Link.names c) h e = rw (append-nil (s .sounders), append-nil (s .channels)) (h .docs, h .ids, h .housed)
 
+pub steady-past : (s : Links) (d : Digest) → Steady s → judged (linkRules s (d .link)) ≡ Fine → Steady (note s d)
+steady-past s d h e = let n = steady-note s (d .link) h e in record { docs = n .0; ids = n .1; housed = n .2 }
+
 -- what is kept behind these digests
 abbrev pub upto : Links → List Digest → Links
 upto s [] = s
@@ -133,14 +136,20 @@ pub record Parents (s : Links) (c : SoftwareChannel) : Type 0 where
   pub channel : One idOf (c .0) (s .channels)
   pub sounder : One docOf (channel .it .parent .0) (s .sounders)
 
-pub parents : (first : Bool) (s : Links) (xs : List Digest) (d : Digest) (ys : List Digest) (c : SoftwareChannel) → Steady s → Linked first s (xs ++ (d ∷ ys)) → d .link ≡ Link.names c → Parents (upto s xs) c
-parents f s [] d ys c h l e =
-    let p = passes (linkRules s (Link.names c)) (subst (λ (x : Link). judged (linkRules s x) ≡ Fine) e (linked-here l .1)) in
-    let ch = one idOf (c .0) (s .channels) (h .ids) (not-false _ (p .0)) in
+-- a channel that is declared has its parents
+pub parents-of : (s : Links) (c : SoftwareChannel) → Steady s → declaredChannel c (s .channels) ≡ true → Parents s c
+parents-of s c h e =
+    let ch = one idOf (c .0) (s .channels) (h .ids) e in
     record { channel = ch; sounder = one docOf (ch .it .parent .0) (s .sounders) (h .docs) (housed-in (s .sounders) (s .channels) (ch .it) (h .housed) (ch .there)) }
+
+-- one that a rule of the links lets a tuple name is declared
+pub named-declared : (s : Links) (l : Link) (c : SoftwareChannel) → judged (linkRules s l) ≡ Fine → l ≡ Link.names c → declaredChannel c (s .channels) ≡ true
+named-declared s l c h e = not-false _ (passes (linkRules s (Link.names c)) (subst (λ (x : Link). judged (linkRules s x) ≡ Fine) e h) .0)
+
+pub parents : (first : Bool) (s : Links) (xs : List Digest) (d : Digest) (ys : List Digest) (c : SoftwareChannel) → Steady s → Linked first s (xs ++ (d ∷ ys)) → d .link ≡ Link.names c → Parents (upto s xs) c
+parents f s [] d ys c h l e = parents-of s c h (named-declared s (d .link) c (linked-here l .1) e)
 parents f s (x ∷ xs) d ys c h l e =
-    let n = steady-note s (x .link) h (linked-here l .1) in
-    parents false (note s x) xs d ys c (record { docs = n .0; ids = n .1; housed = n .2 }) (tail xs l) e
+    parents false (note s x) xs d ys c (steady-past s x h (linked-here l .1)) (tail xs l) e
   where
     tail : (us : List Digest) → Linked f s (x ∷ (us ++ (d ∷ ys))) → Linked false (note s x) (us ++ (d ∷ ys))
     tail us q = rest q (some-left us)

@@ -1,0 +1,197 @@
+-- A framed tuple at a place, judged by its length and its type code, as the code's tests tell them; and the verdicts of its parts,
+-- one behind the other. Assumes nothing.
+use mathlib.Core.Path.{_≡_, refl, sym, ap, ap₂, subst, _∙_}
+use mathlib.Core.Bool.{Bool, true, false, not, cond, Bool·beq}
+use mathlib.Core.Logic.{_⊎_, inl, inr, ⊎-elim}
+use mathlib.Core.List.{List, [], _∷_}
+use Prim.Native.Nat.{ℕ, _+_, _-_, _≤_}
+use native.Mathlib.Omega.{arith}
+use borrow.Author.Tests.{eqb-true, leb-true, eq-eqb, ne-eqb, not-false}
+use lib.Dec.{leb, eqb}
+use lib.ListN.{length, take, drop, length-drop}
+use Rattle.rules.specs.Rules.{Rule, _⇒_}
+use Rattle.layout.specs.declared.Verdict.{Verdict}
+use Rattle.layout.specs.declared.Verdict.the-variants.{Fine, Fault}
+use Rattle.layout.specs.Answers.{both, judged}
+use Rattle.layout.specs.Fields.{known}
+use Rattle.layout.specs.Types.{classes, inClass, kindOf, lineOf, shapeOf, fitting}
+use Rattle.layout.proofs.Verdicts.{passes, judged-append}
+use Rattle.frame.specs.Frames.{Tup, kindAt, tupAt, framing}
+use Rattle.frame.proofs.Frames.{both-true}
+use Rattle.frame.proofs.Places.{Whole, framing-whole}
+use Rattle.links.specs.Links.{Link, signRules}
+use Rattle.links.specs.Links
+use Rattle.links.specs.Tables.{sounderVerdict, channelVerdict, nameVerdict}
+use Rattle.samples.specs.Judging.{judgedPairs, judgedWords}
+use Rattle.content.specs.Items.{identifiedBy, headRules, unless, digest}
+use Rattle.content.proofs.Places.{by-code, fieldAt, fits-place, identifier-place, identified-other, link-sounder, link-channel, link-threshold, link-attitude, link-ping-U, link-ping-C, link-alone, inner-U, inner-C, inner-other}
+use Rattle.intake.specs.Tallies.{Here, Fits, headVerdict, linkBy, linkVerdict, innerVerdict, turnVerdict}
+
+-- the tuple at a place; whether its identifier is known; the channel that it names
+abbrev pub tupIn : Bool → List ℕ → ℕ → Tup
+tupIn o f at = tupAt o (drop at f)
+
+abbrev pub identifiedIn : Bool → List ℕ → ℕ → Bool
+identifiedIn o f at = identifiedBy (shapeOf (kindAt o (drop at f))) o (tupIn o f at)
+
+abbrev pub nameIn : Bool → List ℕ → ℕ → List ℕ → Verdict
+nameIn o f at ids = nameVerdict (record { 0 = fieldAt o f at 2 12 }) ids
+
+-- the type codes of a ping or a threshold
+abbrev pub Names : ℕ → Type 0
+Names k = (k ≡ 10000) ⊎ ((k ≡ 10010) ⊎ (k ≡ 10100))
+
+-- 7, then 9 and 8, of a tuple of n bytes and type code k
+abbrev pub headBy : Bool → List ℕ → ℕ → ℕ → ℕ → Bool → List (Rule ℕ)
+headBy o f at n k first =
+    (not (Bool·beq (eqb k 65535) first) ⇒ 7)
+    ∷ (not (fitting (lineOf (kindOf k) .length) n) ⇒ 9)
+    ∷ (not (identifiedIn o f at) ⇒ 8)
+    ∷ []
+
+-- two tests differ
+odd : (a b : Bool) → cond b (not a) a ≡ not (Bool·beq a b)
+odd true true = refl
+odd true false = refl
+odd false true = refl
+odd false false = refl
+
+module _ {o : Bool} {f : List ℕ} {at n k : ℕ} (h : Here o f at n k) where
+  pub whole : Whole o f at n
+  whole = subst (Whole o f at) (h .size) (framing-whole o f at (h .framed))
+
+  -- what links it stands in its first 16 bytes
+  pub room : at + 16 ≤ length f
+  room = omega (arith, whole .long, whole .fits)
+
+  abbrev t : Tup
+  t = tupIn o f at
+
+  -- ---- its head
+  pub head-place : (first : Bool) → headVerdict o first (tupIn o f at) ≡ judged (headBy o f at n k first)
+  unfolding headVerdict
+  head-place first =
+      let signs = by-code o t .signs ∙ ap (λ (j : ℕ). eqb j 65535) (h .kind) in
+      let fits = fits-place o f at n whole ∙ ap (λ (j : ℕ). fitting (lineOf (kindOf j) .length) n) (h .kind) in
+      sym (judged-append (signRules first (digest o t)) (headRules o t))
+      ∙ ap₂ (λ (a b : Bool). judged ((a ⇒ 7) ∷ (not b ⇒ 9) ∷ (not (identifiedIn o f at) ⇒ 8) ∷ []))
+      (ap (λ (a : Bool). cond first (not a) a) signs ∙ odd (eqb k 65535) first) fits
+
+  pub head-fits : {v : Verdict} (first : Bool) → v ≡ headVerdict o first (tupIn o f at) → v ≡ Fine → Fits n k
+  head-fits first e d = not-false _ (passes (headBy o f at n k first) (sym (e ∙ head-place first) ∙ d) .1 .0)
+
+  -- ---- codes of no concern to a rule
+  other : {j : ℕ} → (k ≡ j → ⊥) → kindAt o (drop at f) ≡ j → ⊥
+  other a e = a (sym (h .kind) ∙ e)
+
+  pub no-identifier : (k ≡ 65535 → ⊥) → identifiedIn o f at ≡ true
+  no-identifier a = identified-other o t (other a)
+
+  linked : {l : Link} (docs ids : List ℕ) → digest o t .link ≡ l → linkVerdict o t docs ids ≡ linkBy l docs ids
+  unfolding linkVerdict
+  linked docs ids e = ap (λ (l : Link). linkBy l docs ids) e
+
+  pub no-link : (docs ids : List ℕ) → (k ≡ 100 → ⊥) → (k ≡ 1000 → ⊥) → (k ≡ 40 → ⊥) → (Names k → ⊥) → linkVerdict o (tupIn o f at) docs ids ≡ Fine
+  no-link docs ids s c a m =
+      linked docs ids
+      (link-alone o t
+      (record {
+        sounder = other s;
+        channel = other c;
+        attitude = other a;
+        threshold = other (λ e. m (inr (inr e)));
+        pingU = other (λ e. m (inl e));
+        pingC = other (λ e. m (inr (inl e)));
+      }))
+
+  pub no-inner : (k ≡ 10000 → ⊥) → (k ≡ 10010 → ⊥) → innerVerdict o (tupIn o f at) ≡ Fine
+  unfolding innerVerdict
+  no-inner a b = inner-other o t (other a) (other b)
+
+  -- ---- the others by their codes, where the length fits: a code tells the kind, and the kind the length
+  module _ (g : Fits n k) where
+    kind-of : {j : ℕ} → k ≡ j → kindOf (kindAt o (drop at f)) ≡ kindOf j
+    kind-of e = ap kindOf (h .kind ∙ e)
+
+    length-of : {j : ℕ} → k ≡ j → fitting (lineOf (kindOf j) .length) n ≡ true
+    length-of e = subst (Fits n) e g
+
+    pub long-U : k ≡ 10000 → 40 ≤ n
+    unfolding kindOf inClass classes lineOf
+    long-U e = leb-true 40 n (both-true (leb 40 n) _ (length-of e) .0)
+
+    pub long-C : k ≡ 10010 → 40 ≤ n
+    unfolding kindOf inClass classes lineOf
+    long-C e = leb-true 40 n (both-true (leb 40 n) _ (length-of e) .0)
+
+    pub identifier-read : k ≡ 65535 → identifiedIn o f at ≡ known (fieldAt o f at 2 6)
+    unfolding kindOf inClass classes lineOf
+    identifier-read e = identifier-place o f at n whole (kind-of e) (eqb-true n 24 (length-of e))
+
+    -- what it declares
+    pub sounder-link : k ≡ 100 → digest o (tupIn o f at) .link ≡ Links.sounder (record { 0 = fieldAt o f at 4 8 }) (fieldAt o f at 2 6)
+    unfolding kindOf inClass classes lineOf
+    sounder-link e = link-sounder o f at n whole (kind-of e) (eqb-true n 72 (length-of e))
+
+    pub channel-link : k ≡ 1000 → digest o (tupIn o f at) .link ≡ Links.channel (record { 0 = fieldAt o f at 2 6 }) (record { 0 = fieldAt o f at 4 8 })
+    unfolding kindOf inClass classes lineOf
+    channel-link e = link-channel o f at n whole (kind-of e) (eqb-true n 108 (length-of e))
+
+    -- what links it
+    module _ (docs ids : List ℕ) where
+      pub sounder-place : k ≡ 100 → linkVerdict o (tupIn o f at) docs ids ≡ sounderVerdict (record { 0 = fieldAt o f at 4 8 }) docs
+      sounder-place e = linked docs ids (sounder-link e)
+
+      pub channel-place : k ≡ 1000 → linkVerdict o (tupIn o f at) docs ids ≡ channelVerdict (record { 0 = fieldAt o f at 2 6 }) (record { 0 = fieldAt o f at 4 8 }) ids docs
+      channel-place e = linked docs ids (channel-link e)
+
+      -- an attitude of all channels, and of one
+      attitude : {b : Bool} → k ≡ 40 → eqb (fieldAt o f at 2 12) 65535 ≡ b → linkVerdict o t docs ids ≡ linkBy (unless b (Links.names (record { 0 = fieldAt o f at 2 12 }))) docs ids
+      unfolding kindOf inClass classes lineOf
+      attitude e d =
+          linked docs ids
+          (link-attitude o f at n whole (kind-of e) (eqb-true n 36 (length-of e)) ∙ ap (λ (b : Bool). unless b (Links.names (record { 0 = fieldAt o f at 2 12 }))) d)
+
+      pub attitude-all : k ≡ 40 → fieldAt o f at 2 12 ≡ 65535 → linkVerdict o (tupIn o f at) docs ids ≡ Fine
+      attitude-all e d = attitude e (eq-eqb _ _ d)
+
+      pub attitude-one : k ≡ 40 → (fieldAt o f at 2 12 ≡ 65535 → ⊥) → linkVerdict o (tupIn o f at) docs ids ≡ nameIn o f at ids
+      attitude-one e d = attitude e (ne-eqb _ _ d)
+
+      pub names-place : Names k → linkVerdict o (tupIn o f at) docs ids ≡ nameIn o f at ids
+      unfolding kindOf inClass classes lineOf
+      names-place =
+          ⊎-elim (λ e. linked docs ids (link-ping-U o f at n whole (kind-of e) (long-U e)))
+          (⊎-elim (λ e. linked docs ids (link-ping-C o f at n whole (kind-of e) (long-C e))) (λ e. linked docs ids (link-threshold o f at n whole (kind-of e) (eqb-true n 44 (length-of e)))))
+
+    -- its samples, from behind the header to its last 8 bytes
+    pub inner-pairs : k ≡ 10000 → innerVerdict o (tupIn o f at) ≡ judgedPairs o (take (at + n - 8 - (at + 24)) (drop (at + 24) f))
+    unfolding innerVerdict kindOf inClass classes
+    inner-pairs e =
+        let z : n - 32 ≡ at + n - 8 - (at + 24) = omega (arith, long-U e) in
+        inner-U o f at n whole (kind-of e) (long-U e) ∙ ap (λ (i : ℕ). judgedPairs o (take i (drop (at + 24) f))) z
+
+    pub inner-words : k ≡ 10010 → innerVerdict o (tupIn o f at) ≡ judgedWords o (fieldAt o f at 4 24) (take (at + n - 8 - (at + 28)) (drop (at + 28) f))
+    unfolding innerVerdict kindOf inClass classes
+    inner-words e =
+        let z : n - 36 ≡ at + n - 8 - (at + 28) = omega (arith, long-C e) in
+        inner-C o f at n whole (kind-of e) (long-C e) ∙ ap (λ (i : ℕ). judgedWords o (fieldAt o f at 4 24) (take i (drop (at + 28) f))) z
+
+-- ---- what is said of the bytes that are left, from the tuple's links on, from its head on, and from its frame on
+abbrev pub fromLinks : Bool → Bool → List ℕ → List ℕ → List ℕ → Verdict
+fromLinks o first docs ids r = both (linkVerdict o (tupAt o r) docs ids) (innerVerdict o (tupAt o r))
+
+abbrev pub fromHead : Bool → Bool → List ℕ → List ℕ → List ℕ → Verdict
+fromHead o first docs ids r = both (headVerdict o first (tupAt o r)) (fromLinks o first docs ids r)
+
+abbrev pub fromFrame : Bool → Bool → List ℕ → List ℕ → List ℕ → Verdict
+fromFrame o first docs ids r = both (framing o r) (fromHead o first docs ids r)
+
+module _ (o first : Bool) (docs ids f : List ℕ) (at : ℕ) where
+  pub none-left : length f ≡ at → Fault 4 0 ≡ turnVerdict o first docs ids (drop at f)
+  unfolding turnVerdict
+  none-left e = let z : length (drop at f) ≡ 0 = length-drop at f ∙ omega arith in rw z
+
+  pub some-left : at ≤ length f → (length f ≡ at → ⊥) → fromFrame o first docs ids (drop at f) ≡ turnVerdict o first docs ids (drop at f)
+  unfolding turnVerdict
+  some-left low e = rw (ne-eqb (length (drop at f)) 0 (λ z. e (omega (arith, length-drop at f))))
