@@ -2,12 +2,11 @@
 use mathlib.Core.Path.{_≡_, sym, _∙_}
 use Prim.Native.Nat.{ℕ}
 use mathlib.Core.Bool.{Bool, true, false, not, _||_}
-use mathlib.Core.List.{List, [], _∷_, _++_, map}
+use mathlib.Core.List.{List, [], _∷_, _++_}
 use mathlib.Core.Option.{Option, some, none}
 use lib.Dec.{ltb, eqb}
 use lib.IntN.{ℤ}
 use lib.ListN.{length, drop}
-use Rattle.order.specs.Order.{signedOf}
 use Rattle.rules.specs.Rules.{Rule, _⇒_, firstOf, saying}
 use Rattle.layout.specs.declared.Answer.{Answer}
 use Rattle.layout.specs.declared.Answer.the-variants.{Accepted, Refused}
@@ -19,6 +18,7 @@ use Rattle.frame.specs.Frames.{Tup, tupAt}
 use Rattle.frame.specs.Files.{isMsb}
 use Rattle.frame.specs.Steps.{stepForward}
 use Rattle.samples.specs.Words.{Sample}
+use Rattle.samples.specs.Lists.{numbersOf, valuesOf}
 use Rattle.content.specs.Items.{Item, plain, ping, raw, itemOf, headRules, innerRules}
 
 -- the tuple at a place
@@ -62,13 +62,6 @@ behindRead n numbers values (Refused c p) = Refused c p
 
 unfoldable pub sampleAnswer : List ℕ → ℕ → ℕ → ℕ → Answer
 sampleAnswer f p numbers values = behindRead (length (samplesAt f p)) numbers values (readAnswer isPing f p)
-
--- sample numbers and signed values, one entry for each sample
-abbrev pub numbersOf : List Sample → List ℕ
-numbersOf s = map (λ (x : Sample). x .0) s
-
-abbrev pub valuesOf : List Sample → List ℤ
-valuesOf s = map (λ (x : Sample). signedOf 4 (x .1)) s
 
 -- ---- the promises, and that they settle answer and memory
 pub record SamplesRead (f : List ℕ) (p : ℕ) (numbers : List ℕ) (values : List ℤ) (r : Answer) (ns : List ℕ) (vs : List ℤ) : Type 0 where

@@ -6,7 +6,6 @@ use mathlib.Core.List.{List, [], _∷_, _++_}
 use lib.Dec.{ltb, eqb}
 use lib.IntN.{ℤ}
 use lib.ListN.{length}
-use Rattle.order.specs.Order.{patternOf}
 use Rattle.rules.specs.Rules.{Rule, _⇒_, firstOf}
 use Rattle.layout.specs.declared.Answer.{Answer}
 use Rattle.layout.specs.declared.Answer.the-variants.{Accepted, Refused}
@@ -15,6 +14,7 @@ use Rattle.layout.specs.Types.{fitting, lengthsOf}
 use Rattle.frame.specs.Frames.{Tup, lengthOf, frame}
 use Rattle.turning.specs.Rows.{Value, number, text}
 use Rattle.samples.specs.Words.{Sample}
+use Rattle.samples.specs.Lists.{paired}
 use Rattle.samples.specs.Judging.{most, firstDrop, firstWordless}
 use Rattle.content.specs.Pings.{Ping}
 use Rattle.content.specs.Forms.{plainTuple, tupleU, tupleC}
@@ -53,11 +53,6 @@ abbrev pub endData : Value
 endData = text (0 ∷ 0 ∷ [])
 
 -- ---- ping writers: numbers and values handed over apart
-abbrev pub paired : List ℕ → List ℤ → List Sample
-paired [] vs = []
-paired (n ∷ ns) [] = []
-paired (n ∷ ns) (v ∷ vs) = (n, patternOf 4 v) ∷ paired ns vs
-
 -- unequal in count: 10 at the smaller; 11 (count)
 abbrev pub countRules : List ℕ → List ℤ → List (Rule Answer)
 countRules ns vs =

@@ -1,3 +1,4 @@
 pub mod Words
+pub mod Lists
 pub mod Runs
 pub mod Judging
