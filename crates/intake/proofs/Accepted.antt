@@ -33,7 +33,7 @@ use Rattle.content.proofs.Fine.{Sound}
 use Rattle.intake.specs.Check.{Course, begin, endRules, ending, Turn, past, onward, after, turn, checkFrom, checkFile}
 use Rattle.intake.proofs.Turns.{emptied, judgement, turn-parts, Judged, judged-parts, parts-judged, settle, from-suc}
 
-isAccepted : Answer → Bool
+abbrev pub isAccepted : Answer → Bool
 isAccepted (Accepted n m) = true
 isAccepted (Refused c p) = false
 
@@ -90,7 +90,7 @@ module _ (o : Bool) (f : List ℕ) where
       own = record { framed = framed o r (bytes-drop (w .at) f b) g; head = j .head; inner = j .inner }
 
       found-end : digest o t .ends ≡ true → ending f w⁺ ≡ Accepted n m → Found o f w n m
-      unfolding ending isAccepted r w⁺
+      unfolding ending r w⁺
       found-end h e =
           let c = clear isAccepted (endRules f w⁺) (Accepted (w⁺ .count) 0) (Accepted n m) (refl, (refl, (refl, tt))) e refl in
           let done : drop (w⁺ .at) f ≡ [] = drop-of-length-le f (ltb-false (w⁺ .at) (length f) (c .0 .0)) in
@@ -142,7 +142,7 @@ module _ (o : Bool) (f : List ℕ) where
   abbrev act : Course → Verdict → Tup → ℕ → Turn
   act w v t n = after o f w t n (both v (judgement o w t))
 
-  whole-turn : (t : Tup) (r : List ℕ) (w : Course) → drop (w .at) f ≡ frame o t ++ r → Framed t → turn o f w ≡ act w Fine t (lengthOf t)
+  pub whole-turn : (t : Tup) (r : List ℕ) (w : Course) → drop (w .at) f ≡ frame o t ++ r → Framed t → turn o f w ≡ act w Fine t (lengthOf t)
   whole-turn t r w e g =
       turn-parts o f w
       ∙ ap (λ (x : List ℕ). act w (both (emptied x) (framing o x)) (tupAt o x) (lenAt o x)) e
@@ -200,7 +200,7 @@ all-framed o [] f = tt
 all-framed o (t ∷ ts) f = (f .0 .framed, all-framed o ts (f .1))
 
 pub accepted-file : (f : List ℕ) → Bytes f → (n m : ℕ) → checkFile f ≡ Accepted n m → (a : Division f) × (n ≡ length (a .tuples)) × (m ≡ 0) × (a .msb ≡ isMsb f)
-unfolding checkFile isAccepted
+unfolding checkFile
 accepted-file f b n m e =
     let c = clear isAccepted (saying (λ (c : ℕ). Refused c 0) (fileRules f)) (checkFrom (length f) (isMsb f) f begin) (Accepted n m) (refl, (refl, tt)) e refl in
     let g = found (isMsb f) f b (length f) begin n m (c .1) in (

@@ -1,0 +1,70 @@
+-- Demand 2 in words, of the links: the one channel that a ping names, that channel's one sounder, and what asking gives. Assumes
+-- nothing.
+use mathlib.Core.Path.{_≡_}
+use mathlib.Core.Logic.{_⊎_}
+use mathlib.Core.Bool.{Bool}
+use mathlib.Core.List.{List, _∷_, _++_}
+use Prim.Native.Nat.{ℕ, _+_}
+use lib.ListN.{length}
+use Rattle.layout.specs.declared.SoftwareChannel.{SoftwareChannel}
+use Rattle.layout.specs.declared.DocumentId.{DocumentId}
+use Rattle.frame.specs.Frames.{Tup, frames}
+use Rattle.frame.specs.Files.{isMsb}
+use Rattle.frame.specs.Tuples.{tuplesOf}
+use Rattle.links.specs.Links.{Link}
+use Rattle.content.specs.Pings.{Ping}
+use Rattle.content.specs.Items.{numberAt, digest}
+use Rattle.intake.specs.declared.Asked.{Asked}
+use Rattle.intake.specs.Asking.{askAt}
+
+-- ---- one tuple among others
+pub record Among (xs : List Tup) : Type 0 where
+  pub before : List Tup
+  pub it : Tup
+  pub behind : List Tup
+  pub split : xs ≡ before ++ (it ∷ behind)
+
+-- exactly one of these tuples is of this kind, and where it stands
+pub record Sole (P : Tup → Type 0) (xs : List Tup) : Type 0 where
+  pub one : Among xs
+  pub is : P (one .it)
+  pub only : (a : Among xs) → P (a .it) → a .before ≡ one .before
+
+-- ---- a family
+-- a channel tuple that declares c, and a sounder tuple that declares d
+abbrev pub ChannelTuple : Bool → SoftwareChannel → Tup → Type 0
+ChannelTuple o c t = (d : DocumentId) × (digest o t .link ≡ Link.channel c d)
+
+abbrev pub SounderTuple : Bool → DocumentId → Tup → Type 0
+SounderTuple o d t = (n : ℕ) × (digest o t .link ≡ Link.sounder d n)
+
+-- the parents of what names a channel behind these tuples: the one tuple that declares it, and the one tuple before that which
+-- declares the sounder it names
+pub record Family (o : Bool) (xs : List Tup) (c : SoftwareChannel) : Type 0 where
+  pub channel : Sole (ChannelTuple o c) xs
+  pub sounder : Sole (SounderTuple o (channel .is .0)) (channel .one .before)
+
+-- ---- a listed ping
+-- the channel that a ping's header names
+abbrev pub channelIn : Ping → SoftwareChannel
+channelIn q = record { 0 = numberAt (q .head) 2 }
+
+-- a ping of a listed type
+abbrev pub Listed : Tup → Type 0
+Listed t = (t .kind ≡ 10000) ⊎ (t .kind ≡ 10010)
+
+-- ---- asking
+-- the place behind the mark and these tuples
+abbrev pub placeAfter : Bool → List Tup → ℕ
+placeAfter o xs = 4 + length (frames o xs)
+
+-- the parents and their places, for the answer
+abbrev pub gives : {o : Bool} {xs : List Tup} {c : SoftwareChannel} → Family o xs c → ℕ → Asked
+gives {o} {xs} {c} g n = Asked.Parents c (placeAfter o (g .channel .one .before)) (g .channel .is .0) (placeAfter o (g .sounder .one .before)) n
+
+-- what asking at a ping gives: the channel that it names, the channel's family, and the answer by these
+pub record Answered (f : List ℕ) (a : Among (tuplesOf f)) (n : ℕ) : Type 0 where
+  pub channel : SoftwareChannel
+  pub names : digest (isMsb f) (a .it) .link ≡ Link.names channel
+  pub family : Family (isMsb f) (a .before) channel
+  pub answer : askAt f (placeAfter (isMsb f) (a .before)) ≡ gives family n
