@@ -53,7 +53,7 @@ drops-later n x s h = one-more _ _ (length s) (drop-later n x s h)
 
 -- ---- words: the word w at p, and those from p + 4 on
 module _ (o : Bool) (part : List ℕ) (p w : ℕ) (h : 4 ≤ length part - p) (e : w ≡ wordAt 4 o part p) where
-  next : wordsFrom 4 o part p ≡ w ∷ wordsFrom 4 o part (p + 4)
+  pub next : wordsFrom 4 o part p ≡ w ∷ wordsFrom 4 o part (p + 4)
   next = rw e (from-cons 4 o part p (lit< tt) (omega arith))
 
   pub values-turn : (n : ℕ) (run : Bool) → run ≡ isRun radix w
@@ -77,7 +77,7 @@ module _ (o : Bool) (part : List ℕ) (p : ℕ) (h : length part - p < 4) where
 -- ---- pairs: the number x at p, where n is the least that may stand there, and the pairs from p + 8 on
 module _ (o : Bool) (part : List ℕ) (p n : ℕ) where
   module _ (x : ℕ) (h : 8 ≤ length part - p) (e : x ≡ wordAt 4 o part p) where
-    next-pair : pairUp (wordsFrom 4 o part p) ≡ (x, wordAt 4 o part (p + 4)) ∷ pairUp (wordsFrom 4 o part (p + 8))
+    pub next-pair : pairUp (wordsFrom 4 o part p) ≡ (x, wordAt 4 o part (p + 4)) ∷ pairUp (wordsFrom 4 o part (p + 8))
     next-pair = pairs-next o part p (omega arith) ∙ ap (λ (y : ℕ). (y, wordAt 4 o part (p + 4)) ∷ pairUp (wordsFrom 4 o part (p + 8))) (sym e)
 
     pub drop-found : x < n → anyDrop n (pairUp (wordsFrom 4 o part p)) ≡ true

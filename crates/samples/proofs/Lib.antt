@@ -4,3 +4,4 @@ pub mod Values
 pub mod Rising
 pub mod Leading
 pub mod Judging
+pub mod Handing

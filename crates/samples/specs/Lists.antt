@@ -1,7 +1,8 @@
 -- Samples handed over apart: sample numbers, and signed values. Assumes nothing.
-use Prim.Native.Nat.{ℕ}
+use Prim.Native.Nat.{ℕ, _≤_}
 use mathlib.Core.List.{List, [], _∷_, map}
 use lib.IntN.{ℤ}
+use lib.ListN.{length}
 use Rattle.order.specs.Order.{signedOf, patternOf}
 use Rattle.samples.specs.Words.{Sample}
 
@@ -17,3 +18,8 @@ abbrev pub paired : List ℕ → List ℤ → List Sample
 paired [] vs = []
 paired (n ∷ ns) [] = []
 paired (n ∷ ns) (v ∷ vs) = (n, patternOf 4 v) ∷ paired ns vs
+
+-- both slices hold as many
+pub record Room (s : List Sample) (numbers : List ℕ) (values : List ℤ) : Type 0 where
+  pub forNumbers : length s ≤ length numbers
+  pub forValues : length s ≤ length values
