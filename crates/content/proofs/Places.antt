@@ -25,10 +25,11 @@ use Rattle.frame.proofs.Places.{Whole, body-place}
 use Rattle.links.specs.Links.{Link, Digest}
 use Rattle.links.specs.Links
 use Rattle.samples.specs.Words.{allWords, pairUp}
+use Rattle.samples.specs.Runs.{radix, decode}
 use Rattle.samples.specs.Judging.{pairRules, wordRules, judgedPairs, judgedWords}
 use Rattle.layout.specs.declared.Verdict.the-variants.{Fine}
 use Rattle.layout.specs.Answers.{judged}
-use Rattle.content.specs.Pings.{headU, headC, wordsIn, countIn, contentU, contentC}
+use Rattle.content.specs.Pings.{Ping, headU, headC, wordsIn, countIn, contentU, contentC}
 use Rattle.content.specs.Items.{Item, plain, ping, raw, rowIn, itemBy, itemOf, identifiedBy, innerBy, innerRules, numberAt, unless, linkBy, digestOf, digestItem, digest}
 
 -- ---- what a shape tells of the type code
@@ -192,21 +193,34 @@ module _ (o : Bool) (f : List ℕ) (at n : ℕ) (w : Whole o f at n) where
       and-true true = refl
       and-true false = refl
 
+  -- the words of a ping stand behind its header
+  words-U : 40 ≤ n → wordsIn 18 o (t .body) ≡ allWords 4 o (take (n - 32) (drop (at + 24) f))
+  words-U h = let z : n - 14 - 18 ≡ n - 32 = omega arith in words-place 18 (omega arith) ∙ ap (λ (i : ℕ). allWords 4 o (take i (drop (at + 24) f))) z
+
+  words-C : 40 ≤ n → wordsIn 22 o (t .body) ≡ allWords 4 o (take (n - 36) (drop (at + 28) f))
+  words-C h = let z : n - 14 - 22 ≡ n - 36 = omega arith in words-place 22 (omega arith) ∙ ap (λ (i : ℕ). allWords 4 o (take i (drop (at + 28) f))) z
+
   pub inner-U : kindOf (kindAt o (drop at f)) ≡ PingU → 40 ≤ n → judged (innerRules o (tupAt o (drop at f))) ≡ judgedPairs o (take (n - 32) (drop (at + 24) f))
   unfolding lineOf contentU judgedPairs t
-  inner-U e h =
-      let z : n - 14 - 18 ≡ n - 32 = omega arith in
-      ap (λ (x : Kind). judged (innerBy (lineOf x .shape) o t)) e
-      ∙ ap (λ (ws : List ℕ). judged (pairRules (pairUp ws))) (words-place 18 (omega arith) ∙ ap (λ (i : ℕ). allWords 4 o (take i (drop (at + 24) f))) z)
+  inner-U e h = ap (λ (x : Kind). judged (innerBy (lineOf x .shape) o t)) e ∙ ap (λ (ws : List ℕ). judged (pairRules (pairUp ws))) (words-U h)
 
   pub inner-C : kindOf (kindAt o (drop at f)) ≡ PingC → 40 ≤ n
       → judged (innerRules o (tupAt o (drop at f))) ≡ judgedWords o (fieldAt o f at 4 24) (take (n - 36) (drop (at + 28) f))
   unfolding lineOf judgedWords countIn t
   inner-C e h =
-      let z : n - 14 - 22 ≡ n - 36 = omega arith in
       ap (λ (x : Kind). judged (innerBy (lineOf x .shape) o t)) e
-      ∙ ap₂ (λ (i : ℕ) (ws : List ℕ). judged (wordRules i ws)) (ap (numOf o) (field-place 18 4 (omega arith)))
-      (words-place 22 (omega arith) ∙ ap (λ (i : ℕ). allWords 4 o (take i (drop (at + 28) f))) z)
+      ∙ ap₂ (λ (i : ℕ) (ws : List ℕ). judged (wordRules i ws)) (ap (numOf o) (field-place 18 4 (omega arith))) (words-C h)
+
+  -- and say its samples
+  pub samples-U : kindOf (kindAt o (drop at f)) ≡ PingU → 40 ≤ n
+      → (q : Ping) × (itemOf o (tupAt o (drop at f)) ≡ some (ping q)) × (q .samples ≡ pairUp (allWords 4 o (take (n - 32) (drop (at + 24) f))))
+  unfolding lineOf itemOf contentU t
+  samples-U e h = (contentU o (t .body), ap (λ (x : Kind). itemBy (lineOf x .shape) o t) e, ap pairUp (words-U h))
+
+  pub samples-C : kindOf (kindAt o (drop at f)) ≡ PingC → 40 ≤ n
+      → (q : Ping) × (itemOf o (tupAt o (drop at f)) ≡ some (ping q)) × (q .samples ≡ decode radix (allWords 4 o (take (n - 36) (drop (at + 28) f))))
+  unfolding lineOf itemOf contentC t
+  samples-C e h = (contentC o (t .body), ap (λ (x : Kind). itemBy (lineOf x .shape) o t) e, ap (decode radix) (words-C h))
 
 -- ---- codes of no concern to a rule: each is passed over by its code
 module _ (o : Bool) (t : Tup) where

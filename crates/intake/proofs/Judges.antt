@@ -23,9 +23,9 @@ use Rattle.links.specs.Links.{Link, signRules}
 use Rattle.links.specs.Links
 use Rattle.links.specs.Tables.{sounderVerdict, channelVerdict, nameVerdict}
 use Rattle.samples.specs.Judging.{judgedPairs, judgedWords}
-use Rattle.content.specs.Items.{identifiedBy, headRules, unless, digest}
+use Rattle.content.specs.Items.{identifiedBy, headRules, innerRules, unless, digest}
 use Rattle.content.proofs.Places.{by-code, fieldAt, fits-place, identifier-place, identified-other, link-sounder, link-channel, link-threshold, link-attitude, link-ping-U, link-ping-C, link-alone, inner-U, inner-C, inner-other}
-use Rattle.intake.specs.Tallies.{Here, Fits, headVerdict, linkBy, linkVerdict, innerVerdict, turnVerdict}
+use Rattle.intake.specs.Tallies.{Here, Fits, headVerdict, linkBy, linkVerdict, innerVerdict, ownVerdict, turnVerdict}
 
 -- the tuple at a place; whether its identifier is known; the channel that it names
 abbrev pub tupIn : Bool → List ℕ → ℕ → Tup
@@ -79,6 +79,22 @@ module _ {o : Bool} {f : List ℕ} {at n k : ℕ} (h : Here o f at n k) where
 
   pub head-fits : {v : Verdict} (first : Bool) → v ≡ headVerdict o first (tupIn o f at) → v ≡ Fine → Fits n k
   head-fits first e d = not-false _ (passes (headBy o f at n k first) (sym (e ∙ head-place first) ∙ d) .1 .0)
+
+  -- where a signature may stand, its head breaks its own rules alone
+  signed : (b : Bool) (v : Verdict) → both (judged ((cond b (not b) b ⇒ 7) ∷ [])) v ≡ v
+  signed true v = refl
+  signed false v = refl
+
+  own-head : headVerdict o (eqb k 65535) (tupIn o f at) ≡ judged (headRules o (tupIn o f at))
+  unfolding headVerdict
+  own-head =
+      let signs = by-code o t .signs ∙ ap (λ (j : ℕ). eqb j 65535) (h .kind) in
+      ap (λ (a : Bool). both (judged ((cond (eqb k 65535) (not a) a ⇒ 7) ∷ [])) (judged (headRules o t))) signs ∙ signed (eqb k 65535) (judged (headRules o t))
+
+  -- 9 and 8, then 11 and 10
+  pub own-parts : both (headVerdict o (eqb k 65535) (tupIn o f at)) (innerVerdict o (tupIn o f at)) ≡ ownVerdict o (tupIn o f at)
+  unfolding innerVerdict ownVerdict
+  own-parts = ap (λ (v : Verdict). both v (judged (innerRules o t))) own-head ∙ sym (judged-append (headRules o t) (innerRules o t))
 
   -- ---- codes of no concern to a rule
   other : {j : ℕ} → (k ≡ j → ⊥) → kindAt o (drop at f) ≡ j → ⊥

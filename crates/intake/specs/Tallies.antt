@@ -2,7 +2,7 @@
 use mathlib.Core.Path.{_≡_}
 use Prim.Native.Nat.{ℕ, _+_, _*_, _≤_, _<_}
 use mathlib.Core.Bool.{Bool, true, false, cond, not, _&&_, _||_}
-use mathlib.Core.List.{List, [], _∷_}
+use mathlib.Core.List.{List, [], _∷_, _++_}
 use lib.Dec.{ltb, leb, eqb}
 use lib.ListN.{length, take, drop, getD, set}
 use Rattle.order.specs.Order.{numOf}
@@ -111,6 +111,10 @@ linkVerdict o t docs ids = linkBy (digest o t .link) docs ids
 -- 11, 10
 unfoldable pub innerVerdict : Bool → Tup → Verdict
 innerVerdict o t = judged (innerRules o t)
+
+-- a tuple's own rules: 9, 8, 11, 10
+unfoldable pub ownVerdict : Bool → Tup → Verdict
+ownVerdict o t = judged (headRules o t ++ innerRules o t)
 
 -- all of them, of what is left of the file: 4; 3, 5, 3, 6; then the tuple's
 unfoldable pub turnVerdict : Bool → Bool → List ℕ → List ℕ → List ℕ → Verdict

@@ -16,7 +16,7 @@ ghost use Rattle.order.specs.Order.{numOf};
 ghost use Rattle.frame.specs.Frames.{tupAt};
 ghost use Rattle.frame.specs.Files.{limit};
 ghost use Rattle.links.specs.Tables.{nameVerdict};
-ghost use Rattle.intake.specs.Tallies.{Here, Fits, headVerdict, linkVerdict, innerVerdict, turnVerdict, tallyBegin, tallyPast, Standing, Ended, endAnswer, columns, Sized, TurnedTo, AskIn, askColumns, AcceptedFile};
+ghost use Rattle.intake.specs.Tallies.{Here, Fits, headVerdict, linkVerdict, innerVerdict, ownVerdict, turnVerdict, tallyBegin, tallyPast, Standing, Ended, endAnswer, columns, Sized, TurnedTo, AskIn, askColumns, AcceptedFile};
 ghost use Rattle.intake.specs.Check.{Checked};
 ghost use Rattle.intake.specs.Asking.{AskedFor, askAccepted};
 
@@ -32,13 +32,13 @@ const DOCUMENT: usize = 8;
 const NAMED_CHANNEL: usize = 12;
 
 // Where a U-32 ping's pairs begin; where a C-32 ping's number of samples and its words stand; the bytes behind both.
-const PAIRS: usize = 24;
+pub const PAIRS: usize = 24;
 
-const COUNT: usize = 24;
+pub const COUNT: usize = 24;
 
-const WORDS: usize = 28;
+pub const WORDS: usize = 28;
 
-const TAIL: usize = 8;
+pub const TAIL: usize = 8;
 
 // In an attitude this means all channels.
 const ALL_CHANNELS: u16 = 65535;
@@ -202,6 +202,17 @@ fn judge(
         return linked;
     };
     judge_inner(file, at, msb, whole, code)
+}
+
+// A tuple's own rules, whatever stands before it: 9 and 8, then 11 and 10. A signature that stands first breaks no 7.
+pub fn judge_own(file: &[u8], at: usize, msb: bool, whole: usize, code: u16) -> Verdict
+    requires { ⌜ Here msb (now file) at whole code ⌝ }
+    ensures { λ r. ⌜ r ≡ ownVerdict msb (tupAt msb (drop at (now (file .entry)))) ⌝ }
+{
+    match judge_head(file, at, msb, whole, code, code == types::SIGNATURE) {
+        Verdict::Fault { code, offset } => Verdict::Fault { code, offset },
+        Verdict::Fine => judge_inner(file, at, msb, whole, code),
+    }
 }
 
 // Either of two.
@@ -421,7 +432,7 @@ pub fn check(file: &[u8]) -> Answer
 }
 
 // Whether a type code is a listed ping's.
-fn is_ping(code: u16) -> bool
+pub fn is_ping(code: u16) -> bool
     ensures { λ r. ⌜ r ≡ eqb code 10000 || eqb code 10010 ⌝ }
 {
     if code == types::PING_U {

@@ -11,6 +11,8 @@ use Rattle.rules.specs.Rules.{Rule, _⇒_, firstOf, saying}
 use Rattle.layout.specs.declared.Answer.{Answer}
 use Rattle.layout.specs.declared.Answer.the-variants.{Accepted, Refused}
 use Rattle.layout.specs.Answers.{leftBy}
+use Rattle.layout.specs.declared.Verdict.the-variants.{Fine}
+use Rattle.frame.specs.declared.Walk.{Walk}
 use Rattle.frame.specs.declared.Step.{Step}
 use Rattle.frame.specs.declared.Step.the-variants.{Tuple, End}
 use Rattle.frame.specs.declared.Step.the-variants
@@ -19,6 +21,7 @@ use Rattle.frame.specs.Files.{isMsb}
 use Rattle.frame.specs.Steps.{stepForward}
 use Rattle.samples.specs.Words.{Sample}
 use Rattle.samples.specs.Lists.{numbersOf, valuesOf}
+use Rattle.intake.specs.Tallies.{ownVerdict}
 use Rattle.content.specs.Items.{Item, plain, ping, raw, itemOf, headRules, innerRules}
 
 -- the tuple at a place
@@ -55,13 +58,34 @@ samplesAt f p = samplesBy (readItem f p)
 abbrev pub isPing : ℕ → Bool
 isPing k = eqb k 10000 || eqb k 10010
 
--- the ping's own refusals; 19 where either slice is short, last; the samples written
+-- n samples are handed over: 19 where either slice is short
+abbrev pub handAnswer : ℕ → ℕ → ℕ → Answer
+handAnswer n numbers values = firstOf ((ltb numbers n || ltb values n ⇒ Refused 19 0) ∷ []) (Accepted 1 n)
+
+-- the ping's own refusals, then these
 abbrev pub behindRead : ℕ → ℕ → ℕ → Answer → Answer
-behindRead n numbers values (Accepted k m) = firstOf ((ltb numbers n || ltb values n ⇒ Refused 19 0) ∷ []) (Accepted 1 n)
+behindRead n numbers values (Accepted k m) = handAnswer n numbers values
 behindRead n numbers values (Refused c p) = Refused c p
 
 unfoldable pub sampleAnswer : List ℕ → ℕ → ℕ → ℕ → Answer
 sampleAnswer f p numbers values = behindRead (length (samplesAt f p)) numbers values (readAnswer isPing f p)
+
+-- samples handed over: the answer, and what the slices hold then
+pub record Handed (s : List Sample) (numbers : List ℕ) (values : List ℤ) (r : Answer) (ns : List ℕ) (vs : List ℤ) : Type 0 where
+  pub answer : r ≡ handAnswer (length s) (length numbers) (length values)
+  pub numbersLeft : ns ≡ leftBy (handAnswer (length s) (length numbers) (length values)) (numbersOf s) numbers
+  pub valuesLeft : vs ≡ leftBy (handAnswer (length s) (length numbers) (length values)) (valuesOf s) values
+
+-- a step forward finds a tuple of n bytes and of a type code
+pub record Found (f : List ℕ) (p n k : ℕ) : Type 0 where
+  pub walk : Walk
+  pub step : stepForward f p ≡ Tuple p n k walk
+
+-- it is a listed ping that keeps its own rules
+pub record SoundPing (f : List ℕ) (p n k : ℕ) : Type 0 where
+  pub found : Found f p n k
+  pub asked : isPing k ≡ true
+  pub own : ownVerdict (isMsb f) (tupleThere f p) ≡ Fine
 
 -- ---- the promises, and that they settle answer and memory
 pub record SamplesRead (f : List ℕ) (p : ℕ) (numbers : List ℕ) (values : List ℤ) (r : Answer) (ns : List ℕ) (vs : List ℤ) : Type 0 where
