@@ -6,12 +6,12 @@ use mathlib.Core.List.{List, [], _∷_, _++_}
 use mathlib.Core.Option.{Option, some}
 use Prim.Native.Nat.{ℕ, _+_, _-_, _%_, _≤_}
 use native.Mathlib.Omega.{arith}
-use borrow.Author.Tests.{eqb-true, leb-true, not-false}
+use borrow.Author.Tests.{eqb-true, leb-true, ltb-false, not-false}
 use lib.Dec.{eqb, leb, lit<}
 use lib.IntN.{ℤ}
 use lib.ListN.{length, take, drop, length-drop}
 use lib.Seq.{length-take-le}
-use Rattle.rules.specs.Rules.{Rule, _⇒_, firstOf, saying}
+use Rattle.rules.specs.Rules.{Rule, _⇒_, firstOf, saying, AllPass}
 use Rattle.layout.specs.declared.Answer.{Answer}
 use Rattle.layout.specs.declared.Answer.the-variants.{Accepted, Refused}
 use Rattle.layout.specs.declared.Verdict.the-variants.{Fine, Fault}
@@ -37,6 +37,7 @@ use Rattle.content.specs.Items.{Item, ping, itemOf, headRules, innerRules}
 use Rattle.content.proofs.Places.{fieldAt, samples-U, samples-C}
 use Rattle.intake.specs.Tallies.{Here, Fits, innerVerdict, headVerdict, ownVerdict}
 use Rattle.intake.proofs.Judges.{head-fits, own-parts, long-U, long-C, inner-words}
+use Rattle.records.proofs.Handing.{length-pairs}
 use Rattle.records.specs.Readers.{tupleThere, readAnswer, isPing, samplesBy, samplesAt, sampleAnswer, Handed, Found, SoundPing, SamplesRead}
 
 -- ---- nothing is found
@@ -123,14 +124,17 @@ module _ {f : List ℕ} {p n k : ℕ} (s : SoundPing f p n k) where
       let z : n - 36 ≡ p + n - 8 - (p + 28) = omega (arith, long) in
       taken (q .0) (q .1) ∙ q .2 ∙ ap (λ (i : ℕ). decode radix (allWords 4 (isMsb f) (take i (drop (p + 28) f)))) z
 
+  -- its words keep the rules
+  kept : k ≡ 10010 → AllPass (wordRules (fieldAt (isMsb f) f p 4 24) (allWords 4 (isMsb f) (take (p + n - 8 - (p + 28)) (drop (p + 28) f))))
+  unfolding judgedWords
+  kept e = passes (wordRules (fieldAt (isMsb f) f p 4 24) (allWords 4 (isMsb f) (take (p + n - 8 - (p + 28)) (drop (p + 28) f)))) (sym (inner-words h fits e) ∙ both-right (headVerdict (isMsb f) (eqb k 65535) (tupleThere f p)) _ parts)
+
+  few-words : k ≡ 10010 → length (samplesAt f p) ≤ 32764
+  few-words e = rw (words-there e, length-decode radix (lit< tt)) (ltb-false _ _ (kept e .0))
+
   -- its number of samples is the number of its values
   pub count-there : k ≡ 10010 → fieldAt (isMsb f) f p 4 24 ≡ length (decode radix (allWords 4 (isMsb f) (take (p + n - 8 - (p + 28)) (drop (p + 28) f))))
-  unfolding judgedWords
-  count-there e =
-      let part = take (p + n - 8 - (p + 28)) (drop (p + 28) f) in
-      let ws = allWords 4 (isMsb f) part in
-      let v : judged (wordRules (fieldAt (isMsb f) f p 4 24) ws) ≡ Fine = sym (inner-words h fits e) ∙ both-right (headVerdict (isMsb f) (eqb k 65535) (tupleThere f p)) _ parts in
-      eqb-true _ _ (not-false _ (passes (wordRules (fieldAt (isMsb f) f p 4 24) ws) v .1 .1 .0)) ∙ sym (length-decode radix (lit< tt) ws 0)
+  count-there e = eqb-true _ _ (not-false _ (kept e .1 .1 .0)) ∙ sym (length-decode radix (lit< tt) _ 0)
 
   -- it is long enough for its samples, and stands in the file
   pub whole-there : (40 ≤ n) × (n ≤ 262144) × (p + n ≤ length f)
@@ -153,3 +157,19 @@ module _ {f : List ℕ} {p n k : ℕ} (s : SoundPing f p n k) where
       by : (b : Bool) → eqb k 10000 ≡ b → k ≡ 10010
       by true e = absurd (a (eqb-true k 10000 e))
       by false e = eqb-true k 10010 (ap (λ (b : Bool). b || eqb k 10010) (sym e) ∙ s .asked)
+
+  -- a listed ping holds at most 32,764 samples: for pairs by the bytes of a tuple alone, so that 11 comes from C-32 alone
+  pub few-samples : length (samplesAt f p) ≤ 32764
+  few-samples = by (eqb k 10000) refl
+    where
+      r : (40 ≤ n) × (n ≤ 262144) × (p + n ≤ length f)
+      r = whole-there
+
+      few-pairs : length (pairUp (allWords 4 (isMsb f) (take (p + n - 8 - (p + 24)) (drop (p + 24) f)))) ≤ 32764
+      few-pairs =
+          let part = take (p + n - 8 - (p + 24)) (drop (p + 24) f) in
+          omega (arith, r .1, length-pairs (isMsb f) part, length-take-le (p + n - 8 - (p + 24)) (drop (p + 24) f) (simp length-drop (omega (arith, r .0, r .2))))
+
+      by : (b : Bool) → eqb k 10000 ≡ b → length (samplesAt f p) ≤ 32764
+      by true e = rw (pairs-there (eqb-true k 10000 e)) few-pairs
+      by false e = few-words (eqb-true k 10010 (ap (λ (b : Bool). b || eqb k 10010) (sym e) ∙ s .asked))
