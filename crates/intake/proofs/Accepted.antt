@@ -54,7 +54,7 @@ pub record Found (o : Bool) (f : List ℕ) (w : Course) (n m : ℕ) : Type 0 whe
   pub count : n ≡ w .count + length tuples
   pub written : m ≡ 0
 
-refusal : {A : Type 0} (c p n m : ℕ) → Refused c p ≡ Accepted n m → A
+pub refusal : {A : Type 0} (c p n m : ℕ) → Refused c p ≡ Accepted n m → A
 refusal c p n m e = absurd (let z : _≡_ {A = ℕ} 0 1 = cc in omega arith)
 
 -- behind the first tuple there is no first one

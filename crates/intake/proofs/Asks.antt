@@ -22,12 +22,10 @@ use Rattle.content.specs.Items.{digest}
 use Rattle.intake.specs.Check.{Course, begin, tupleRules, Turn, stop, go, past, onward, after, turn, checkFrom}
 use Rattle.intake.specs.Asking.{courseTo}
 use Rattle.intake.proofs.Turns.{emptied, judgement, flat, Judged, judged-parts, settle, from-suc}
+use Rattle.intake.proofs.Accepted.{refusal}
 use Rattle.intake.proofs.Going.{Onward, onward-of}
 
 -- ---- a turn in an accepted rest
-refused-not : {A : Type 0} {c p n m : ℕ} → Refused c p ≡ Accepted n m → A
-refused-not {c = c} {p = p} {n = n} {m = m} e = absurd (let z : _≡_ {A = ℕ} 0 1 = cc in omega arith)
-
 -- what a course of an accepted rest tells of its tuple
 pub record Fair (o : Bool) (f : List ℕ) (w : Course) : Type 0 where
   pub framed : framing o (drop (w .at) f) ≡ Fine
@@ -44,7 +42,7 @@ module _ (o : Bool) (f : List ℕ) (w : Course) (k n m : ℕ) (e : checkFrom (su
       by-verdict : (v : Verdict) → judged (tupleRules o w (drop (w .at) f)) ≡ v
           → settle k o f (after o f w (tupAt o (drop (w .at) f)) (lenAt o (drop (w .at) f)) v) ≡ Accepted n m → judged (tupleRules o w (drop (w .at) f)) ≡ Fine
       by-verdict Fine h q = h
-      by-verdict (Fault c p) h q = refused-not q
+      by-verdict (Fault c p) h q = refusal c _ _ _ q
 
   pub fair : Fair o f w
   unfolding r

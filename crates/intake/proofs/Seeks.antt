@@ -25,13 +25,10 @@ use Rattle.intake.specs.declared.Asked.the-variants
 use Rattle.intake.specs.Check.{Course, begin, stop, go, turn, checkFrom, checkFile}
 use Rattle.intake.specs.Asking.{courseTo, askItem, askCourse, askAccepted}
 use Rattle.intake.specs.Tallies.{Columns, Sized, courseOf, turnOf, Standing, StandsOn, TurnedTo, tallyBegin, AcceptedFile, AskIn, askColumns}
+use Rattle.intake.proofs.Accepted.{isAccepted}
 use Rattle.intake.proofs.Going.{onward-of}
 use Rattle.intake.proofs.Asks.{Asking, asking-begin, here-fair, found, missed, again}
 use Rattle.intake.proofs.Lines.{ask-in, ask-columns}
-
-isAccepted : Answer → Bool
-isAccepted (Accepted n m) = true
-isAccepted (Refused c p) = false
 
 -- ---- an accepted file is marked and within the limit
 pub record Taken (f : List ℕ) (n : ℕ) : Type 0 where
@@ -41,7 +38,7 @@ pub record Taken (f : List ℕ) (n : ℕ) : Type 0 where
   pub rest : checkFrom (length f) (isMsb f) f begin ≡ Accepted n written
 
 pub taken : (f : List ℕ) (n : ℕ) → AcceptedFile f n → Taken f n
-unfolding checkFile isAccepted
+unfolding checkFile
 taken f n a =
     let c = clear isAccepted (saying (λ (x : ℕ). Refused x 0) (fileRules f)) (checkFrom (length f) (isMsb f) f begin) (Accepted n (a .written)) (refl, (refl, tt)) (a .answer) refl in
     record { small = ltb-false limit (length f) (c .0 .0); mark = not-false _ (c .0 .1 .0); written = a .written; rest = c .1 }

@@ -5,3 +5,6 @@ pub mod Rising
 pub mod Leading
 pub mod Judging
 pub mod Handing
+pub mod Apart
+pub mod Writing
+pub mod Written

@@ -136,10 +136,10 @@ module _ (R : ℕ) (pos : 0 < R) where
   last-least q zero g c e h = let k : q ≤ c = le-of-mul-le-mul-right {k = R} (omega arith) pos in omega arith
   last-least q (suc r) g c e h = let k : q < c = lt-of-mul-lt-mul-right R (omega arith) in omega arith
 
-  gap-covers : (g : ℕ) → g ≤ length (gap R g) * R
+  pub gap-covers : (g : ℕ) → g ≤ length (gap R g) * R
   gap-covers g = rw (gap-words g) (last-covers (g / R) (g % R) g (div-add-mod' g R) (mod-lt g pos))
 
-  gap-least : (g c : ℕ) → g ≤ c * R → length (gap R g) ≤ c
+  pub gap-least : (g c : ℕ) → g ≤ c * R → length (gap R g) ≤ c
   gap-least g c h = rw (gap-words g) (last-least (g / R) (g % R) g c (div-add-mod' g R) h)
 
   pub run-short : (w : ℕ) → runLength R w ≤ R

@@ -1,0 +1,143 @@
+// Writing a ping's samples, numbers and values handed over apart: in the fewest C-32 words, and as U-32 pairs. What the writers ask of
+// them first.
+use crate::PAIR;
+use crate::WORD;
+ghost use mathlib.Core.Path.{_≡_};
+ghost use Prim.Native.Nat.{_+_, _*_, _^_, _<_, _≤_};
+ghost use lib.ListN.{length};
+ghost use lib.Seq.{sets};
+ghost use Rattle.samples.specs.Words.{unwords, unpair};
+ghost use Rattle.samples.specs.Lists.{paired, numbered, valued};
+ghost use Rattle.samples.specs.Runs.{radix, gap, fewest};
+ghost use Rattle.samples.specs.Judging.{firstDrop, firstWordless};
+
+// The samples of the longest run, and its word.
+const FULL: usize = 65_536;
+
+const FULL_RUN: u32 = 0xffff_ffff;
+
+// The word of a run of 1: longer ones count on from it.
+const SHORTEST_RUN: u32 = 0xffff_0000;
+
+// A sample number, wide enough for the one that follows it.
+fn wide(number: u32) -> usize
+    ensures { λ r. ⌜ (r ≡ number) × (r < 2 ^ 32) ⌝ }
+{
+    number as usize
+}
+
+// The place of the first number that is not above the one before it; as many as there are where all rise.
+pub fn first_drop(numbers: &[u32]) -> usize
+    ensures { λ r. ⌜ r ≡ firstDrop 0 (numbered (now (numbers .entry))) ⌝ }
+{
+    let mut next: usize = 0;
+    let mut i: usize = 0;
+    while i < numbers.len() {
+        let number = wide(numbers[i]);
+        if number < next {
+            return i;
+        }
+        next = number + 1;
+        i += 1;
+    }
+    i
+}
+
+// The place of the first value that has no C-32 word; as many as there are where all have one.
+pub fn first_wordless(values: &[i32]) -> usize
+    ensures { λ r. ⌜ r ≡ firstWordless (valued (now (values .entry))) ⌝ }
+{
+    let mut i: usize = 0;
+    while i < values.len() {
+        let word = order::pattern4(values[i]);
+        if crate::is_run(word) | crate::is_bad(word) {
+            return i;
+        }
+        i += 1;
+    }
+    i
+}
+
+// How many the fewest words of samples with these numbers are.
+pub fn count_words(numbers: &[u32]) -> usize
+    requires { ⌜ firstDrop 0 (numbered (now numbers)) ≡ length (now numbers) ⌝ }
+    ensures { λ r. ⌜ r ≡ length (fewest radix (numbered (now (numbers .entry)))) ⌝ }
+{
+    // the run of a ping without samples
+    if numbers.len() == 0 {
+        return 1;
+    }
+    let mut count: usize = 0;
+    let mut next: usize = 0;
+    let mut i: usize = 0;
+    while i < numbers.len() {
+        let number = wide(numbers[i]);
+        // a gap takes as many runs as cover it, the value one word
+        count += (number - next + (FULL - 1)) / FULL + 1;
+        next = number + 1;
+        i += 1;
+    }
+    count
+}
+
+// The words of a gap of samples below threshold, full runs first and the remainder last; the place behind them.
+fn write_gap(out: &mut [u8], at: usize, msb: bool, quiet: usize) -> usize
+    requires { ⌜ at + 4 * length (gap radix quiet) ≤ length (now out) ⌝ }
+    ensures { λ r. ⌜ r ≡ at + 4 * length (gap radix quiet) ⌝ }
+    ensures { λ _. ⌜ now (out .exit) ≡ sets (now (out .entry)) at (unwords 4 msb (gap radix quiet)) ⌝ }
+{
+    let mut to = at;
+    let mut left = quiet;
+    while FULL <= left {
+        order::store4(out, to, msb, FULL_RUN);
+        to += WORD;
+        left -= FULL;
+    }
+    if left == 0 {
+        return to;
+    }
+    // a run's lower half is its length less 1
+    order::store4(out, to, msb, SHORTEST_RUN + (left - 1) as u32);
+    to + WORD
+}
+
+// The fewest words of samples, whose numbers and values are handed over apart: each value behind its gap, nothing behind the last.
+pub fn write_words(numbers: &[u32], values: &[i32], msb: bool, out: &mut [u8], at: usize)
+    requires { ⌜ length (now values) ≡ length (now numbers) ⌝ }
+    requires { ⌜ firstDrop 0 (paired (now numbers) (now values)) ≡ length (now numbers) ⌝ }
+    requires { ⌜ at + 4 * length (fewest radix (paired (now numbers) (now values))) ≤ length (now out) ⌝ }
+    ensures { λ _. ⌜ now (out .exit) ≡ sets (now (out .entry)) at (unwords 4 msb (fewest radix (paired (now (numbers .entry)) (now (values .entry))))) ⌝ }
+{
+    // a ping has at least one word, so one without samples gets a run
+    if numbers.len() == 0 {
+        order::store4(out, at, msb, SHORTEST_RUN);
+        return;
+    }
+    let mut to = at;
+    let mut next: usize = 0;
+    let mut i: usize = 0;
+    while i < numbers.len() {
+        let number = wide(numbers[i]);
+        let behind = write_gap(out, to, msb, number - next);
+        order::store4(out, behind, msb, order::pattern4(values[i]));
+        to = behind + WORD;
+        next = number + 1;
+        i += 1;
+    }
+}
+
+// Samples, whose numbers and values are handed over apart, as pairs.
+pub fn write_pairs(numbers: &[u32], values: &[i32], msb: bool, out: &mut [u8], at: usize)
+    requires { ⌜ length (now values) ≡ length (now numbers) ⌝ }
+    requires { ⌜ at + 8 * length (now numbers) ≤ length (now out) ⌝ }
+    ensures { λ _. ⌜ now (out .exit) ≡ sets (now (out .entry)) at (unwords 4 msb (unpair (paired (now (numbers .entry)) (now (values .entry))))) ⌝ }
+{
+    let mut to = at;
+    let mut i: usize = 0;
+    while i < numbers.len() {
+        order::store4(out, to, msb, numbers[i]);
+        order::store4(out, to + WORD, msb, order::pattern4(values[i]));
+        to += PAIR;
+        i += 1;
+    }
+}
