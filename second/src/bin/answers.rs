@@ -1,6 +1,7 @@
 //! Reads the cases that `stream` writes and prints what this program answers of
 //! each file: the check, both walks and, of small files, asking and steps at many
-//! places. The proved library's test program prints the same of the same input.
+//! places. The last line says that the input ended behind a case. The proved
+//! library's test program prints the same of the same input.
 
 use second::walk::{backward, forward, Step};
 use second::{check, parents, Answer};
@@ -12,12 +13,18 @@ const SMALL: usize = 4096;
 /// The places from the file's start and around its end at which steps are tried.
 const NEAR: u64 = 48;
 
+/// Prints the check's answer, in words that no other line has, so that its codes
+/// can be counted.
 fn print_answer(out: &mut impl Write, answer: Answer) -> io::Result<()> {
     if answer.is_accepted() {
         writeln!(out, "accepted {} {}", answer.tuples, answer.length)
     } else {
-        writeln!(out, "refused {} {}", answer.code, answer.place)
+        writeln!(out, "rejected {} {}", answer.code, answer.place)
     }
+}
+
+fn print_refusal(out: &mut impl Write, answer: Answer) -> io::Result<()> {
+    writeln!(out, "refused {} {}", answer.code, answer.place)
 }
 
 /// Prints a step, and says where the walk goes on.
@@ -32,9 +39,7 @@ fn print_step(out: &mut impl Write, step: Step) -> io::Result<Option<u64>> {
             Ok(Some(next))
         }
         Step::End => writeln!(out, "end").map(|()| None),
-        Step::Refused(answer) => {
-            writeln!(out, "refused {} {}", answer.code, answer.place).map(|()| None)
-        }
+        Step::Refused(answer) => print_refusal(out, answer).map(|()| None),
     }
 }
 
@@ -49,7 +54,7 @@ fn print_parents(out: &mut impl Write, file: &[u8], place: u64) -> io::Result<()
             found.sounder_place,
             answer.tuples
         ),
-        Err(answer) => print_answer(out, answer),
+        Err(answer) => print_refusal(out, answer),
     }
 }
 
@@ -103,5 +108,10 @@ fn main() -> io::Result<()> {
         try_file(&mut out, file)?;
         rest = next;
     }
+    if !rest.is_empty() {
+        out.flush()?;
+        return Err(io::ErrorKind::UnexpectedEof.into());
+    }
+    writeln!(out, "ended")?;
     out.flush()
 }
