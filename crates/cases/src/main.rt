@@ -9,7 +9,7 @@ use libc::STDERR_FILENO;
 use libc::STDIN_FILENO;
 use libc::STDOUT_FILENO;
 ghost use mathlib.Core.Path.{_≡_};
-ghost use Prim.Native.Nat.{_+_, _≤_};
+ghost use Prim.Native.Nat.{_+_, _≤_, _<_};
 ghost use lib.ListN.{length};
 ghost use Rattle.io.specs.Counts.{Counts};
 
@@ -26,6 +26,11 @@ const SMALL: usize = 4096;
 
 // The places from the file's start and around its end at which steps are tried.
 const NEAR: usize = 48;
+
+// What the entries lent to the sample reader hold before, so that one it left alone can be told from one it filled.
+const NUMBER: u32 = 0xa5a5_a5a5;
+
+const VALUE: i32 = 0x5a5a_5a5a;
 
 // A line's room: a word of at most eight letters, five numbers of at most twenty digits, each behind a space, and its end.
 const ROOM: usize = 114;
@@ -134,7 +139,87 @@ fn print_asked(asked: Asked) -> bool {
     }
 }
 
-// The walk from place 4 forward; in a small file each place found is asked for a ping's parents.
+// The checksum of a list with one more entry. It stays so small that the next step doesn't wrap.
+fn add(sum: usize, entry: u32) -> usize
+    requires { ⌜ sum < 65521 ⌝ }
+    ensures { λ r. ⌜ r < 65521 ⌝ }
+{
+    (sum * 31 + entry as usize) % 65521
+}
+
+// A checksum, in which another entry, or the same entries in another order, shows.
+fn sum_numbers(numbers: &[u32]) -> usize {
+    let mut sum = 0;
+    let mut i = 0;
+    while i < numbers.len() {
+        sum = add(sum, numbers[i]);
+        i += 1;
+    }
+    sum
+}
+
+// The same of values, by their patterns.
+fn sum_values(values: &[i32]) -> usize {
+    let mut sum = 0;
+    let mut i = 0;
+    while i < values.len() {
+        sum = add(sum, order::pattern4(values[i]));
+        i += 1;
+    }
+    sum
+}
+
+// Prints what the sample reader answers and the sums of what it leaves in the lent entries. Its words stand in no other line.
+fn try_samples(file: &[u8], place: usize, numbers: &mut [u32], values: &mut [i32]) -> bool {
+    let answer = records::read_samples(file, place, numbers, values);
+    let of_numbers = sum_numbers(numbers);
+    let of_values = sum_values(values);
+    match answer {
+        Answer::Accepted { tuples, written } => {
+            print_line(b"read", &[tuples, written, of_numbers, of_values])
+        }
+        Answer::Refused { code, place } => {
+            print_line(b"unread", &[code as usize, place, of_numbers, of_values])
+        }
+    }
+}
+
+// Few entries: a ping of three samples has room for its values alone.
+fn lend_few_numbers(file: &[u8], place: usize) -> bool {
+    let mut numbers = [NUMBER; 2];
+    let mut values = [VALUE; 3];
+    try_samples(file, place, &mut numbers, &mut values)
+}
+
+// Few entries: a ping of three samples has room for its numbers alone.
+fn lend_few_values(file: &[u8], place: usize) -> bool {
+    let mut numbers = [NUMBER; 3];
+    let mut values = [VALUE; 2];
+    try_samples(file, place, &mut numbers, &mut values)
+}
+
+// More entries than most small files' pings have samples.
+fn lend_many(file: &[u8], place: usize) -> bool {
+    let mut numbers = [NUMBER; 40];
+    let mut values = [VALUE; 40];
+    try_samples(file, place, &mut numbers, &mut values)
+}
+
+// Asks for a ping's parents at a place, and reads its samples into few entries and into many.
+fn try_ping(file: &[u8], place: usize) -> bool {
+    if !print_asked(intake::ask(file, place)) {
+        return false;
+    }
+    if !lend_few_numbers(file, place) {
+        return false;
+    }
+    if !lend_few_values(file, place) {
+        return false;
+    }
+    lend_many(file, place)
+}
+
+// The walk from place 4 forward; in a small file each place found is tried as a ping's.
 fn walk_forward(file: &[u8]) -> bool {
     let mut walk = Walk { at: 4 };
     let mut left = file.len();
@@ -155,7 +240,7 @@ fn walk_forward(file: &[u8]) -> bool {
             return true;
         };
         if file.len() <= SMALL {
-            if !print_asked(intake::ask(file, at)) {
+            if !try_ping(file, at) {
                 return false;
             }
         }
@@ -188,7 +273,7 @@ fn walk_backward(file: &[u8]) -> bool {
     true
 }
 
-// Steps both ways and asking at a place.
+// Steps both ways at a place, then what is tried as a ping's.
 fn try_place(file: &[u8], place: usize) -> bool {
     if !print_step(Walk { at: place }.forward(file)) {
         return false;
@@ -196,7 +281,7 @@ fn try_place(file: &[u8], place: usize) -> bool {
     if !print_step(Walk { at: place }.backward(file)) {
         return false;
     }
-    print_asked(intake::ask(file, place))
+    try_ping(file, place)
 }
 
 fn try_start(file: &[u8]) -> bool {

@@ -1,0 +1,28 @@
+-- `cases::sum_values` is safe and ends. The invariant: the sum is so small that one more entry fits. Assumes nothing.
+use Prim.Native.Nat.{_≤_, _<_, _-_}
+use borrow.Author.Needs.{needs}
+use lib.ListN.{length}
+use Rattle.cases.proofs.sum_values.Statement.{statement}
+use Rattle.cases.proofs.sum_values.Tie as tie
+
+abbrev Inv-loop : tie.InvT-loop
+Inv-loop values sum₀ i₀ sum i = (i ≤ length values) × (sum < 65521)
+
+abbrev μ-loop : tie.MeasureT-loop
+μ-loop values sum₀ i₀ sum i = length values - i
+
+pub sum-values-spec : {M : Type 1} → statement M
+sum-values-spec =
+    tie.close
+    (tie.spec
+    Inv-loop
+    μ-loop
+    (λ c. search needs)
+    (λ c. search needs)
+    (λ c. search needs)
+    (λ c κs. search needs)
+    (λ c κs. search needs)
+    (λ c. search needs)
+    (λ c. search needs)
+    (λ c. search needs)
+    (λ c. search needs))
