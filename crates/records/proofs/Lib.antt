@@ -1,2 +1,4 @@
 pub mod Handing
 pub mod Reading
+pub mod Storing
+pub mod Pinging

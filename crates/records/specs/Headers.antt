@@ -1,0 +1,32 @@
+-- A ping's header and attribute as they are handed to a writer, and the bytes around its samples. Assumes nothing.
+use Prim.Native.Nat.{ℕ, _-_}
+use mathlib.Core.Bool.{Bool}
+use mathlib.Core.List.{List, [], _∷_, _++_}
+use lib.IntN.{ℤ}
+use Rattle.order.specs.Order.{bytesOf, patternOf}
+use Rattle.layout.specs.declared.Answer.{Answer}
+use Rattle.layout.specs.Types.{pingRow}
+use Rattle.turning.specs.Rows.{Value, number, encode}
+use Rattle.content.specs.Pings.{Ping}
+use Rattle.content.specs.Forms.{tupleU}
+use Rattle.records.specs.declared.PingHeader.{PingHeader}
+use Rattle.records.specs.Writers.{Written, rulesU, pingOf, bytesU}
+
+-- the values of a header's row
+abbrev pub headOf : PingHeader → List Value
+headOf h = number (h .fraction) ∷ number (h .time) ∷ number (h .channel .0) ∷ number (h .mode) ∷ number (h .number) ∷ number (patternOf 4 (h .bottom)) ∷ []
+
+-- the ping that a writer is handed
+abbrev pub handedPing : PingHeader → ℤ → List ℕ → List ℤ → Ping
+handedPing h a ns vs = pingOf (headOf h) (patternOf 4 a) ns vs
+
+-- before the samples of a ping of n bytes and type k: data size, type, header; behind them: attribute, backlink
+abbrev pub openingBytes : Bool → ℕ → ℕ → PingHeader → List ℕ
+openingBytes o n k h = bytesOf o 4 (n - 10) ++ (bytesOf o 2 k ++ encode o pingRow (headOf h))
+
+abbrev pub closingBytes : Bool → ℕ → ℤ → List ℕ
+closingBytes o n a = bytesOf o 4 (patternOf 4 a) ++ bytesOf o 4 n
+
+-- ---- the promise of the U-32 writer
+abbrev pub WrittenU : Bool → PingHeader → ℤ → List ℕ → List ℤ → List ℕ → Answer → List ℕ → Type 0
+WrittenU o h a ns vs out r left = let p = handedPing h a ns vs in Written (rulesU ns vs (tupleU o p)) (bytesU o p) out r left
