@@ -62,6 +62,7 @@ pub fn first_wordless(values: &[i32]) -> usize
 pub fn count_words(numbers: &[u32]) -> usize
     requires { ⌜ firstDrop 0 (numbered (now numbers)) ≡ length (now numbers) ⌝ }
     ensures { λ r. ⌜ r ≡ length (fewest radix (numbered (now (numbers .entry)))) ⌝ }
+    ensures { λ r. ⌜ r ≤ 2 ^ 32 ⌝ }
 {
     // the run of a ping without samples
     if numbers.len() == 0 {

@@ -9,19 +9,19 @@ use mir.Syntax.{w32}
 use mir.Facts.{toZ-ofZ}
 use Rattle.samples.specs.Lists.{numbered}
 use Rattle.samples.specs.Judging.{firstDrop}
-use Rattle.records.proofs.Pinging.{unequal, overfull, silent, drops, no-room, written}
+use Rattle.records.proofs.Pinging.{unequal-U, overfull-U, silent, drops, no-room, written}
 use Rattle.records.proofs.write_u32.Statement.{statement}
 use Rattle.records.proofs.write_u32.Tie as tie
 
 returns : tie.Need-returns
 returns c =
     let a = c .before .before .before .before .before .args in
-    rw (c .refuse .ensures, c .before .smaller .ensures) (unequal (a .msb) (a .header) (a .attribute) (a .numbers .now) (a .values .now) (a .out .now) (c .before .before .if1 .taken))
+    rw (c .refuse .ensures, c .before .smaller .ensures) (unequal-U (a .msb) (a .header) (a .attribute) (a .numbers .now) (a .values .now) (a .out .now) (c .before .before .if1 .taken))
 
 returns-2 : tie.Need-returns-2
 returns-2 c =
     let a = c .before .before .before .before .before .args in
-    rw (c .refuse2 .ensures) (overfull (a .msb) (a .header) (a .attribute) (a .numbers .now) (a .values .now) (a .out .now) (c .before .before .if1 .left) (c .before .if2 .taken))
+    rw (c .refuse2 .ensures) (overfull-U (a .msb) (a .header) (a .attribute) (a .numbers .now) (a .values .now) (a .out .now) (c .before .before .if1 .left) (c .before .if2 .taken))
 
 returns-3 : tie.Need-returns-3
 returns-3 c =

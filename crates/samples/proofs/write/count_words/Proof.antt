@@ -29,7 +29,7 @@ abbrev μ-loop : tie.MeasureT-loop
 returns : tie.Need-returns Inv-loop μ-loop
 returns c =
     let ns = c .before .before .args .numbers .now in
-    ap (λ (s : List Sample). length (fewest radix s)) (sym (numbered-end ns 0 (omega arith)))
+    (ap (λ (s : List Sample). length (fewest radix s)) (sym (numbered-end ns 0 (omega arith))), omega arith)
 
 loop-holds : tie.Need-loop-holds Inv-loop μ-loop
 loop-holds c =
@@ -82,7 +82,7 @@ unfolding encodeFrom
 returns-2 c =
     let l = c .before .loop in
     let e = numbered-end (c .before .before .before .before .args .numbers .now) (l .i) (c .loop-test .left) in
-    omega (arith, ap (λ (s : List Sample). length (encodeFrom radix (l .next) s 0)) e, ap length (gap-none radix (lit< tt)))
+    (omega (arith, ap (λ (s : List Sample). length (encodeFrom radix (l .next) s 0)) e, ap length (gap-none radix (lit< tt))), omega (arith, l .inv .1, l .inv .2))
 
 pub count-words-spec : {M : Type 1} → statement M
 count-words-spec =
