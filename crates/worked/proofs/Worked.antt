@@ -24,6 +24,7 @@ use Rattle.content.specs.Forms.{formOf}
 use Rattle.intake.specs.Check.{ending, turn, checkFrom, checkFile}
 use Rattle.normal.specs.Contents.{items, contentOf, normalTuples, formed, normalOf}
 use Rattle.normal.specs.Normaliser.{firstUnlisted, normalAnswer}
+use Rattle.normal.specs.Single.{singleForm, singleAnswer}
 use Rattle.hexlines.specs.Lines.{linesOf, allDigits, bytesIn, Input, inputOf, inputFrom, hex, decimals}
 use Rattle.hexlines.specs.Programs.{normalFile, normalTuple}
 use Rattle.worked.specs.Examples.{text, holds, allHold, table}
@@ -31,7 +32,7 @@ use Rattle.worked.specs.Cruise.{lsb, lsbOtherCut, msb, msbOtherCut, norm
 
 -- every line of the table holds
 pub worked : allHold table ≡ true
-unfolding table allHold holds normalFile normalTuple linesOf allDigits bytesIn inputFrom hex decimals normalAnswer firstUnlisted items contentOf normalTuples formed normalOf ending turn checkFrom checkFile formOf itemOf digestOf wordsIn attributeIn countIn contentU contentC dataU dataC has naming firstWrong words allWords unwords pairUp unpair isRun runLength decodeFrom isBad values firstBad firstDrop allowed frame sizeAt kindAt backAt framing mark isMsb marked stepForward tuplesFrom tuplesOf classes inClass kindOf lineOf
+unfolding table allHold holds normalFile normalTuple linesOf allDigits bytesIn inputFrom hex decimals normalAnswer singleForm singleAnswer firstUnlisted items contentOf normalTuples formed normalOf ending turn checkFrom checkFile formOf itemOf digestOf wordsIn attributeIn countIn contentU contentC dataU dataC has naming firstWrong words allWords unwords pairUp unpair isRun runLength decodeFrom isBad values firstBad firstDrop allowed frame sizeAt kindAt backAt framing mark isMsb marked stepForward tuplesFrom tuplesOf classes inClass kindOf lineOf
 worked = refl
 
 -- ---- the small whole file
@@ -48,10 +49,10 @@ variants = lsb ∷ lsbOtherCut ∷ msb ∷ msbOtherCut ∷ []
 
 -- each variant is accepted, with its mark and six tuples
 pub accepted : map (λ (v : List String). checkFile (fileOf v)) variants ≡ Accepted 6 0 ∷ Accepted 6 0 ∷ Accepted 6 0 ∷ Accepted 6 0 ∷ []
-unfolding lsb lsbOtherCut msb msbOtherCut normalFile normalTuple linesOf allDigits bytesIn inputFrom hex decimals normalAnswer firstUnlisted items contentOf normalTuples formed normalOf ending turn checkFrom checkFile formOf itemOf digestOf wordsIn attributeIn countIn contentU contentC dataU dataC has naming firstWrong words allWords unwords pairUp unpair isRun runLength decodeFrom isBad values firstBad firstDrop allowed frame sizeAt kindAt backAt framing mark isMsb marked stepForward tuplesFrom tuplesOf classes inClass kindOf lineOf
+unfolding lsb lsbOtherCut msb msbOtherCut normalFile normalTuple linesOf allDigits bytesIn inputFrom hex decimals normalAnswer singleForm singleAnswer firstUnlisted items contentOf normalTuples formed normalOf ending turn checkFrom checkFile formOf itemOf digestOf wordsIn attributeIn countIn contentU contentC dataU dataC has naming firstWrong words allWords unwords pairUp unpair isRun runLength decodeFrom isBad values firstBad firstDrop allowed frame sizeAt kindAt backAt framing mark isMsb marked stepForward tuplesFrom tuplesOf classes inClass kindOf lineOf
 accepted = refl
 
 -- and printed as the one normal form, which is printed as itself
 pub one-form : map (λ (v : List String). normalFile (text v)) (normal ∷ variants) ≡ text normal ∷ text normal ∷ text normal ∷ text normal ∷ text normal ∷ []
-unfolding normal lsb lsbOtherCut msb msbOtherCut normalFile normalTuple linesOf allDigits bytesIn inputFrom hex decimals normalAnswer firstUnlisted items contentOf normalTuples formed normalOf ending turn checkFrom checkFile formOf itemOf digestOf wordsIn attributeIn countIn contentU contentC dataU dataC has naming firstWrong words allWords unwords pairUp unpair isRun runLength decodeFrom isBad values firstBad firstDrop allowed frame sizeAt kindAt backAt framing mark isMsb marked stepForward tuplesFrom tuplesOf classes inClass kindOf lineOf
+unfolding normal lsb lsbOtherCut msb msbOtherCut normalFile normalTuple linesOf allDigits bytesIn inputFrom hex decimals normalAnswer singleForm singleAnswer firstUnlisted items contentOf normalTuples formed normalOf ending turn checkFrom checkFile formOf itemOf digestOf wordsIn attributeIn countIn contentU contentC dataU dataC has naming firstWrong words allWords unwords pairUp unpair isRun runLength decodeFrom isBad values firstBad firstDrop allowed frame sizeAt kindAt backAt framing mark isMsb marked stepForward tuplesFrom tuplesOf classes inClass kindOf lineOf
 one-form = refl
