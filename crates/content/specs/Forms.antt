@@ -5,11 +5,11 @@ use mathlib.Core.List.{List, [], _∷_}
 use mathlib.Core.Option.{Option, some, none}
 use Rattle.layout.specs.Types.{Shape, indexed, row, pairs, words, unlisted, shapeOf}
 use Rattle.turning.specs.Rows.{Value, encode}
-use Rattle.frame.specs.Frames.{Tup}
+use Rattle.frame.specs.Frames.{Tup, frames}
 use Rattle.samples.specs.Words.{Sample}
 use Rattle.samples.specs.Runs.{radix, fewest}
 use Rattle.content.specs.Pings.{Ping, dataU, dataC}
-use Rattle.content.specs.Items.{Item, plain, ping, raw, rowIn}
+use Rattle.content.specs.Items.{Item, plain, ping, raw, rowIn, itemOf}
 
 -- ---- written tuples
 -- a row's values: spaces 0, the identifier 44204; the characters are as many as there are
@@ -40,3 +40,11 @@ unfoldable pub formOf : Item → Tup
 formOf (plain k vs) = plainTuple false k vs
 formOf (ping p) = pingForm (p .samples) p
 formOf (raw k d) = record { kind = k; body = d }
+
+-- the normal tuples of a tuple: one, or none for the index class, and their bytes
+abbrev pub formsOf : Option Item → List Tup
+formsOf none = []
+formsOf (some i) = formOf i ∷ []
+
+unfoldable pub formBytes : Bool → Tup → List ℕ
+formBytes o t = frames false (formsOf (itemOf o t))

@@ -1,9 +1,8 @@
 -- The normal form of a mark and one tuple, whatever stands around the tuple elsewhere. Assumes nothing.
 use mathlib.Core.Path.{_≡_, sym, _∙_}
 use Prim.Native.Nat.{ℕ, _+_}
-use mathlib.Core.Bool.{Bool, true, false, _&&_}
+use mathlib.Core.Bool.{false, _&&_}
 use mathlib.Core.List.{List, [], _∷_, _++_}
-use mathlib.Core.Option.{Option, some, none}
 use lib.Dec.{ltb}
 use lib.ListN.{length, drop}
 use Rattle.rules.specs.Rules.{Rule, _⇒_, firstOf, saying}
@@ -13,15 +12,11 @@ use Rattle.layout.specs.Answers.{leftBy}
 use Rattle.layout.specs.Types.{shapeOf}
 use Rattle.frame.specs.Frames.{Tup, frames, lenAt, tupAt, frameRules}
 use Rattle.frame.specs.Files.{mark, isMsb, fileRules}
-use Rattle.content.specs.Items.{Item, itemOf, headRules, innerRules}
-use Rattle.content.specs.Forms.{formOf}
+use Rattle.content.specs.Items.{itemOf, headRules, innerRules}
+use Rattle.content.specs.Forms.{formsOf}
 use Rattle.normal.specs.Normaliser.{isUnlisted}
 
 -- the normal tuple; none for the index class
-abbrev pub formsOf : Option Item → List Tup
-formsOf none = []
-formsOf (some i) = formOf i ∷ []
-
 abbrev pub singleTuples : List ℕ → List Tup
 singleTuples f = formsOf (itemOf (isMsb f) (tupAt (isMsb f) (drop 4 f)))
 

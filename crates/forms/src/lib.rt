@@ -1,0 +1,1 @@
+// Forms: the normal form of one tuple, measured and written.
