@@ -1,1 +1,282 @@
 // Forms: the normal form of one tuple, measured and written.
+use layout::Kind;
+use layout::types;
+ghost use mathlib.Core.Path.{_≡_};
+ghost use Prim.Native.Nat.{_+_, _*_, _^_, _≤_, _<_};
+ghost use lib.ListN.{length, take, drop};
+ghost use lib.Seq.{sets};
+ghost use Rattle.order.specs.Order.{numOf};
+ghost use Rattle.layout.specs.Fields.{size};
+ghost use Rattle.layout.specs.Types.{unlisted, kindOf, placeIn, shapeOf};
+ghost use Rattle.turning.specs.Rows.{turned};
+ghost use Rattle.frame.specs.Frames.{tupAt};
+ghost use Rattle.content.specs.Forms.{formBytes};
+ghost use Rattle.intake.specs.Tallies.{Fits};
+ghost use Rattle.forms.specs.Sound.{SoundHere};
+ghost use Rattle.forms.specs.Parts.{frontBytes, openingBytes, closingBytes, silence, lineFields, Rowed};
+
+// The places of a tuple's type and of its data; those of an event's characters and of an end of file's data bytes.
+const TYPE: usize = 4;
+
+const DATA: usize = 6;
+
+const EVENT_TEXT: usize = 12;
+
+const END_DATA: usize = 14;
+
+// The bytes of a word and of a pair, and of the form of a ping without samples.
+const WORD: usize = 4;
+
+const PAIR: usize = 8;
+
+const SILENT: usize = 40;
+
+// The word of a run of 1.
+const SHORTEST_RUN: u32 = 0xffff_0000;
+
+// How many bytes the normal form of the tuple at a place has: none for the index class. A C-32 ping counts its samples itself, so
+// that they are not read.
+pub fn form_length(file: &[u8], at: usize, msb: bool, whole: usize, code: u16) -> usize
+    requires { ⌜ SoundHere msb (now file) at whole code ⌝ }
+    ensures { λ r. ⌜ r ≡ length (formBytes msb (tupAt msb (drop at (now (file .entry))))) ⌝ }
+    ensures { λ r. ⌜ r ≤ 2 * whole ⌝ }
+{
+    if layout::in_class(layout::INDEX, code) {
+        return 0;
+    }
+    if code != types::PING_C {
+        return whole;
+    }
+    let count = order::read4(file, at + intake::COUNT, msb) as usize;
+    if count == 0 {
+        return SILENT;
+    }
+    intake::PAIRS + PAIR * count + intake::TAIL
+}
+
+// Writes the data size and the type of a form.
+fn write_front(out: &mut [u8], to: usize, bytes: usize, code: u16)
+    requires { ⌜ to + 6 ≤ length (now out) ⌝ }
+    requires { ⌜ (10 ≤ bytes) × (bytes < 2 ^ 32) ⌝ }
+    ensures { λ _. ⌜ now (out .exit) ≡ sets (now (out .entry)) to (frontBytes bytes code) ⌝ }
+{
+    order::store4(out, to, false, (bytes - frame::FRAME) as u32);
+    order::store2(out, to + TYPE, false, code);
+}
+
+// Writes what stands before a form's characters or samples: size, type and the fields of a line of the tables.
+fn open_form(
+    file: &[u8],
+    at: usize,
+    msb: bool,
+    line: usize,
+    out: &mut [u8],
+    to: usize,
+    bytes: usize,
+    code: u16,
+)
+    requires { ⌜ line < 13 ⌝ }
+    requires { ⌜ at + 6 + size (lineFields line) ≤ length (now file) ⌝ }
+    requires { ⌜ to + 6 + size (lineFields line) ≤ length (now out) ⌝ }
+    requires { ⌜ (10 ≤ bytes) × (bytes < 2 ^ 32) ⌝ }
+    ensures { λ _. ⌜ now (out .exit) ≡ sets (now (out .entry)) to (openingBytes bytes code (turned msb (lineFields line) (drop (at + 6) (now (file .entry))))) ⌝ }
+{
+    write_front(out, to, bytes, code);
+    let row = layout::row(line);
+    turning::turn(file, at + DATA, msb, &row, out, to + DATA);
+}
+
+// Writes what stands behind them: the attribute, from its place in the file, and the backlink.
+fn close_form(file: &[u8], from: usize, msb: bool, out: &mut [u8], to: usize, bytes: usize)
+    requires { ⌜ from + 4 ≤ length (now file) ⌝ }
+    requires { ⌜ to + 8 ≤ length (now out) ⌝ }
+    requires { ⌜ bytes < 2 ^ 32 ⌝ }
+    ensures { λ _. ⌜ now (out .exit) ≡ sets (now (out .entry)) to (closingBytes bytes (numOf msb (take 4 (drop from (now (file .entry)))))) ⌝ }
+{
+    order::store4(out, to, false, order::read4(file, from, msb));
+    order::store4(out, to + WORD, false, bytes as u32);
+}
+
+// Where the characters of a tuple begin, behind its fields: where its attribute stands, for a type that has none.
+fn text_place(whole: usize, code: u16) -> usize
+    requires { ⌜ Rowed code ⌝ }
+    requires { ⌜ Fits whole code ⌝ }
+    ensures { λ r. ⌜ r ≡ 6 + size (lineFields (placeIn (kindOf code))) ⌝ }
+    ensures { λ r. ⌜ r + 8 ≤ whole ⌝ }
+{
+    match code {
+        types::EVENT => EVENT_TEXT,
+        types::FILE_END => END_DATA,
+        _ => whole - intake::TAIL,
+    }
+}
+
+// Writes the form of a tuple that a row reads: its fields turned, its characters or data bytes as they stand.
+fn write_row(
+    file: &[u8],
+    at: usize,
+    msb: bool,
+    whole: usize,
+    code: u16,
+    line: usize,
+    out: &mut [u8],
+    to: usize,
+)
+    requires { ⌜ SoundHere msb (now file) at whole code ⌝ }
+    requires { ⌜ Rowed code ⌝ }
+    requires { ⌜ line ≡ placeIn (kindOf code) ⌝ }
+    requires { ⌜ to + whole ≤ length (now out) ⌝ }
+    ensures { λ _. ⌜ now (out .exit) ≡ sets (now (out .entry)) to (formBytes msb (tupAt msb (drop at (now (file .entry))))) ⌝ }
+{
+    let text = text_place(whole, code);
+    let tail = whole - intake::TAIL;
+    open_form(file, at, msb, line, out, to, whole, code);
+    turning::copy(file, at + text, tail - text, out, to + text);
+    close_form(file, at + tail, msb, out, to + tail, whole);
+}
+
+// Writes the form of an unlisted tuple: its data as they stand.
+fn write_raw(file: &[u8], at: usize, msb: bool, whole: usize, code: u16, out: &mut [u8], to: usize)
+    requires { ⌜ SoundHere msb (now file) at whole code ⌝ }
+    requires { ⌜ shapeOf code ≡ unlisted ⌝ }
+    requires { ⌜ to + whole ≤ length (now out) ⌝ }
+    ensures { λ _. ⌜ now (out .exit) ≡ sets (now (out .entry)) to (formBytes msb (tupAt msb (drop at (now (file .entry))))) ⌝ }
+{
+    write_front(out, to, whole, code);
+    turning::copy(file, at + DATA, whole - frame::FRAME, out, to + DATA);
+    order::store4(out, to + whole - frame::BACKLINK, false, whole as u32);
+}
+
+// Writes the form of a U-32 ping: its header and its pairs turned.
+fn write_u(file: &[u8], at: usize, msb: bool, whole: usize, out: &mut [u8], to: usize)
+    requires { ⌜ SoundHere msb (now file) at whole 10000 ⌝ }
+    requires { ⌜ to + whole ≤ length (now out) ⌝ }
+    ensures { λ _. ⌜ now (out .exit) ≡ sets (now (out .entry)) to (formBytes msb (tupAt msb (drop at (now (file .entry))))) ⌝ }
+{
+    let tail = whole - intake::TAIL;
+    let line = Kind::PingU.line();
+    open_form(file, at, msb, line, out, to, whole, types::PING_U);
+    samples::turn::turn_words(
+        &file[at + intake::PAIRS..at + tail],
+        msb,
+        out,
+        to + intake::PAIRS,
+    );
+    close_form(file, at + tail, msb, out, to + tail, whole);
+}
+
+// Writes the number of samples and the one word of a ping without samples.
+fn write_silence(out: &mut [u8], to: usize)
+    requires { ⌜ to + 8 ≤ length (now out) ⌝ }
+    ensures { λ _. ⌜ now (out .exit) ≡ sets (now (out .entry)) to silence ⌝ }
+{
+    order::store4(out, to, false, 0);
+    order::store4(out, to + WORD, false, SHORTEST_RUN);
+}
+
+// Writes the form of a C-32 ping without samples: number of samples 0 and the one word of a run of 1.
+fn write_silent(file: &[u8], at: usize, msb: bool, whole: usize, out: &mut [u8], to: usize)
+    requires { ⌜ SoundHere msb (now file) at whole 10010 ⌝ }
+    requires { ⌜ numOf msb (take 4 (drop (at + 24) (now file))) ≡ 0 ⌝ }
+    requires { ⌜ to + 40 ≤ length (now out) ⌝ }
+    ensures { λ _. ⌜ now (out .exit) ≡ sets (now (out .entry)) to (formBytes msb (tupAt msb (drop at (now (file .entry))))) ⌝ }
+{
+    let tail = whole - intake::TAIL;
+    let line = Kind::PingU.line();
+    open_form(file, at, msb, line, out, to, SILENT, types::PING_C);
+    write_silence(out, to + intake::COUNT);
+    close_form(
+        file,
+        at + tail,
+        msb,
+        out,
+        to + (SILENT - intake::TAIL),
+        SILENT,
+    );
+}
+
+// Writes the form of a C-32 ping with samples, as many as it counts: U-32, each sample a pair.
+fn write_sampled(
+    file: &[u8],
+    at: usize,
+    msb: bool,
+    whole: usize,
+    bytes: usize,
+    out: &mut [u8],
+    to: usize,
+)
+    requires { ⌜ SoundHere msb (now file) at whole 10010 ⌝ }
+    requires { ⌜ 0 < numOf msb (take 4 (drop (at + 24) (now file))) ⌝ }
+    requires { ⌜ bytes ≡ 24 + 8 * numOf msb (take 4 (drop (at + 24) (now file))) + 8 ⌝ }
+    requires { ⌜ to + bytes ≤ length (now out) ⌝ }
+    ensures { λ _. ⌜ now (out .exit) ≡ sets (now (out .entry)) to (formBytes msb (tupAt msb (drop at (now (file .entry))))) ⌝ }
+{
+    let tail = whole - intake::TAIL;
+    let line = Kind::PingU.line();
+    open_form(file, at, msb, line, out, to, bytes, types::PING_U);
+    samples::turn::spread_words(
+        &file[at + intake::WORDS..at + tail],
+        msb,
+        out,
+        to + intake::PAIRS,
+    );
+    close_form(
+        file,
+        at + tail,
+        msb,
+        out,
+        to + (bytes - intake::TAIL),
+        bytes,
+    );
+}
+
+// Writes the form of a C-32 ping, by its number of samples, and says how many bytes it has.
+fn write_c(file: &[u8], at: usize, msb: bool, whole: usize, out: &mut [u8], to: usize) -> usize
+    requires { ⌜ SoundHere msb (now file) at whole 10010 ⌝ }
+    requires { ⌜ to + length (formBytes msb (tupAt msb (drop at (now file)))) ≤ length (now out) ⌝ }
+    ensures { λ r. ⌜ r ≡ length (formBytes msb (tupAt msb (drop at (now (file .entry))))) ⌝ }
+    ensures { λ _. ⌜ now (out .exit) ≡ sets (now (out .entry)) to (formBytes msb (tupAt msb (drop at (now (file .entry))))) ⌝ }
+{
+    let count = order::read4(file, at + intake::COUNT, msb) as usize;
+    if count == 0 {
+        write_silent(file, at, msb, whole, out, to);
+        return SILENT;
+    }
+    let bytes = intake::PAIRS + PAIR * count + intake::TAIL;
+    write_sampled(file, at, msb, whole, bytes, out, to);
+    bytes
+}
+
+// Writes the normal form of the tuple at a place, and says how many bytes it has.
+pub fn write_form(
+    file: &[u8],
+    at: usize,
+    msb: bool,
+    whole: usize,
+    code: u16,
+    out: &mut [u8],
+    to: usize,
+) -> usize
+    requires { ⌜ SoundHere msb (now file) at whole code ⌝ }
+    requires { ⌜ to + length (formBytes msb (tupAt msb (drop at (now file)))) ≤ length (now out) ⌝ }
+    ensures { λ r. ⌜ r ≡ length (formBytes msb (tupAt msb (drop at (now (file .entry))))) ⌝ }
+    ensures { λ _. ⌜ now (out .exit) ≡ sets (now (out .entry)) to (formBytes msb (tupAt msb (drop at (now (file .entry))))) ⌝ }
+{
+    if layout::in_class(layout::INDEX, code) {
+        return 0;
+    }
+    if code == types::PING_C {
+        return write_c(file, at, msb, whole, out, to);
+    }
+    if code == types::PING_U {
+        write_u(file, at, msb, whole, out, to);
+        return whole;
+    }
+    let line = layout::kind_of(code).line();
+    if line == layout::LISTED {
+        write_raw(file, at, msb, whole, code, out, to);
+        return whole;
+    }
+    write_row(file, at, msb, whole, code, line, out, to);
+    whole
+}

@@ -8,3 +8,4 @@ pub mod Handing
 pub mod Apart
 pub mod Writing
 pub mod Written
+pub mod Turning

@@ -1,0 +1,5 @@
+pub mod Formed
+pub mod Placed
+pub mod Texts
+pub mod Stored
+pub mod Written

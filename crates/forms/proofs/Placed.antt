@@ -1,0 +1,115 @@
+-- The normal form of a sound tuple at a place, by its length, its type code and its places in the file. Assumes nothing.
+use mathlib.Core.Path.{_≡_, refl, sym, ap, _∙_}
+use mathlib.Core.Bool.{Bool, true, false, cond, false≢true}
+use mathlib.Core.List.{List, []}
+use Prim.Native.Nat.{ℕ, _+_, _*_, _≤_}
+use native.Mathlib.Omega.{arith}
+use borrow.Author.Tests.{le-leb}
+use lib.Dec.{eqb}
+use lib.ListN.{length, take, drop}
+use lib.Seq.{drop-drop}
+use Rattle.order.specs.Order.{numOf}
+use Rattle.rules.specs.Rules.{Rule, firstOf}
+use Rattle.layout.specs.declared.Kind.{Kind}
+use Rattle.layout.specs.declared.Kind.the-variants.{Index, Unlisted}
+use Rattle.layout.specs.Types.{Shape, indexed, row, pairs, words, unlisted, classes, inClass, index, kindRules, kindOf, lineOf, shapeOf}
+use Rattle.layout.proofs.Verdicts.{both-left}
+use Rattle.turning.proofs.Contents.{within-take}
+use Rattle.frame.specs.Frames.{Tup, lengthOf, sizeAt, kindAt, tupAt}
+use Rattle.frame.proofs.Frames.{length-frame, allowed-most}
+use Rattle.frame.proofs.Places.{Whole, body-place}
+use Rattle.content.specs.Pings.{countIn, contentC}
+use Rattle.content.specs.Forms.{formBytes}
+use Rattle.content.proofs.Places.{Shaped, shaped, fieldAt, length-place}
+use Rattle.intake.specs.Tallies.{Fits, headVerdict, innerVerdict}
+use Rattle.intake.proofs.Judges.{whole, head-fits, own-parts}
+use Rattle.forms.specs.Sound.{SoundHere}
+use Rattle.forms.proofs.Formed.{form-index, form-raw, parts-row, long-U, parts-U, long-C, count-C, few-C, parts-C, parts-silent}
+
+-- ---- a type code by the code's tests
+pub within-index : (k : ℕ) → inClass index k ≡ false → (65406 ≤ k) × (k ≤ 65515) → ⊥
+unfolding inClass classes
+within-index k e h = false≢true (sym e ∙ rw (le-leb 65406 k (h .0), le-leb k 65515 (h .1)))
+
+-- the rules of the kinds behind the index class
+abbrev passed : ℕ → List (Rule Kind)
+passed k = drop 1 (kindRules k)
+
+index-shape : (k : ℕ) → inClass index k ≡ true → shapeOf k ≡ indexed
+unfolding kindOf lineOf
+index-shape k e = ap (λ (b : Bool). lineOf (cond b Index (firstOf (passed k) Unlisted)) .shape) e
+
+module _ {o : Bool} {f : List ℕ} {at n k : ℕ} (s : SoundHere o f at n k) where
+  abbrev t : Tup
+  t = tupAt o (drop at f)
+
+  pub there : Whole o f at n
+  there = whole (s .here)
+
+  pub most : (16 ≤ n) × (n ≤ 262144) × (at + n ≤ length f)
+  most = (there .long, allowed-most n (there .allowed), there .fits)
+
+  -- its length fits its type
+  pub fits-here : Fits n k
+  fits-here = head-fits (s .here) (eqb k 65535) refl (both-left (headVerdict o (eqb k 65535) t) (innerVerdict o t) (own-parts (s .here) ∙ s .own))
+
+  pub shape-of : shapeOf (kindAt o (drop at f)) ≡ shapeOf k
+  shape-of = ap shapeOf (s .here .kind)
+
+  pub size-of : lengthOf (tupAt o (drop at f)) ≡ n
+  size-of = length-place o f at n there
+
+  -- none, for the index class
+  pub none-index : inClass index k ≡ true → formBytes o (tupAt o (drop at f)) ≡ []
+  none-index e = form-index o t (shape-of ∙ index-shape k e)
+
+  pub measured-index : inClass index k ≡ true → (0 ≡ length (formBytes o (tupAt o (drop at f)))) × (0 ≤ 2 * n)
+  measured-index e = (ap length (sym (none-index e)), omega arith)
+
+  -- as many as the tuple has, for all but C-32 pings
+  pub measured-whole : inClass index k ≡ false → (k ≡ 10010 → ⊥) → (n ≡ length (formBytes o (tupAt o (drop at f)))) × (n ≤ 2 * n)
+  measured-whole e c = (sym (by (shapeOf k) refl (shaped k)), omega arith)
+    where
+      by : (q : Shape) → shapeOf k ≡ q → Shaped k q → length (formBytes o t) ≡ n
+      by indexed z h = absurd (within-index k e h)
+      by (row fs x) z h = parts-row o t (s .own) fs x (shape-of ∙ z) .long ∙ size-of
+      by pairs z h = parts-U o t (s .own) (shape-of ∙ z) .long ∙ size-of
+      by words z h = absurd (c h)
+      by unlisted z h = ap length (form-raw o t (shape-of ∙ z)) ∙ length-frame false t ∙ size-of
+
+  -- a U-32 ping
+  pub pairs-shape : k ≡ 10000 → shapeOf (kindAt o (drop at f)) ≡ pairs
+  unfolding kindOf inClass classes lineOf
+  pairs-shape e = shape-of ∙ ap shapeOf e
+
+  pub long-pairs : k ≡ 10000 → 40 ≤ n
+  long-pairs e = omega (arith, long-U o t (s .own) (pairs-shape e), size-of)
+
+  -- a C-32 ping, by its number of samples c
+  module _ (e : k ≡ 10010) where
+    pub words-shape : shapeOf (kindAt o (drop at f)) ≡ words
+    unfolding kindOf inClass classes lineOf
+    words-shape = shape-of ∙ ap shapeOf e
+
+    pub long-words : 40 ≤ n
+    long-words = omega (arith, long-C o t (s .own) words-shape, size-of)
+
+    pub count-of : fieldAt o f at 4 24 ≡ length (contentC o (tupAt o (drop at f) .body) .samples)
+    unfolding countIn
+    count-of =
+        let m = sizeAt o (drop at f) in
+        let z : at + 6 + 18 ≡ at + 24 = omega arith in
+        sym (ap (λ (d : List ℕ). numOf o (take 4 (drop 18 d))) (body-place o f at)
+        ∙ ap (numOf o) (within-take m 18 4 (drop (at + 6) f) (omega (arith, there .size, long-words)))
+        ∙ ap (λ (d : List ℕ). numOf o (take 4 d)) (drop-drop 18 (at + 6) f ∙ ap (λ (i : ℕ). drop i f) z))
+        ∙ count-C o t (s .own) words-shape
+
+    module _ (c : ℕ) (d : c ≡ fieldAt o f at 4 24) where
+      pub measured-silent : c ≡ 0 → (40 ≡ length (formBytes o (tupAt o (drop at f)))) × (40 ≤ 2 * n)
+      measured-silent z = (sym (parts-silent o t (s .own) words-shape (omega (arith, count-of)) .long), omega (arith, long-words))
+
+      pub measured-words : (c ≡ 0 → ⊥) → (24 + 8 * c + 8 ≡ length (formBytes o (tupAt o (drop at f)))) × (24 + 8 * c + 8 ≤ 2 * n)
+      measured-words z = (
+        sym (parts-C o t (s .own) words-shape (24 + 8 * c + 8) (omega (arith, count-of)) (omega (arith, count-of, z)) .long),
+        omega (arith, count-of, few-C o t (s .own) words-shape, size-of),
+      )

@@ -1,0 +1,129 @@
+-- The lines of the tables that rows are turned by, and where the characters of a tuple that a row reads begin. Assumes nothing.
+use mathlib.Core.Path.{_≡_, refl, ap, subst, _∙_}
+use mathlib.Core.Bool.{true, false}
+use mathlib.Core.Option.{Option, some, none}
+use Prim.Native.Nat.{ℕ, _+_, _-_, _≤_, _<_}
+use native.Mathlib.Omega.{arith}
+use borrow.Author.Tests.{eqb-true}
+use lib.Dec.{lit<}
+use Rattle.rules.proofs.Laws.{by-rules}
+use Rattle.layout.specs.declared.Kind.{Kind}
+use Rattle.layout.specs.declared.Kind.the-variants.{Signature, Sounder, Channel, Position, Navigation, Attitude, Threshold, Event, PingU, PingC, RunStart, RunEnd, FileEnd, Index, Unlisted}
+use Rattle.layout.specs.Fields.{size}
+use Rattle.layout.specs.Types.{Shape, indexed, row, pairs, words, unlisted, Length, fitting, classes, inClass, index, kindRules, kindOf, lineOf, shapeOf, placeIn, pingRow}
+use Rattle.layout.proofs.Tables.{Said, fieldsIn, lengthFrom, tabled, lengths-from}
+use Rattle.content.proofs.Fine.{upward-least}
+use Rattle.content.proofs.Places.{Shaped, shaped}
+use Rattle.intake.specs.Tallies.{Fits}
+use Rattle.forms.specs.Parts.{lineFields, Rowed}
+use Rattle.forms.proofs.Placed.{within-index}
+
+-- ---- lines
+-- the listed kinds have lines, below 13
+abbrev Lined : Shape → ℕ → Type 0
+Lined indexed i = i ≡ 13
+Lined (row fs x) i = i < 13
+Lined pairs i = i < 13
+Lined words i = i < 13
+Lined unlisted i = i ≡ 13
+
+lined : (q : Kind) → Lined (lineOf q .shape) (placeIn q)
+unfolding lineOf
+lined Signature = lit< tt
+lined Sounder = lit< tt
+lined Channel = lit< tt
+lined Position = lit< tt
+lined Navigation = lit< tt
+lined Attitude = lit< tt
+lined Threshold = lit< tt
+lined Event = lit< tt
+lined PingU = lit< tt
+lined PingC = lit< tt
+lined RunStart = lit< tt
+lined RunEnd = lit< tt
+lined FileEnd = lit< tt
+lined Index = refl
+lined Unlisted = refl
+
+-- a type code outside the index class, by its line
+module _ (k : ℕ) (e : inClass index k ≡ false) where
+  pub raw-shape : placeIn (kindOf k) ≡ 13 → shapeOf k ≡ unlisted
+  raw-shape p = by (shapeOf k) refl (shaped k) (lined (kindOf k))
+    where
+      by : (q : Shape) → shapeOf k ≡ q → Shaped k q → Lined q (placeIn (kindOf k)) → shapeOf k ≡ unlisted
+      by indexed z h l = absurd (within-index k e h)
+      by (row fs x) z h l = absurd (omega arith)
+      by pairs z h l = absurd (omega arith)
+      by words z h l = absurd (omega arith)
+      by unlisted z h l = z
+
+  pub rowed : (k ≡ 10010 → ⊥) → (k ≡ 10000 → ⊥) → (placeIn (kindOf k) ≡ 13 → ⊥) → Rowed k
+  rowed c u p = by (shapeOf k) refl (shaped k) (lined (kindOf k))
+    where
+      by : (q : Shape) → shapeOf k ≡ q → Shaped k q → Lined q (placeIn (kindOf k)) → Rowed k
+      by indexed z h l = absurd (within-index k e h)
+      by (row fs x) z h l = record { fields = fs; text = x; shape = z }
+      by pairs z h l = absurd (u h)
+      by words z h l = absurd (c h)
+      by unlisted z h l = absurd (p l)
+
+fields-line : (q : Kind) → placeIn q < 13 → (line : ℕ) → line ≡ placeIn q → lineFields line ≡ fieldsIn (lineOf q .shape)
+fields-line q h line e = ap lineFields e ∙ ap (λ (x : Said). x .fields) (tabled q h)
+
+module _ {k line : ℕ} (g : Rowed k) (e : line ≡ placeIn (kindOf k)) where
+  pub row-listed : line < 13
+  row-listed = omega (arith, subst (λ (q : Shape). Lined q (placeIn (kindOf k))) (g .shape) (lined (kindOf k)))
+
+  pub row-fields : lineFields line ≡ g .fields
+  row-fields = fields-line (kindOf k) (subst (λ (q : Shape). Lined q (placeIn (kindOf k))) (g .shape) (lined (kindOf k))) line e ∙ ap fieldsIn (g .shape)
+
+-- both pings have the header of the line of U-32 pings
+pub ping-fields : {line : ℕ} → line ≡ placeIn PingU → lineFields line ≡ pingRow
+unfolding lineOf
+ping-fields {line} e = fields-line PingU (lit< tt) line e
+
+pub ping-line : {line : ℕ} → line ≡ placeIn PingU → (line < 13) × (size (lineFields line) ≡ 18)
+ping-line e = (omega arith, ap size (ping-fields e))
+
+-- ---- characters
+-- a shape without characters
+abbrev Bare : Shape → Type 0
+Bare indexed = Unit {0}
+Bare (row fs none) = Unit {0}
+Bare (row fs (some n)) = ⊥
+Bare pairs = Unit {0}
+Bare words = Unit {0}
+Bare unlisted = Unit {0}
+
+bare : (k : ℕ) → (k ≡ 10110 → ⊥) → (k ≡ 65534 → ⊥) → Bare (shapeOf k)
+unfolding kindOf lineOf
+bare k a b =
+    by-rules (λ (q : Kind). Bare (lineOf q .shape)) (kindRules k) Unlisted
+    (λ _. tt, λ _. (λ _. tt, λ _. (λ _. tt, λ _. (λ _. tt, λ _. (λ _. tt, λ _. (λ _. tt, λ _. (λ _. tt, λ _. (λ _. tt, λ _. (λ e. a (eqb-true k 10110 e), λ _. (λ _. tt, λ _. (λ _. tt, λ _. (λ _. tt, λ _. (λ _. tt, λ _. (λ e. b (eqb-true k 65534 e), λ _. tt))))))))))))))
+
+-- the fields and the least length of an event and of an end of file
+pub text-event : {n k : ℕ} → Fits n k → k ≡ 10110 → (12 ≡ 6 + size (lineFields (placeIn (kindOf k)))) × (20 ≤ n)
+unfolding kindOf inClass classes lineOf
+text-event {n} {k} f e =
+    (omega (arith, ap size (fields-line Event (lit< tt) (placeIn (kindOf k)) (ap (λ (c : ℕ). placeIn (kindOf c)) e))), omega (arith, upward-least 24 n _ (subst (Fits n) e f)))
+
+pub text-end : {n k : ℕ} → Fits n k → k ≡ 65534 → (14 ≡ 6 + size (lineFields (placeIn (kindOf k)))) × (22 ≤ n)
+unfolding kindOf inClass classes lineOf
+text-end {n} {k} f e =
+    (omega (arith, ap size (fields-line FileEnd (lit< tt) (placeIn (kindOf k)) (ap (λ (c : ℕ). placeIn (kindOf c)) e))), omega (arith, upward-least 24 n _ (subst (Fits n) e f)))
+
+-- all others have none
+module _ {n k : ℕ} (g : Rowed k) (f : Fits n k) (a : k ≡ 10110 → ⊥) (b : k ≡ 65534 → ⊥) where
+  whole-row : n ≡ size (g .fields) + 14
+  whole-row = by (g .text) (g .shape)
+    where
+      by : (x : Option ℕ) → shapeOf k ≡ row (g .fields) x → n ≡ size (g .fields) + 14
+      by none e =
+          eqb-true n (size (g .fields) + 14) (subst (λ (q : Shape). fitting (lengthFrom q) n ≡ true) e (subst (λ (l : Length). fitting l n ≡ true) (lengths-from (kindOf k)) f))
+      by (some m) e = absurd (subst Bare e (bare k a b))
+
+  pub text-none : (n - 8 ≡ 6 + size (lineFields (placeIn (kindOf k)))) × (n - 8 + 8 ≤ n)
+  text-none = let e = ap size (row-fields g refl) in (omega (arith, whole-row), omega (arith, whole-row))
+
+  pub tail-fits : 8 ≤ n
+  tail-fits = omega (arith, whole-row)

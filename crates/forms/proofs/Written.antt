@@ -1,0 +1,200 @@
+-- The writers of the normal form of a sound tuple at a place: what each stores, one run behind the other, is its bytes. Assumes
+-- nothing.
+use mathlib.Core.Path.{_≡_, refl, sym, ap, ap₂, _∙_}
+use mathlib.Core.Bool.{Bool, false}
+use mathlib.Core.List.{List, _++_, append-assoc}
+use mathlib.Core.Option.{Option}
+use Prim.Native.Nat.{ℕ, _+_, _-_, _*_, _≤_, _<_}
+use native.Mathlib.Omega.{arith}
+use lib.ListN.{length, take, drop, length-drop}
+use lib.Seq.{sets, drop-drop, length-take-le}
+use Rattle.order.specs.Order.{numOf, bytesOf}
+use Rattle.layout.specs.declared.Kind.the-variants.{PingU}
+use Rattle.layout.specs.Fields.{Field, size}
+use Rattle.layout.specs.Types.{row, unlisted, shapeOf, placeIn, pingRow}
+use Rattle.turning.specs.Rows.{turned}
+use Rattle.turning.proofs.Contents.{within-take, turned-take, length-turned}
+use Rattle.frame.specs.Frames.{Tup, frame, sizeAt, tupAt}
+use Rattle.frame.proofs.Frames.{allowed-4, allowed-most}
+use Rattle.frame.proofs.Places.{body-place}
+use Rattle.samples.specs.Words.{allWords, unwords, unpair}
+use Rattle.samples.specs.Runs.{radix, decode}
+use Rattle.samples.proofs.Words.{length-unwords, length-unpair}
+use Rattle.samples.proofs.Turning.{length-all}
+use Rattle.content.specs.Pings.{wordsIn, attributeIn, contentC}
+use Rattle.content.specs.Forms.{formBytes}
+use Rattle.content.proofs.Places.{fieldAt, length-body}
+use Rattle.forms.specs.Sound.{SoundHere}
+use Rattle.forms.specs.Parts.{frontBytes, openingBytes, closingBytes, silence, lineFields}
+use Rattle.forms.proofs.Formed.{last-four, form-raw, least-row, parts-row, parts-U, parts-C, parts-silent}
+use Rattle.forms.proofs.Placed.{there, shape-of, size-of, pairs-shape, long-pairs, words-shape, long-words, count-of}
+use Rattle.forms.proofs.Texts.{ping-fields}
+use Rattle.forms.proofs.Stored.{length-silence, closed, enclosed}
+
+-- the frame of a type and data
+raw-frame : (k : ℕ) (d : List ℕ) → frame false (record { kind = k; body = d }) ≡ frontBytes (length d + 10) k ++ (d ++ bytesOf false 4 (length d + 10))
+unfolding frame frontBytes
+raw-frame k d =
+    let z : length d ≡ length d + 10 - 10 = omega arith in
+    ap (λ (i : ℕ). bytesOf false 4 i ++ (bytesOf false 2 k ++ (d ++ bytesOf false 4 (length d + 10)))) z
+    ∙ sym (append-assoc (bytesOf false 4 (length d + 10 - 10)) (bytesOf false 2 k) (d ++ bytesOf false 4 (length d + 10)))
+
+module _ {o : Bool} {f : List ℕ} {at n k : ℕ} (s : SoundHere o f at n k) where
+  abbrev t : Tup
+  t = tupAt o (drop at f)
+
+  abbrev m : ℕ
+  m = sizeAt o (drop at f)
+
+  -- ---- its data by their places
+  fields-place : (fs : List Field) → size fs + 10 ≤ n → turned o fs (t .body) ≡ turned o fs (drop (at + 6) f)
+  fields-place fs h = ap (turned o fs) (body-place o f at) ∙ turned-take o fs m (drop (at + 6) f) (omega (arith, there s .size))
+
+  part-place : (p w : ℕ) → p + w + 10 ≤ n → take w (drop p (t .body)) ≡ take w (drop (at + (6 + p)) f)
+  part-place p w h =
+      let e : at + 6 + p ≡ at + (6 + p) = omega arith in
+      ap (λ (l : List ℕ). take w (drop p l)) (body-place o f at)
+      ∙ within-take m p w (drop (at + 6) f) (omega (arith, there s .size))
+      ∙ ap (take w) (drop-drop p (at + 6) f ∙ ap (λ (i : ℕ). drop i f) e)
+
+  size-body : length (tupAt o (drop at f) .body) ≡ n - 10
+  size-body = length-body o f at n (there s)
+
+  attribute-place : attributeIn o (t .body) ≡ numOf o (take 4 (drop (at + (n - 8)) f))
+  attribute-place =
+      let long = there s .long in
+      let p : at + (6 + (n - 14)) ≡ at + (n - 8) = omega arith in
+      sym (last-four o (t .body) (n - 14) (omega (arith, size-body)))
+      ∙ ap (numOf o) (part-place (n - 14) 4 (omega arith))
+      ∙ ap (λ (i : ℕ). numOf o (take 4 (drop i f))) p
+
+  -- the words between a header of a bytes and the attribute
+  words-place : (a : ℕ) → a + 14 ≤ n → wordsIn a o (t .body) ≡ allWords 4 o (take (at + (n - 8) - (at + (6 + a))) (drop (at + (6 + a)) f))
+  unfolding wordsIn
+  words-place a h =
+      let w : length (t .body) - (a + 4) ≡ at + (n - 8) - (at + (6 + a)) = omega (arith, size-body) in
+      ap (λ (i : ℕ). allWords 4 o (take i (drop a (t .body)))) w ∙ ap (allWords 4 o) (part-place a (at + (n - 8) - (at + (6 + a))) (omega arith))
+
+  -- a C-32 ping counts the samples of its words, and they are few
+  pub spread-count : k ≡ 10010 → fieldAt o f at 4 24 ≡ length (decode radix (allWords 4 o (take (at + (n - 8) - (at + 28)) (drop (at + 28) f))))
+  unfolding contentC
+  spread-count e = count-of s e ∙ ap (λ (ws : List ℕ). length (decode radix ws)) (words-place 22 (omega (arith, long-words s e)))
+
+  pub spread-few : 40 ≤ n → length (take (at + (n - 8) - (at + 28)) (drop (at + 28) f)) ≤ 262108
+  spread-few long =
+      omega (arith, length-take-le (at + (n - 8) - (at + 28)) (drop (at + 28) f) (simp length-drop (omega (arith, there s .fits))), allowed-most n (there s .allowed))
+
+  -- ---- its form by parts h, m and the attribute, each by its place
+  moved : {i j c e : ℕ} {h g m l : List ℕ} → i ≡ j → c ≡ e → h ≡ g → m ≡ l
+      → formBytes o t ≡ openingBytes i c h ++ (m ++ closingBytes i (attributeIn o (t .body)))
+      → formBytes o t ≡ openingBytes j e g ++ (l ++ closingBytes j (numOf o (take 4 (drop (at + (n - 8)) f))))
+  moved {i} {j} {c} {e} {h} {g} {m} {l} x y z w b =
+      b
+      ∙ ap₂ (λ (i c : ℕ). openingBytes i c h ++ (m ++ closingBytes i (attributeIn o (t .body)))) x y
+      ∙ ap₂ (λ (h m : List ℕ). openingBytes j e h ++ (m ++ closingBytes j (attributeIn o (t .body)))) z w
+      ∙ ap (λ (a : ℕ). openingBytes j e g ++ (l ++ closingBytes j a)) attribute-place
+
+  module _ (out left : List ℕ) (to : ℕ) where
+    -- j bytes of type e: the fields h, at p the rest m, at q attribute and backlink
+    stored : (j e : ℕ) (h m : List ℕ) (p q : ℕ) → p ≡ to + 6 + length h → q ≡ p + length m
+        → formBytes o t ≡ openingBytes j e h ++ (m ++ closingBytes j (numOf o (take 4 (drop (at + (n - 8)) f))))
+        → left ≡ sets (sets (sets out to (openingBytes j e h)) p m) q (closingBytes j (numOf o (take 4 (drop (at + (n - 8)) f))))
+        → left ≡ sets out to (formBytes o (tupAt o (drop at f)))
+    stored j e h m p q x y b w = w ∙ closed out to j e h m _ p q x y ∙ ap (sets out to) (sym b)
+
+    -- a row, its characters at `text`
+    pub row-written : (fs : List Field) (x : Option ℕ) → shapeOf k ≡ row fs x → (gs : List Field) → gs ≡ fs → (text : ℕ) → text ≡ 6 + size fs
+        → left
+        ≡ sets (sets (sets out to (openingBytes n k (turned o gs (drop (at + 6) f)))) (to + text) (take (n - 8 - text) (drop (at + text) f))) (to + (n - 8))
+        (closingBytes n (numOf o (take 4 (drop (at + (n - 8)) f))))
+        → left ≡ sets out to (formBytes o (tupAt o (drop at f)))
+    row-written fs x e gs g text z w =
+        let shape = shape-of s ∙ e in
+        let least = least-row o t (s .own) fs x shape in
+        let fit : size fs + 14 ≤ n = omega (arith, size-of s) in
+        let head = turned o fs (drop (at + 6) f) in
+        let mid = take (n - 8 - text) (drop (at + text) f) in
+        let room : size fs ≤ length (drop (at + 6) f) = simp length-drop (omega (arith, there s .fits)) in
+        let rest : n - 8 - text ≤ length (drop (at + text) f) = simp length-drop (omega (arith, there s .fits)) in
+        let width : length (t .body) - (size fs + 4) ≡ n - 8 - text = omega (arith, size-body) in
+        let middle : take (length (t .body) - (size fs + 4)) (drop (size fs) (t .body)) ≡ mid =
+        ap (λ (i : ℕ). take i (drop (size fs) (t .body))) width
+        ∙ part-place (size fs) (n - 8 - text) (omega arith)
+        ∙ ap (λ (i : ℕ). take (n - 8 - text) (drop (at + i) f)) (sym z) in
+        stored n k head mid (to + text) (to + (n - 8)) (omega (arith, length-turned o fs (drop (at + 6) f) room)) (omega (arith, length-take-le (n - 8 - text) (drop (at + text) f) rest))
+        (moved (size-of s) (s .here .kind) (fields-place fs (omega arith)) middle (parts-row o t (s .own) fs x shape .are))
+        (w ∙ ap (λ (us : List Field). sets (sets (sets out to (openingBytes n k (turned o us (drop (at + 6) f)))) (to + text) mid) (to + (n - 8)) (closingBytes n (numOf o (take 4 (drop (at + (n - 8)) f))))) g)
+
+    -- an unlisted tuple
+    pub raw-written : shapeOf k ≡ unlisted → left ≡ sets (sets (sets out to (frontBytes n k)) (to + 6) (take (n - 10) (drop (at + 6) f))) (to + n - 4) (bytesOf false 4 n)
+        → left ≡ sets out to (formBytes o (tupAt o (drop at f)))
+    raw-written e w =
+        let d = take (n - 10) (drop (at + 6) f) in
+        let long = there s .long in
+        let width : m ≡ n - 10 = omega (arith, there s .size) in
+        let body : t .body ≡ d = body-place o f at ∙ ap (λ (i : ℕ). take i (drop (at + 6) f)) width in
+        let fit : length d ≡ n - 10 = ap length (sym body) ∙ size-body in
+        w
+        ∙ enclosed out to n k d (to + n - 4) (omega arith)
+        ∙ ap (sets out to) (sym (form-raw o t (shape-of s ∙ e) ∙ raw-frame (t .kind) (t .body) ∙ ap₂ (λ (c : ℕ) (b : List ℕ). frontBytes (length b + 10) c ++ (b ++ bytesOf false 4 (length b + 10))) (s .here .kind) body
+        ∙ ap (λ (i : ℕ). frontBytes i k ++ (d ++ bytesOf false 4 i)) (omega arith)))
+
+    -- a ping of either kind: its header has 18 bytes
+    module _ (long : 40 ≤ n) where
+      ping-written : (j e : ℕ) (m : List ℕ) (q : ℕ) → q ≡ to + 24 + length m
+          → formBytes o t ≡ openingBytes j e (turned o pingRow (t .body)) ++ (m ++ closingBytes j (attributeIn o (t .body)))
+          → left
+          ≡ sets (sets (sets out to (openingBytes j e (turned o (lineFields (placeIn PingU)) (drop (at + 6) f)))) (to + 24) m) q
+          (closingBytes j (numOf o (take 4 (drop (at + (n - 8)) f))))
+          → left ≡ sets out to (formBytes o (tupAt o (drop at f)))
+      ping-written j e m q z b w =
+          let g = turned o pingRow (drop (at + 6) f) in
+          let room : 18 ≤ length (drop (at + 6) f) = simp length-drop (omega (arith, there s .fits)) in
+          stored j e g m (to + 24) q (omega (arith, length-turned o pingRow (drop (at + 6) f) room)) z
+          (moved {m = m} refl refl (fields-place pingRow (omega arith)) refl b)
+          (w ∙ ap (λ (us : List Field). sets (sets (sets out to (openingBytes j e (turned o us (drop (at + 6) f)))) (to + 24) m) q (closingBytes j (numOf o (take 4 (drop (at + (n - 8)) f))))) (ping-fields refl))
+
+    -- a U-32 ping, its words turned
+    pub pairs-written : k ≡ 10000
+        → left
+        ≡ sets
+        (sets (sets out to (openingBytes n 10000 (turned o (lineFields (placeIn PingU)) (drop (at + 6) f)))) (to + 24)
+        (unwords 4 false (allWords 4 o (take (at + (n - 8) - (at + 24)) (drop (at + 24) f))))) (to + (n - 8)) (closingBytes n (numOf o (take 4 (drop (at + (n - 8)) f))))
+        → left ≡ sets out to (formBytes o (tupAt o (drop at f)))
+    pairs-written e w =
+        let shape = pairs-shape s e in
+        let long = long-pairs s e in
+        let four = allowed-4 n (there s .allowed) in
+        let part = take (at + (n - 8) - (at + 24)) (drop (at + 24) f) in
+        let fit : length part ≡ n - 32 = length-take-le (at + (n - 8) - (at + 24)) (drop (at + 24) f) (simp length-drop (omega (arith, there s .fits))) ∙ omega arith in
+        let ws = allWords 4 o part in
+        ping-written long n 10000 (unwords 4 false ws) (to + (n - 8)) (omega (arith, length-unwords 4 false ws, length-all 4 o part))
+        (parts-U o t (s .own) shape .are
+        ∙ ap₂ (λ (i : ℕ) (l : List ℕ). openingBytes i 10000 (turned o pingRow (t .body)) ++ (unwords 4 false l ++ closingBytes i (attributeIn o (t .body)))) (size-of s) (words-place 18 (omega arith)))
+        w
+
+    -- a C-32 ping, of j bytes as U-32
+    pub words-written : (e : k ≡ 10010) (j : ℕ) → j ≡ 24 + 8 * fieldAt o f at 4 24 + 8 → 0 < fieldAt o f at 4 24
+        → left
+        ≡ sets
+        (sets (sets out to (openingBytes j 10000 (turned o (lineFields (placeIn PingU)) (drop (at + 6) f)))) (to + 24)
+        (unwords 4 false (unpair (decode radix (allWords 4 o (take (at + (n - 8) - (at + 28)) (drop (at + 28) f))))))) (to + (j - 8)) (closingBytes j (numOf o (take 4 (drop (at + (n - 8)) f))))
+        → left ≡ sets out to (formBytes o (tupAt o (drop at f)))
+    words-written e j z any w =
+        let shape = words-shape s e in
+        let long = long-words s e in
+        let count = count-of s e in
+        let x = decode radix (allWords 4 o (take (at + (n - 8) - (at + 28)) (drop (at + 28) f))) in
+        ping-written long j 10000 (unwords 4 false (unpair x)) (to + (j - 8)) (omega (arith, length-unwords 4 false (unpair x), length-unpair x, spread-count e))
+        (parts-C o t (s .own) shape j (omega arith) (omega arith) .are
+        ∙ ap (λ (l : List ℕ). openingBytes j 10000 (turned o pingRow (t .body)) ++ (unwords 4 false (unpair (decode radix l)) ++ closingBytes j (attributeIn o (t .body)))) (words-place 22 (omega arith)))
+        w
+
+    -- one without samples
+    pub silent-written : k ≡ 10010 → fieldAt o f at 4 24 ≡ 0
+        → left
+        ≡ sets (sets (sets out to (openingBytes 40 10010 (turned o (lineFields (placeIn PingU)) (drop (at + 6) f)))) (to + 24) silence) (to + 32)
+        (closingBytes 40 (numOf o (take 4 (drop (at + (n - 8)) f))))
+        → left ≡ sets out to (formBytes o (tupAt o (drop at f)))
+    silent-written e zero w =
+        ping-written (long-words s e) 40 10010 silence (to + 32) (omega (arith, length-silence)) (parts-silent o t (s .own) (words-shape s e) (omega (arith, count-of s e)) .are) w

@@ -1,0 +1,70 @@
+-- `forms::write_sampled` meets its contract: size, type and header; a pair for each sample; attribute and backlink. Assumes nothing.
+use mathlib.Core.Path.{refl}
+use Prim.Native.Nat.{_+_, _*_, _≤_}
+use native.Mathlib.Omega.{arith}
+use borrow.Author.Needs.{needs}
+use lib.ListN.{length}
+use Rattle.forms.proofs.Placed.{most, long-words, measured-words}
+use Rattle.forms.proofs.Texts.{ping-line}
+use Rattle.forms.proofs.Written.{spread-count, spread-few, words-written}
+use Rattle.forms.proofs.write_sampled.Statement.{statement}
+use Rattle.forms.proofs.write_sampled.Tie as tie
+
+-- the ping has room for its header and its last 8 bytes, and stands in the file; its form is not twice as long
+abbrev Room : tie.Start → Type 0
+Room s = let a = s .args in (40 ≤ a .whole) × (a .whole ≤ 262144) × (a .at + a .whole ≤ length (a .file .now)) × (40 ≤ a .bytes) × (a .bytes ≤ 2 * a .whole)
+
+room : (s : tie.Start) → Room s
+room s =
+    let p = s .pre in
+    let r = most (p .0) in
+    let twice = measured-words (p .0) refl _ refl (λ e. omega (arith, p .1 .0)) .1 in
+    (long-words (p .0) refl, r .1, r .2, omega (arith, p .1 .0, p .1 .1 .0), omega (arith, p .1 .1 .0))
+
+open-form-requires : tie.Need-open-form-requires
+open-form-requires c κs =
+    let r = room (c .before .before .before .before) in
+    let l = ping-line (c .before .line .ensures) in
+    (l .0, (omega arith, (omega arith, (omega arith, omega arith))))
+
+spread-words-requires : tie.Need-spread-words-requires
+spread-words-requires c κs =
+    let s = c .before .before .before .before .before .before .before .before .before in
+    let r = room s in
+    (spread-few (s .pre .0) (r .0), omega (arith, spread-count (s .pre .0) refl, s .pre .1 .1 .0))
+
+close-form-requires : tie.Need-close-form-requires
+close-form-requires c κs =
+    let r = room (c .before .before .before .before .before .before .before .before .before .before .before .before .before) in
+    (omega arith, (omega arith, omega arith))
+
+returns : tie.Need-returns
+returns c =
+    let back = c .before .before in
+    let pairs = back .before .before .before .before in
+    let header = pairs .before .before .before .before .before in
+    let line = header .before .before in
+    let s = line .before .before .before in
+    words-written (s .pre .0) (s .args .out .now) _ (s .args .to) refl (s .args .bytes) (s .pre .1 .1 .0) (s .pre .1 .0)
+    (rw (back .close-form .ensures, pairs .spread-words .ensures, header .open-form .ensures, line .line .ensures))
+
+pub write-sampled-spec : {M : Type 1} → statement M
+write-sampled-spec =
+    tie.close
+    (tie.spec
+    (λ c. search needs)
+    (λ c κs. search needs)
+    open-form-requires
+    (λ c. search needs)
+    (λ c. let r = room (c .before .before .before .before .before .before .before) in omega arith)
+    (λ c. let r = room (c .before .before .before .before .before .before .before) in omega arith)
+    (λ c. let r = room (c .before .before .before .before .before .before .before) in omega arith)
+    (λ c. let r = room (c .before .before .before .before .before .before .before) in omega arith)
+    (λ c. search needs)
+    spread-words-requires
+    (λ c. let r = room (c .before .before .before .before .before .before .before .before .before .before .before .before) in omega arith)
+    (λ c. search needs)
+    (λ c. search needs)
+    close-form-requires
+    (λ c. search needs)
+    returns)
