@@ -224,7 +224,7 @@ fn either(a: bool, b: bool) -> bool
 
 impl Tally {
     // Behind the mark.
-    fn begin() -> Tally
+    pub fn begin() -> Tally
         ensures { λ r. ⌜ r ≡ tallyBegin ⌝ }
     {
         Tally {
@@ -345,7 +345,7 @@ fn end(
 }
 
 // One turn: the tuple where the tally stands is judged, its declaration is kept, and the tally passes it.
-fn turn(
+pub fn turn(
     file: &[u8],
     msb: bool,
     w: Tally,

@@ -1,2 +1,10 @@
 pub mod Carried
 pub mod Demand
+pub mod Pieces
+pub mod Passing
+pub mod Measures
+pub mod Surveying
+pub mod Writing
+pub mod Answers
+pub mod Singles
+pub mod Outcomes

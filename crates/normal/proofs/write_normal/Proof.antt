@@ -1,0 +1,77 @@
+-- `normal::write_normal` meets its contract: with the forms still to come, the memory is the whole normal form (`Writing`).
+-- Assumes nothing.
+use mathlib.Core.Path.{_∙_}
+use Prim.Native.Nat.{_-_}
+use native.Mathlib.Omega.{arith}
+use lib.ListN.{length, drop}
+use Rattle.frame.specs.Frames.{lenAt}
+use Rattle.frame.specs.Files.{mark}
+use Rattle.frame.proofs.Places.{Whole, framing-whole}
+use Rattle.normal.proofs.Pieces.{normal-length}
+use Rattle.normal.proofs.Writing.{Writing, accepted-4, marked-out, writing-begin, writing-length, writing-done, writing-sound, writing-room, writing-again, writing-less}
+use Rattle.normal.proofs.write_normal.Statement.{statement}
+use Rattle.normal.proofs.write_normal.Tie as tie
+
+abbrev Inv-loop : tie.InvT-loop
+Inv-loop file out₀ msb at₀ to₀ out at to = Writing file out₀ msb at to out
+
+abbrev μ-loop : tie.MeasureT-loop
+μ-loop file out₀ msb at₀ to₀ out at to = length file - at
+
+store4-requires : tie.Need-store4-requires Inv-loop μ-loop
+store4-requires c κs = let s = c .before .before .before in omega (arith, normal-length (s .args .file .now), s .pre .enough)
+
+loop-holds : tie.Need-loop-holds Inv-loop μ-loop
+unfolding mark
+loop-holds c = writing-begin _ (c .before .before .before .before .before .before .before .args .out .now) _ _ (c .before .before .before .store4 .ensures) (c .before .before .before .before .before .before .before .pre) (c .is-msb .ensures)
+
+-- the tuple where the loop stands
+there : (c : tie.In-loop Inv-loop μ-loop) → let l = c .before .loop in let a = c .before .before .before .before .before .before .before .before .before .args in Whole (c .before .before .is-msb .result) (a .file .now) (l .at) (lenAt (c .before .before .is-msb .result) (drop (l .at) (a .file .now)))
+there c = framing-whole _ _ _ (writing-sound _ _ _ _ _ _ (c .before .loop .inv) (c .loop-test .taken) .here .framed)
+
+write-form-requires : tie.Need-write-form-requires Inv-loop μ-loop
+write-form-requires c κs =
+    let l = c .before .before .before .before .loop .inv in
+    let h = c .before .before .before .loop-test .taken in
+    (rw (c .before .before .length-at .ensures, c .before .kind-at .ensures) (writing-sound _ _ _ _ _ _ l h), writing-room _ _ _ _ _ _ l h)
+
+add-to : tie.Need-add-to Inv-loop μ-loop
+add-to c =
+    let w = c .before .before .before .before .before .before .before .loop .inv in
+    omega (arith, writing-room _ _ _ _ _ _ w (c .before .before .before .before .before .before .loop-test .taken), writing-length _ _ _ _ _ _ w, c .before .before .before .before .before .before .before .before .before .before .before .store4 .kept .0, c .before .before .write-form .ensures .0)
+
+add-at : tie.Need-add-at Inv-loop μ-loop
+add-at c = omega (arith, there (c .before .before .before .before .before .before) .fits, c .before .before .before .before .before .length-at .ensures)
+
+loop-less : tie.Need-loop-less Inv-loop μ-loop
+loop-less c = writing-less _ _ _ _ _ _ (c .before .before .before .before .before .before .before .loop .inv) (c .before .before .before .before .before .before .loop-test .taken) _ (c .before .before .before .before .before .length-at .ensures)
+
+loop-again : tie.Need-loop-again Inv-loop μ-loop
+loop-again c = writing-again _ _ _ _ _ _ (c .before .before .before .before .before .before .before .loop .inv) (c .before .before .before .before .before .before .loop-test .taken) _ _ _ (c .before .before .before .before .before .length-at .ensures) (c .before .before .write-form .ensures .0) (c .before .before .write-form .ensures .1)
+
+same-length : tie.Need-same-length Inv-loop μ-loop
+same-length c = writing-length _ _ _ _ _ _ (c .before .loop .inv) ∙ c .before .before .before .before .before .store4 .kept .0
+
+returns : tie.Need-returns Inv-loop μ-loop
+returns c =
+    let s = c .before .before .before .before .before .before .before .before .before in
+    writing-done _ _ _ _ _ _ (c .before .loop .inv) (c .loop-test .left) ∙ rw (c .before .before .before .before .before .store4 .ensures) (unfold mark in marked-out (s .args .file .now) (s .args .out .now))
+
+pub write-normal-spec : {M : Type 1} → statement M
+write-normal-spec =
+    tie.close
+    (tie.spec
+    Inv-loop
+    μ-loop
+    store4-requires
+    (λ c κs. let w = c .before .before .before .before .before .before .pre in accepted-4 _ _ _ (w .accepted))
+    loop-holds
+    (λ c κs. omega (arith, there c .long, there c .fits))
+    (λ c κs. omega (arith, there (c .before) .long, there (c .before) .fits))
+    write-form-requires
+    add-to
+    add-at
+    loop-less
+    loop-again
+    same-length
+    returns)
