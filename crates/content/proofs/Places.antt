@@ -114,7 +114,8 @@ module _ (o : Bool) (f : List ℕ) (at n : ℕ) (w : Whole o f at n) where
   length-place = omega (arith, length-body, w .long)
 
   -- a row that the data hold is read by its places
-  values-place : (fs : List Field) → size fs + 10 ≤ n → valuesOf o fs (t .body) ≡ valuesAt o fs f at 6
+  pub values-place : (fs : List Field) → size fs + 10 ≤ n → valuesOf o fs (tupAt o (drop at f) .body) ≡ valuesAt o fs f at 6
+  unfolding t
   values-place fs h = ap (valuesOf o fs) body ∙ values-take o fs m (drop (at + 6) f) (omega (arith, size-n)) ∙ values-at o fs f at 6
 
   -- p bytes behind the type, k bytes that the data hold

@@ -1,18 +1,43 @@
 -- The loop over a row's codes: what is left of the row at a code, and behind its field. Assumes nothing.
-use mathlib.Core.Path.{_≡_}
+use mathlib.Core.Path.{_≡_, refl, ap}
 use mathlib.Core.Bool.{Bool}
 use mathlib.Core.List.{List, []}
+use mathlib.Core.Logic.{_⊎_, inl, inr}
 use mathlib.Core.Option.{Option, some, none}
 use Prim.Native.Nat.{ℕ, _+_, _<_, _≤_, zero-le}
 use native.Mathlib.Numerals.{add-one}
 use native.Mathlib.Omega.{arith}
+use borrow.Author.Tests.{ne-eqb}
+use lib.Dec.{eqb}
 use lib.ListN.{length, getD, drop, length-drop, drop-of-length-le}
 use lib.Seq.{sets, drop-cons, drop-drop}
 use Rattle.order.proofs.Stores.{sets-append}
-use Rattle.layout.specs.Fields.{Field, size}
+use Rattle.layout.specs.Fields.{Field, num, size}
 use Rattle.layout.specs.Codes.{fieldOf, fieldsFrom, fieldsOf}
 use Rattle.turning.specs.Rows.{turned, codeWidth, codeTurned}
 use Rattle.turning.proofs.Contents.{length-turnedField}
+
+-- ---- a code's field
+-- the width of the one code of an arm
+pub width : {k n : ℕ} → k ≡ n → codeWidth (fieldOf k) ≡ codeWidth (fieldOf n)
+width e = ap (λ (k : ℕ). codeWidth (fieldOf k)) e
+
+-- the fields of the arms with two codes
+pub two : {k : ℕ} → (k ≡ 50) ⊎ (k ≡ 115) → fieldOf k ≡ some (num (eqb k 115) 2)
+unfolding fieldOf
+two (inl e) = rw e
+two (inr e) = rw e
+
+pub four : {k : ℕ} → (k ≡ 52) ⊎ (k ≡ 83) → fieldOf k ≡ some (num (eqb k 83) 4)
+unfolding fieldOf
+four (inl e) = rw e
+four (inr e) = rw e
+
+-- a code that is none
+pub no-field : {k : ℕ} → ((k ≡ 50) ⊎ (k ≡ 115) → ⊥) → ((k ≡ 52) ⊎ (k ≡ 83) → ⊥) → (k ≡ 99 → ⊥) → (k ≡ 122 → ⊥) → (k ≡ 105 → ⊥) → fieldOf k ≡ none
+unfolding fieldOf
+no-field a b c z i =
+    rw (ne-eqb _ 50 (λ e. a (inl e)), ne-eqb _ 52 (λ e. b (inl e)), ne-eqb _ 115 (λ e. a (inr e)), ne-eqb _ 83 (λ e. b (inr e)), ne-eqb _ 99 c, ne-eqb _ 122 z, ne-eqb _ 105 i)
 
 -- ---- a code's field, if it has one, and the fields behind it
 reach : (x : Option Field) (fs : List Field) → codeWidth x ≤ size (fieldsFrom x fs)
@@ -20,7 +45,7 @@ reach none fs = zero-le
 reach (some f) fs = omega arith
 
 module _ (fs : List Field) (w : ℕ) (some-bytes : w ≡ 0 → ⊥) where
-  size-from : (x : Option Field) → w ≡ codeWidth x → size (fieldsFrom x fs) ≡ w + size fs
+  pub size-from : (x : Option Field) → w ≡ codeWidth x → size (fieldsFrom x fs) ≡ w + size fs
   size-from none e = absurd (some-bytes e)
   size-from (some f) e = rw e
 
@@ -32,7 +57,7 @@ module _ (fs : List Field) (w : ℕ) (some-bytes : w ≡ 0 → ⊥) where
 
 -- ---- the code at i of a row
 module _ (row : List ℕ) (i : ℕ) (more : i < length row) where
-  left : fieldsOf (drop i row) ≡ fieldsFrom (fieldOf (getD row i 0)) (fieldsOf (drop (i + 1) row))
+  pub left : fieldsOf (drop i row) ≡ fieldsFrom (fieldOf (getD row i 0)) (fieldsOf (drop (i + 1) row))
   unfolding fieldsOf
   left = rw (drop-cons row i 0, add-one)
 

@@ -1,32 +1,14 @@
 -- `turning::turn_field` meets its contract: the codes of each arm have that arm's field. Assumes nothing.
-use mathlib.Core.Path.{_≡_, refl, ap}
-use mathlib.Core.Option.{some}
-use mathlib.Core.Logic.{_⊎_, inl, inr}
-use Prim.Native.Nat.{ℕ}
+use mathlib.Core.Path.{refl, ap}
+use mathlib.Core.Logic.{inl, inr}
 use native.Mathlib.Omega.{arith}
 use borrow.Author.Needs.{needs}
 use borrow.Author.Tests.{ne-eqb}
-use lib.Dec.{eqb}
-use Rattle.layout.specs.Fields.{num}
 use Rattle.layout.specs.Codes.{fieldOf}
 use Rattle.turning.specs.Rows.{codeWidth}
+use Rattle.turning.proofs.Turns.{width, two, four, no-field}
 use Rattle.turning.proofs.turn_field.Statement.{statement}
 use Rattle.turning.proofs.turn_field.Tie as tie
-
--- the width of the one code of an arm
-width : {k n : ℕ} → k ≡ n → codeWidth (fieldOf k) ≡ codeWidth (fieldOf n)
-width e = ap (λ (k : ℕ). codeWidth (fieldOf k)) e
-
--- the fields of the arms with two codes
-two : {k : ℕ} → (k ≡ 50) ⊎ (k ≡ 115) → fieldOf k ≡ some (num (eqb k 115) 2)
-unfolding fieldOf
-two (inl e) = rw e
-two (inr e) = rw e
-
-four : {k : ℕ} → (k ≡ 52) ⊎ (k ≡ 83) → fieldOf k ≡ some (num (eqb k 83) 4)
-unfolding fieldOf
-four (inl e) = rw e
-four (inr e) = rw e
 
 returns : tie.Need-returns
 returns c =
@@ -39,12 +21,9 @@ returns-2 c =
     rw (four (s .before .before .before .match .keys2)) (rw (s .before .read4 .ensures) at (s .store4 .ensures), (refl, λ e. absurd (omega arith)))
 
 returns-6 : tie.Need-returns-6
-unfolding fieldOf
 returns-6 c =
     let r = c .match .rest in
-    rw
-    (ne-eqb _ 50 (λ e. r .0 .0 .0 .0 .1 (inl e)), ne-eqb _ 52 (λ e. r .0 .0 .0 .1 (inl e)), ne-eqb _ 115 (λ e. r .0 .0 .0 .0 .1 (inr e)), ne-eqb _ 83 (λ e. r .0 .0 .0 .1 (inr e)), ne-eqb _ 99 (r .0 .0 .1), ne-eqb _ 122 (r .0 .1), ne-eqb _ 105 (r .1))
-    (refl, (refl, λ e. refl))
+    rw (no-field (r .0 .0 .0 .0 .1) (r .0 .0 .0 .1) (r .0 .0 .1) (r .0 .1) (r .1)) (refl, (refl, λ e. refl))
 
 pub turn-field-spec : {M : Type 1} → statement M
 unfolding fieldOf
