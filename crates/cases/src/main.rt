@@ -171,7 +171,7 @@ fn sum_values(values: &[i32]) -> usize {
 
 // Prints what the sample reader answers and the sums of what it leaves in the lent entries. Its words stand in no other line.
 fn try_samples(file: &[u8], place: usize, numbers: &mut [u32], values: &mut [i32]) -> bool {
-    let answer = records::read_samples(file, place, numbers, values);
+    let answer = pings::read_samples(file, place, numbers, values);
     let of_numbers = sum_numbers(numbers);
     let of_values = sum_values(values);
     match answer {

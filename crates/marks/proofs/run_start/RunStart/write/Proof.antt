@@ -1,0 +1,42 @@
+-- `marks::run_start::RunStart::write` meets its contract: the fields in order are the values of the row. Assumes nothing.
+use mathlib.Core.Path.{refl, ap, _∙_}
+use mathlib.Core.List.{[], _∷_}
+use native.Mathlib.Omega.{arith}
+use borrow.Author.Needs.{needs}
+use mir.Syntax.{w32}
+use mir.Facts.{toZ-ofZ}
+use Rattle.order.specs.Order.{patternOf}
+use Rattle.layout.specs.Types.{classes, inClass, kindOf, lineOf}
+use Rattle.turning.specs.Rows.{number}
+use Rattle.tuples.proofs.Writing.{as-values}
+use Rattle.marks.proofs.run_start.RunStart.write.Statement.{statement}
+use Rattle.marks.proofs.run_start.RunStart.write.Tie as tie
+
+write-tuple-requires : tie.Need-write-tuple-requires
+unfolding kindOf inClass classes lineOf
+write-tuple-requires c κs = (refl, refl, refl, omega arith)
+
+returns : tie.Need-returns
+unfolding kindOf inClass classes lineOf
+returns c =
+    let a = c .before .before .before .before .before .before .before .before .before .before .args in
+    let r = a .self in
+    as-values (a .msb) 65516
+    (λ i.
+    number (r .«time_fraction»)
+    ∷ number (r .«time_cpu»)
+    ∷ number ((ap (patternOf 4) (toZ-ofZ {w = w32} {z = r .«tuple_attribute»} (record { sfits = c .before .before .before .struct-told .given .1 .1 .0 .1 }))) i)
+    ∷ [])
+    (c .before .before .write-tuple .ensures)
+
+pub write-spec : {M : Type 1} → statement M
+write-spec =
+    tie.close
+    (tie.spec
+    (λ c. search needs)
+    (λ c. search needs)
+    (λ c. search needs)
+    (λ c. search needs)
+    write-tuple-requires
+    (λ c. search needs)
+    returns)

@@ -1,0 +1,4 @@
+pub mod Event
+pub mod RunStart
+pub mod RunEnd
+pub mod FileEnd

@@ -1,0 +1,123 @@
+-- The sample reader's answer, by the reader's; and the samples of a sound ping by their places in the file. Assumes nothing.
+use mathlib.Core.Path.{_≡_, refl, sym, ap, _∙_}
+use mathlib.Core.Bool.{Bool, true, false, _||_}
+use mathlib.Core.List.{List}
+use mathlib.Core.Option.{some}
+use Prim.Native.Nat.{ℕ, _+_, _-_, _≤_}
+use native.Mathlib.Omega.{arith}
+use borrow.Author.Tests.{eqb-true, ltb-false, not-false}
+use lib.Dec.{eqb, lit<}
+use lib.IntN.{ℤ}
+use lib.ListN.{length, take, drop, length-drop}
+use lib.Seq.{length-take-le}
+use Rattle.rules.specs.Rules.{AllPass}
+use Rattle.layout.specs.declared.Answer.{Answer}
+use Rattle.layout.specs.declared.Answer.the-variants.{Accepted, Refused}
+use Rattle.layout.specs.declared.Verdict.the-variants.{Fine}
+use Rattle.layout.specs.Types.{classes, inClass, kindOf}
+use Rattle.layout.specs.Answers.{both}
+use Rattle.layout.proofs.Verdicts.{both-left, both-right, passes}
+use Rattle.frame.specs.Files.{isMsb}
+use Rattle.samples.specs.Words.{allWords, pairUp}
+use Rattle.samples.specs.Runs.{radix, decode}
+use Rattle.samples.specs.Judging.{wordRules, judgedWords}
+use Rattle.samples.proofs.Values.{length-decode}
+use Rattle.content.specs.Pings.{Ping}
+use Rattle.content.specs.Items.{ping, itemOf}
+use Rattle.content.proofs.Places.{fieldAt, samples-U, samples-C}
+use Rattle.intake.specs.Tallies.{Here, Fits, innerVerdict, headVerdict}
+use Rattle.intake.proofs.Judges.{head-fits, own-parts, long-U, long-C, inner-words}
+use Rattle.tuples.specs.Readers.{tupleThere, readAnswer, isPing}
+use Rattle.tuples.proofs.Reading.{stands, here, most}
+use Rattle.pings.specs.Readers.{samplesBy, samplesAt, sampleAnswer, Handed, SoundPing, SamplesRead}
+use Rattle.pings.proofs.Handing.{length-pairs}
+
+-- ---- the sample reader, by the reader's answer
+module _ {f : List ℕ} {p : ℕ} (ns : List ℕ) (vs : List ℤ) where
+  pub refused : (c q : ℕ) → Refused c q ≡ readAnswer isPing f p → SamplesRead f p ns vs (Refused c q) ns vs
+  unfolding sampleAnswer
+  refused c q e = record { answer = rw (← e); numbersLeft = rw (← e); valuesLeft = rw (← e) }
+
+  pub read : Accepted 1 0 ≡ readAnswer isPing f p → {r : Answer} {ms : List ℕ} {us : List ℤ} → Handed (samplesAt f p) ns vs r ms us → SamplesRead f p ns vs r ms us
+  unfolding sampleAnswer
+  read e h = record { answer = rw (← e) (h .answer); numbersLeft = rw (← e) (h .numbersLeft); valuesLeft = rw (← e) (h .valuesLeft) }
+
+-- ---- a sound ping's samples, by their places
+module _ {f : List ℕ} {p n k : ℕ} {o : Bool} (s : SoundPing f p o n k) where
+  h : Here (isMsb f) f p n k
+  h = here (s .found)
+
+  parts : both (headVerdict (isMsb f) (eqb k 65535) (tupleThere f p)) (innerVerdict (isMsb f) (tupleThere f p)) ≡ Fine
+  parts = own-parts h ∙ s .own
+
+  fits : Fits n k
+  fits = head-fits h (eqb k 65535) refl (both-left _ _ parts)
+
+  taken : (q : Ping) → itemOf (isMsb f) (tupleThere f p) ≡ some (ping q) → samplesAt f p ≡ q .samples
+  taken q e = ap samplesBy e
+
+  pub pairs-there : k ≡ 10000 → samplesAt f p ≡ pairUp (allWords 4 (isMsb f) (take (p + n - 8 - (p + 24)) (drop (p + 24) f)))
+  unfolding kindOf inClass classes
+  pairs-there e =
+      let long = long-U h fits e in
+      let q = samples-U (isMsb f) f p n (stands (s .found) .whole) (ap kindOf (h .kind ∙ e)) long in
+      let z : n - 32 ≡ p + n - 8 - (p + 24) = omega (arith, long) in
+      taken (q .0) (q .1) ∙ q .2 ∙ ap (λ (i : ℕ). pairUp (allWords 4 (isMsb f) (take i (drop (p + 24) f)))) z
+
+  pub words-there : k ≡ 10010 → samplesAt f p ≡ decode radix (allWords 4 (isMsb f) (take (p + n - 8 - (p + 28)) (drop (p + 28) f)))
+  unfolding kindOf inClass classes
+  words-there e =
+      let long = long-C h fits e in
+      let q = samples-C (isMsb f) f p n (stands (s .found) .whole) (ap kindOf (h .kind ∙ e)) long in
+      let z : n - 36 ≡ p + n - 8 - (p + 28) = omega (arith, long) in
+      taken (q .0) (q .1) ∙ q .2 ∙ ap (λ (i : ℕ). decode radix (allWords 4 (isMsb f) (take i (drop (p + 28) f)))) z
+
+  -- its words keep the rules
+  kept : k ≡ 10010 → AllPass (wordRules (fieldAt (isMsb f) f p 4 24) (allWords 4 (isMsb f) (take (p + n - 8 - (p + 28)) (drop (p + 28) f))))
+  unfolding judgedWords
+  kept e = passes (wordRules (fieldAt (isMsb f) f p 4 24) (allWords 4 (isMsb f) (take (p + n - 8 - (p + 28)) (drop (p + 28) f)))) (sym (inner-words h fits e) ∙ both-right (headVerdict (isMsb f) (eqb k 65535) (tupleThere f p)) _ parts)
+
+  few-words : k ≡ 10010 → length (samplesAt f p) ≤ 32764
+  few-words e = rw (words-there e, length-decode radix (lit< tt)) (ltb-false _ _ (kept e .0))
+
+  -- its number of samples is the number of its values
+  pub count-there : k ≡ 10010 → fieldAt (isMsb f) f p 4 24 ≡ length (decode radix (allWords 4 (isMsb f) (take (p + n - 8 - (p + 28)) (drop (p + 28) f))))
+  count-there e = eqb-true _ _ (not-false _ (kept e .1 .1 .0)) ∙ sym (length-decode radix (lit< tt) _ 0)
+
+  -- it is long enough for its samples, and stands in the file
+  pub whole-there : (40 ≤ n) × (n ≤ 262144) × (p + n ≤ length f)
+  whole-there = (by (eqb k 10000) refl, most (s .found), stands (s .found) .whole .fits)
+    where
+      by : (b : Bool) → eqb k 10000 ≡ b → 40 ≤ n
+      by true e = long-U h fits (eqb-true k 10000 e)
+      by false e = long-C h fits (eqb-true k 10010 (ap (λ (b : Bool). b || eqb k 10010) (sym e) ∙ s .asks))
+
+  -- its words are few enough for a sample's number to stay below 2^32
+  pub words-few : length (take (p + n - 8 - (p + 28)) (drop (p + 28) f)) ≤ 262108
+  words-few =
+      let r = whole-there in
+      omega (arith, length-take-le (p + n - 8 - (p + 28)) (drop (p + 28) f) (simp length-drop (omega arith)))
+
+  -- a listed ping of the one kind or the other
+  pub other-kind : (k ≡ 10000 → ⊥) → k ≡ 10010
+  other-kind a = by (eqb k 10000) refl
+    where
+      by : (b : Bool) → eqb k 10000 ≡ b → k ≡ 10010
+      by true e = absurd (a (eqb-true k 10000 e))
+      by false e = eqb-true k 10010 (ap (λ (b : Bool). b || eqb k 10010) (sym e) ∙ s .asks)
+
+  -- a listed ping holds at most 32,764 samples: for pairs by the bytes of a tuple alone, so that 11 comes from C-32 alone
+  pub few-samples : length (samplesAt f p) ≤ 32764
+  few-samples = by (eqb k 10000) refl
+    where
+      r : (40 ≤ n) × (n ≤ 262144) × (p + n ≤ length f)
+      r = whole-there
+
+      few-pairs : length (pairUp (allWords 4 (isMsb f) (take (p + n - 8 - (p + 24)) (drop (p + 24) f)))) ≤ 32764
+      few-pairs =
+          let part = take (p + n - 8 - (p + 24)) (drop (p + 24) f) in
+          omega (arith, r .1, length-pairs (isMsb f) part, length-take-le (p + n - 8 - (p + 24)) (drop (p + 24) f) (simp length-drop (omega (arith, r .0, r .2))))
+
+      by : (b : Bool) → eqb k 10000 ≡ b → length (samplesAt f p) ≤ 32764
+      by true e = rw (pairs-there (eqb-true k 10000 e)) few-pairs
+      by false e = few-words (eqb-true k 10010 (ap (λ (b : Bool). b || eqb k 10010) (sym e) ∙ s .asks))

@@ -1,0 +1,34 @@
+-- Numbers stored one behind the other are stored as one run of bytes. Assumes nothing.
+use mathlib.Core.Path.{_≡_, refl, sym, ap, _∙_}
+use mathlib.Core.Bool.{Bool}
+use mathlib.Core.List.{List, [], _∷_, _++_, append-nil}
+use Prim.Native.Nat.{ℕ, _+_, _-_}
+use lib.IntN.{ℤ}
+use lib.Seq.{sets}
+use Rattle.order.specs.Order.{bytesOf, patternOf}
+use Rattle.order.proofs.Laws.{length-bytesOf}
+use Rattle.order.proofs.Stores.{sets-append}
+use Rattle.layout.specs.Types.{pingRow}
+use Rattle.turning.specs.Rows.{encode}
+use Rattle.pings.specs.declared.PingHeader.{PingHeader}
+use Rattle.tuples.specs.Writers.{openBytes}
+use Rattle.tuples.proofs.Storing.{store-step, open-stored}
+use Rattle.pings.specs.Headers.{headOf, openingBytes}
+
+module _ (o : Bool) (l : List ℕ) (h : PingHeader) where
+  pub header-stored :
+      sets (sets (sets (sets (sets (sets l 6 (bytesOf o 2 (h .«time_fraction»))) 8 (bytesOf o 4 (h .«time_cpu»))) 12 (bytesOf o 2 (h .«software_channel_identifier» .0))) 14 (bytesOf o 2 (h .«transmitter_mode»))) 16 (bytesOf o 4 (h .«ping_number»))) 20 (bytesOf o 4 (patternOf 4 (h .«detected_bottom_range»)))
+      ≡ sets l 6 (encode o pingRow (headOf h))
+  header-stored =
+      sym
+      (store-step o 2 (h .«time_fraction») l _ 6
+      ∙ store-step o 4 (h .«time_cpu») _ _ 8
+      ∙ store-step o 2 (h .«software_channel_identifier» .0) _ _ 12
+      ∙ store-step o 2 (h .«transmitter_mode») _ _ 14
+      ∙ store-step o 4 (h .«ping_number») _ _ 16
+      ∙ store-step o 4 (patternOf 4 (h .«detected_bottom_range»)) _ [] 20)
+
+  pub opening-stored : (n k : ℕ) → sets (sets l 0 (openBytes o n k)) 6 (encode o pingRow (headOf h)) ≡ sets l 0 (openingBytes o n k h)
+  opening-stored n k =
+      ap (λ (x : List ℕ). sets x 6 (encode o pingRow (headOf h))) (sym (open-stored o l n k))
+      ∙ sym (store-step o 4 (n - 10) l _ 0 ∙ store-step o 2 k _ _ 4)

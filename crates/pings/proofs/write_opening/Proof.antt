@@ -1,0 +1,14 @@
+-- `pings::write_opening` meets its contract: size, type and header, one behind the other. Assumes nothing.
+use borrow.Author.Needs.{needs}
+use Rattle.pings.proofs.Storing.{opening-stored}
+use Rattle.pings.proofs.write_opening.Statement.{statement}
+use Rattle.pings.proofs.write_opening.Tie as tie
+
+returns : tie.Need-returns
+returns c =
+    let opening = c .before .before .before .before .before .before in
+    let a = opening .before .before .before .args in
+    rw (c .before .before .write-header .ensures, opening .open-frame .ensures) (opening-stored (a .msb) (a .out .now) (a .header) (a .whole) (a .code))
+
+pub write-opening-spec : {M : Type 1} → statement M
+write-opening-spec = tie.close (tie.spec (λ c κs. search needs) (λ c κs. search needs) (λ c. search needs) returns)

@@ -1,0 +1,258 @@
+// Pings: reading a listed ping's samples at any place of any file, and writing pings into lent memory.
+use layout::Answer;
+use layout::SoftwareChannel;
+use layout::codes;
+use layout::types;
+use tuples::Opened;
+ghost use mathlib.Core.Path.{_≡_};
+ghost use Prim.Native.Nat.{_-_, _^_, _≤_, _<_, min};
+ghost use lib.ListN.{length};
+ghost use lib.Seq.{sets};
+ghost use Rattle.samples.specs.Words.{allWords, pairUp};
+ghost use Rattle.samples.specs.Runs.{radix, decode};
+ghost use Rattle.pings.specs.Readers.{samplesAt, Handed, SoundPing, SamplesRead};
+ghost use Rattle.layout.specs.Types.{pingRow};
+ghost use Rattle.turning.specs.Rows.{encode};
+ghost use Rattle.pings.specs.Writers.{bytesC};
+ghost use Rattle.pings.specs.Headers.{SoundList, headOf, openingBytes, handedPing, WrittenU, WrittenC};
+
+// The bytes of a pair and of a word.
+const PAIR: usize = 8;
+
+const WORD: usize = 4;
+
+// The places of a ping's header fields.
+const TIME_FRACTION: usize = 6;
+
+const TIME_CPU: usize = 8;
+
+const SOFTWARE_CHANNEL: usize = 12;
+
+const TRANSMITTER_MODE: usize = 14;
+
+const PING_NUMBER: usize = 16;
+
+const DETECTED_BOTTOM: usize = 20;
+
+// The fields before a ping's samples: TR Tables 6 and 20.
+pub struct PingHeader {
+    pub time_fraction: u16,
+    pub time_cpu: u32,
+    pub software_channel_identifier: SoftwareChannel,
+    pub transmitter_mode: u16,
+    pub ping_number: u32,
+    pub detected_bottom_range: i32,
+}
+
+// Hands over the samples of a U-32 ping's pairs; 19 where either slice is short.
+fn hand_pairs(part: &[u8], msb: bool, numbers: &mut [u32], values: &mut [i32]) -> Answer
+    ensures { λ r. ⌜ Handed (pairUp (allWords 4 msb (now (part .entry)))) (now (numbers .entry)) (now (values .entry)) r (now (numbers .exit)) (now (values .exit)) ⌝ }
+{
+    let n = part.len() / PAIR;
+    if numbers.len() < n {
+        return layout::refuse(codes::NO_ROOM, 0);
+    }
+    if values.len() < n {
+        return layout::refuse(codes::NO_ROOM, 0);
+    }
+    samples::read_pairs(part, msb, numbers, values);
+    Answer::Accepted {
+        tuples: 1,
+        written: n,
+    }
+}
+
+// Hands over the samples of a C-32 ping's words, as many as the ping counts; 19 where either slice is short.
+fn hand_words(part: &[u8], msb: bool, n: usize, numbers: &mut [u32], values: &mut [i32]) -> Answer
+    requires { ⌜ length (now part) ≤ 262108 ⌝ }
+    requires { ⌜ n ≡ length (decode radix (allWords 4 msb (now part))) ⌝ }
+    ensures { λ r. ⌜ Handed (decode radix (allWords 4 msb (now (part .entry)))) (now (numbers .entry)) (now (values .entry)) r (now (numbers .exit)) (now (values .exit)) ⌝ }
+{
+    if numbers.len() < n {
+        return layout::refuse(codes::NO_ROOM, 0);
+    }
+    if values.len() < n {
+        return layout::refuse(codes::NO_ROOM, 0);
+    }
+    samples::read_words(part, msb, numbers, values);
+    Answer::Accepted {
+        tuples: 1,
+        written: n,
+    }
+}
+
+// Hands over the samples of a ping that keeps its own rules. A C-32 ping's number of samples is then the number of its values.
+fn hand_over(
+    file: &[u8],
+    place: usize,
+    msb: bool,
+    whole: usize,
+    code: u16,
+    numbers: &mut [u32],
+    values: &mut [i32],
+) -> Answer
+    requires { ⌜ SoundPing (now file) place msb whole code ⌝ }
+    ensures { λ r. ⌜ Handed (samplesAt (now (file .entry)) place) (now (numbers .entry)) (now (values .entry)) r (now (numbers .exit)) (now (values .exit)) ⌝ }
+{
+    let until = place + whole - tuples::TAIL;
+    if code == types::PING_U {
+        return hand_pairs(&file[place + intake::PAIRS..until], msb, numbers, values);
+    }
+    let count = order::read4(file, place + intake::COUNT, msb) as usize;
+    hand_words(
+        &file[place + intake::WORDS..until],
+        msb,
+        count,
+        numbers,
+        values,
+    )
+}
+
+// Reads a listed ping's samples into two lent slices: numbers and signed values, one entry a sample.
+pub fn read_samples(file: &[u8], place: usize, numbers: &mut [u32], values: &mut [i32]) -> Answer
+    ensures { λ r. ⌜ SamplesRead (now (file .entry)) place (now (numbers .entry)) (now (values .entry)) r (now (numbers .exit)) (now (values .exit)) ⌝ }
+{
+    match tuples::open_ping(file, place) {
+        Opened::Refused { code, place } => layout::refuse(code, place),
+        Opened::Tuple { msb, whole, code } => {
+            hand_over(file, place, msb, whole, code, numbers, values)
+        }
+    }
+}
+
+// The smaller of two counts.
+fn smaller(a: usize, b: usize) -> usize
+    ensures { λ r. ⌜ r ≡ min a b ⌝ }
+{
+    if a <= b { a } else { b }
+}
+
+// Writes a ping's header.
+fn write_header(out: &mut [u8], msb: bool, header: PingHeader)
+    requires { ⌜ 24 ≤ length (now out) ⌝ }
+    ensures { λ _. ⌜ now (out .exit) ≡ sets (now (out .entry)) 6 (encode msb pingRow (headOf header)) ⌝ }
+{
+    order::store2(out, TIME_FRACTION, msb, header.time_fraction);
+    order::store4(out, TIME_CPU, msb, header.time_cpu);
+    order::store2(
+        out,
+        SOFTWARE_CHANNEL,
+        msb,
+        header.software_channel_identifier.0,
+    );
+    order::store2(out, TRANSMITTER_MODE, msb, header.transmitter_mode);
+    order::store4(out, PING_NUMBER, msb, header.ping_number);
+    order::store4(
+        out,
+        DETECTED_BOTTOM,
+        msb,
+        order::pattern4(header.detected_bottom_range),
+    );
+}
+
+// Writes what stands before a ping's samples: size, type and header.
+fn write_opening(out: &mut [u8], msb: bool, whole: usize, code: u16, header: PingHeader)
+    requires { ⌜ 24 ≤ length (now out) ⌝ }
+    requires { ⌜ (10 ≤ whole) × (whole < 2 ^ 32) ⌝ }
+    ensures { λ _. ⌜ now (out .exit) ≡ sets (now (out .entry)) 0 (openingBytes msb whole code header) ⌝ }
+{
+    tuples::open_frame(out, msb, whole, code);
+    write_header(out, msb, header);
+}
+
+// Writes a U-32 ping.
+pub fn write_u32(
+    header: PingHeader,
+    attribute: i32,
+    numbers: &[u32],
+    values: &[i32],
+    msb: bool,
+    out: &mut [u8],
+) -> Answer
+    ensures { λ r. ⌜ WrittenU msb header attribute (now (numbers .entry)) (now (values .entry)) (now (out .entry)) r (now (out .exit)) ⌝ }
+{
+    let n = numbers.len();
+    if n != values.len() {
+        return layout::refuse(codes::BROKEN_SAMPLES, smaller(n, values.len()));
+    }
+    if samples::MOST < n {
+        return layout::refuse(codes::OVERFULL, 0);
+    }
+    if n == 0 {
+        return layout::refuse(codes::NO_SAMPLES, 0);
+    }
+    let first = samples::write::first_drop(numbers);
+    if first < n {
+        return layout::refuse(codes::BROKEN_SAMPLES, first);
+    }
+    let whole = intake::PAIRS + PAIR * n + tuples::TAIL;
+    if out.len() < whole {
+        return layout::refuse(codes::NO_ROOM, 0);
+    }
+    write_opening(out, msb, whole, types::PING_U, header);
+    samples::write::write_pairs(numbers, values, msb, out, intake::PAIRS);
+    tuples::close_frame(out, msb, whole, attribute);
+    Answer::Accepted {
+        tuples: 1,
+        written: whole,
+    }
+}
+
+// Writes a C-32 ping, which is known to be sound and to have room.
+fn put_c32(
+    header: PingHeader,
+    attribute: i32,
+    numbers: &[u32],
+    values: &[i32],
+    msb: bool,
+    whole: usize,
+    out: &mut [u8],
+)
+    requires { ⌜ SoundList (now numbers) (now values) whole (length (now out)) ⌝ }
+    ensures { λ _. ⌜ now (out .exit) ≡ sets (now (out .entry)) 0 (bytesC msb (handedPing header attribute (now (numbers .entry)) (now (values .entry)))) ⌝ }
+{
+    write_opening(out, msb, whole, types::PING_C, header);
+    order::store4(out, intake::COUNT, msb, numbers.len() as u32);
+    samples::write::write_words(numbers, values, msb, out, intake::WORDS);
+    tuples::close_frame(out, msb, whole, attribute);
+}
+
+// Writes a C-32 ping, its samples in the fewest words.
+pub fn write_c32(
+    header: PingHeader,
+    attribute: i32,
+    numbers: &[u32],
+    values: &[i32],
+    msb: bool,
+    out: &mut [u8],
+) -> Answer
+    ensures { λ r. ⌜ WrittenC msb header attribute (now (numbers .entry)) (now (values .entry)) (now (out .entry)) r (now (out .exit)) ⌝ }
+{
+    let n = numbers.len();
+    if n != values.len() {
+        return layout::refuse(codes::BROKEN_SAMPLES, smaller(n, values.len()));
+    }
+    if samples::MOST < n {
+        return layout::refuse(codes::OVERFULL, 0);
+    }
+    let first = samples::write::first_drop(numbers);
+    if first < n {
+        return layout::refuse(codes::BROKEN_SAMPLES, first);
+    }
+    let wordless = samples::write::first_wordless(values);
+    if wordless < n {
+        return layout::refuse(codes::NO_WORD, wordless);
+    }
+    let whole = intake::WORDS + WORD * samples::write::count_words(numbers) + tuples::TAIL;
+    if frame::MOST < whole {
+        return layout::refuse(codes::OVERFULL, 0);
+    }
+    if out.len() < whole {
+        return layout::refuse(codes::NO_ROOM, 0);
+    }
+    put_c32(header, attribute, numbers, values, msb, whole, out);
+    Answer::Accepted {
+        tuples: 1,
+        written: whole,
+    }
+}

@@ -1,0 +1,4 @@
+pub mod Signature
+pub mod Sounder
+pub mod Channel
+pub mod Threshold

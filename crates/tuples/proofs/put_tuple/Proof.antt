@@ -1,0 +1,79 @@
+-- `tuples::put_tuple` meets its contract: frame, fields and characters, one behind the other. Assumes nothing.
+use mathlib.Core.Path.{_≡_, ap, _∙_}
+use mathlib.Core.List.{[]}
+use mathlib.Core.Bool.{true}
+use Prim.Native.Nat.{ℕ, _+_, _≤_}
+use native.Mathlib.Omega.{arith}
+use borrow.Author.Needs.{needs}
+use mir.Syntax.{w32}
+use mir.Facts.{toZ-ofZ}
+use lib.ListN.{length, getD}
+use lib.Seq.{take-length}
+use Rattle.order.specs.Order.{patternOf}
+use Rattle.layout.specs.Fields.{size}
+use Rattle.layout.specs.Types.{shapeOf, kindOf, placeIn}
+use Rattle.layout.specs.Codes.{fieldsOf, rowCodes}
+use Rattle.layout.proofs.Tables.{fieldsIn}
+use Rattle.turning.specs.Rows.{textFits}
+use Rattle.tuples.proofs.Writing.{row-listed, row-there, sizes, put}
+use Rattle.tuples.proofs.put_tuple.Statement.{statement}
+use Rattle.tuples.proofs.put_tuple.Tie as tie
+
+-- the row of the code's table is the type's
+rowed : (c : tie.After-row) → fieldsOf (c .row .result) ≡ fieldsIn (shapeOf (c .before .before .before .before .before .before .before .args .code))
+rowed c =
+    let a = c .before .before .before .before .before .before .before .args in
+    ap fieldsOf (c .row .ensures ∙ ap (λ (i : ℕ). getD rowCodes i []) (c .before .line .ensures ∙ ap placeIn (c .before .before .kind-of .ensures)))
+    ∙ row-there (a .msb) (a .numbers .now) (a .remark .now) (a .behind .now) (a .whole) (patternOf 4 (a .attribute)) (a .code) (c .before .before .before .before .before .before .before .pre .0)
+
+-- how many bytes it has
+small : (d : tie.Start) → let a = d .args in (a .whole ≡ size (fieldsIn (shapeOf (a .code))) + length (a .behind .now) + 14) × (a .whole ≤ 262144) × (textFits (fieldsIn (shapeOf (a .code))) (a .remark .now) ≡ true)
+small d = let a = d .args in sizes (a .msb) (a .numbers .now) (a .remark .now) (a .behind .now) (a .whole) (patternOf 4 (a .attribute)) (a .code) (d .pre .0)
+
+row-requires : tie.Need-row-requires
+row-requires c κs =
+    let d = c .before .before .before .before .before .before in
+    let a = d .args in
+    rw (c .line .ensures, c .before .kind-of .ensures) (row-listed (a .msb) (a .numbers .now) (a .remark .now) (a .behind .now) (a .whole) (patternOf 4 (a .attribute)) (a .code) (d .pre .0))
+
+open-frame-requires : tie.Need-open-frame-requires
+open-frame-requires c κs = let z = small (c .before .before .before .before .before .before .before .before) in (omega (arith, z .0), (omega (arith, z .0), omega (arith, z .1)))
+
+write-row-requires : tie.Need-write-row-requires
+write-row-requires c κs = let z = small (c .before .before .before .before .before .before .before .before .before .before .before .before .before) in rw (rowed (c .before .before .before .before .before .before)) (z .2, omega (arith, z .0))
+
+sub-copy : tie.Need-sub-copy
+sub-copy c = let z = small (c .before .before .before .before .before .before .before .before .before .before .before .before .before .before .before .before .before) in omega (arith, z .0)
+
+sub-copy-2 : tie.Need-sub-copy-2
+sub-copy-2 c = let z = small (c .before .before .before .before .before .before .before .before .before .before .before .before .before .before .before .before .before) in omega (arith, z .0)
+
+copy-requires : tie.Need-copy-requires
+copy-requires c κs = let z = small (c .before .before .before .before .before .before .before .before .before .before .before .before .before .before .before .before .before) in (omega arith, omega (arith, z .0))
+
+close-frame-requires : tie.Need-close-frame-requires
+close-frame-requires c κs = let z = small (c .before .before .before .before .before .before .before .before .before .before .before .before .before .before .before .before .before .before .before .before .before) in (omega (arith, z .0), omega arith, omega (arith, z .1))
+
+returns : tie.Need-returns
+returns c =
+    let d = c .before .before .before .before .before .before .before .before .before .before .before .before .before .before .before .before .before .before .before .before .before .before .before .before in
+    let a = d .args in
+    rw (c .before .before .close-frame .ensures, c .before .before .before .before .before .before .copy .ensures, c .before .before .before .before .before .before .before .before .before .before .write-row .ensures, c .before .before .before .before .before .before .before .before .before .before .before .before .before .before .before .open-frame .ensures, rowed (c .before .before .before .before .before .before .before .before .before .before .before .before .before .before .before .before .before), toZ-ofZ {w = w32} {z = a .attribute} (d .fits .attribute), take-length (a .behind .now))
+    (put (a .msb) (a .numbers .now) (a .remark .now) (a .behind .now) (a .whole) (patternOf 4 (a .attribute)) (a .code) (d .pre .0) (a .out .now))
+
+pub put-tuple-spec : {M : Type 1} → statement M
+put-tuple-spec =
+    tie.close
+    (tie.spec
+    (λ c κs. search needs)
+    (λ c κs. search needs)
+    row-requires
+    open-frame-requires
+    (λ c. search needs)
+    write-row-requires
+    sub-copy
+    sub-copy-2
+    copy-requires
+    close-frame-requires
+    (λ c. search needs)
+    returns)

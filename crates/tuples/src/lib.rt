@@ -1,0 +1,189 @@
+// Tuples: what every reader finds at a place, and how every writer frames what it writes.
+use frame::Step;
+use frame::Walk;
+use layout::Answer;
+use layout::Verdict;
+use layout::codes;
+ghost use mathlib.Core.Path.{_≡_};
+ghost use mathlib.Core.Bool.{Bool};
+ghost use mathlib.Core.List.{[]};
+ghost use Prim.Native.Nat.{ℕ, _+_, _-_, _^_, _≤_, _<_};
+ghost use lib.ListN.{length, take, drop};
+ghost use lib.Seq.{sets};
+ghost use Rattle.order.specs.Order.{numOf, signedOf, patternOf};
+ghost use Rattle.layout.specs.Types.{shapeOf};
+ghost use Rattle.tuples.specs.Readers.{isPing, only, FoundTuple, FoundAs, OpenedAs};
+ghost use Rattle.tuples.specs.Writers.{Written, plainBytes, handedValues, Handable, openBytes, closeBytes};
+
+// The place of a tuple's type, and that of its fields.
+const TYPE: usize = 4;
+
+pub const FIELDS: usize = 6;
+
+// The bytes behind a tuple's fields: its attribute and its backlink.
+pub const TAIL: usize = 8;
+
+// What a reader finds: a tuple that it asks for and that keeps its own rules, or its refusal.
+pub enum Opened {
+    Tuple { msb: bool, whole: usize, code: u16 },
+    Refused { code: u8, place: usize },
+}
+
+// Where characters stand in the file that was read.
+pub struct Part {
+    pub place: usize,
+    pub length: usize,
+}
+
+// Finds the tuple at a place, whatever its type: a forward step's refusals, 3 at the end.
+fn find(file: &[u8], place: usize) -> Opened
+    ensures { λ r. ⌜ FoundAs (now (file .entry)) place r ⌝ }
+{
+    let walk = Walk { at: place };
+    match walk.forward(file) {
+        Step::Tuple {
+            place: _,
+            length,
+            kind,
+            next: _,
+        } => Opened::Tuple {
+            msb: frame::is_msb(file),
+            whole: length,
+            code: kind,
+        },
+        Step::End => Opened::Refused {
+            code: codes::CUT_SHORT,
+            place,
+        },
+        Step::Refused { code, place } => Opened::Refused { code, place },
+    }
+}
+
+// Opens the tuple that was found: 9 for a type not asked for, then its own rules.
+fn open_found(
+    file: &[u8],
+    place: usize,
+    msb: bool,
+    whole: usize,
+    code: u16,
+    asked: bool,
+) -> Opened
+    requires { ⌜ FoundTuple (now file) place msb whole code ⌝ }
+    ensures { λ r. ⌜ ((asks : ℕ → Bool) → asks code ≡ asked → OpenedAs asks (now (file .entry)) place r) ⌝ }
+{
+    if !asked {
+        return Opened::Refused {
+            code: codes::UNFIT,
+            place,
+        };
+    }
+    match intake::judge_own(file, place, msb, whole, code) {
+        Verdict::Fault { code, offset: _ } => Opened::Refused { code, place },
+        Verdict::Fine => Opened::Tuple { msb, whole, code },
+    }
+}
+
+// Opens the tuple at a place for a reader of one type.
+pub fn open_tuple(file: &[u8], place: usize, asked: u16) -> Opened
+    ensures { λ r. ⌜ OpenedAs (only asked) (now (file .entry)) place r ⌝ }
+{
+    match find(file, place) {
+        Opened::Refused { code, place } => Opened::Refused { code, place },
+        Opened::Tuple { msb, whole, code } => {
+            open_found(file, place, msb, whole, code, code == asked)
+        }
+    }
+}
+
+// Opens the tuple at a place for a reader of listed pings, of either type.
+pub fn open_ping(file: &[u8], place: usize) -> Opened
+    ensures { λ r. ⌜ OpenedAs isPing (now (file .entry)) place r ⌝ }
+{
+    match find(file, place) {
+        Opened::Refused { code, place } => Opened::Refused { code, place },
+        Opened::Tuple { msb, whole, code } => {
+            open_found(file, place, msb, whole, code, intake::is_ping(code))
+        }
+    }
+}
+
+// A signed number of two bytes.
+pub fn signed2_at(file: &[u8], at: usize, msb: bool) -> i16
+    requires { ⌜ at + 2 ≤ length (now file) ⌝ }
+    ensures { λ r. ⌜ r ≡ signedOf 2 (numOf msb (take 2 (drop at (now (file .entry))))) ⌝ }
+{
+    order::signed2(order::read2(file, at, msb))
+}
+
+// A signed number of four bytes.
+pub fn signed4_at(file: &[u8], at: usize, msb: bool) -> i32
+    requires { ⌜ at + 4 ≤ length (now file) ⌝ }
+    ensures { λ r. ⌜ r ≡ signedOf 4 (numOf msb (take 4 (drop at (now (file .entry))))) ⌝ }
+{
+    order::signed4(order::read4(file, at, msb))
+}
+
+// Writes what stands before a tuple's data: data size and type.
+pub fn open_frame(out: &mut [u8], msb: bool, whole: usize, code: u16)
+    requires { ⌜ 6 ≤ length (now out) ⌝ }
+    requires { ⌜ (10 ≤ whole) × (whole < 2 ^ 32) ⌝ }
+    ensures { λ _. ⌜ now (out .exit) ≡ sets (now (out .entry)) 0 (openBytes msb whole code) ⌝ }
+{
+    order::store4(out, 0, msb, (whole - frame::FRAME) as u32);
+    order::store2(out, TYPE, msb, code);
+}
+
+// Writes what stands behind a tuple's fields: the attribute and the backlink.
+pub fn close_frame(out: &mut [u8], msb: bool, whole: usize, attribute: i32)
+    requires { ⌜ (8 ≤ whole) × (whole ≤ length (now out)) × (whole < 2 ^ 32) ⌝ }
+    ensures { λ _. ⌜ now (out .exit) ≡ sets (now (out .entry)) (whole - 8) (closeBytes msb whole (patternOf 4 attribute)) ⌝ }
+{
+    order::store4(out, whole - TAIL, msb, order::pattern4(attribute));
+    order::store4(out, whole - frame::BACKLINK, msb, whole as u32);
+}
+
+// Writes a tuple of a row where there is room: its numbers in order, its remark, the characters behind its fields, its attribute.
+fn put_tuple(
+    code: u16,
+    whole: usize,
+    numbers: &[u32],
+    remark: &[u8],
+    behind: &[u8],
+    attribute: i32,
+    msb: bool,
+    out: &mut [u8],
+)
+    requires { ⌜ Handable (shapeOf code) (now numbers) (now remark) (now behind) whole ⌝ }
+    requires { ⌜ whole ≤ length (now out) ⌝ }
+    ensures { λ _. ⌜ now (out .exit) ≡ sets (now (out .entry)) 0 (plainBytes msb code (handedValues (shapeOf code) (now (numbers .entry)) (now (remark .entry)) (now (behind .entry)) (patternOf 4 attribute))) ⌝ }
+{
+    let row = layout::row(layout::kind_of(code).line());
+    open_frame(out, msb, whole, code);
+    turning::write_row(&row, numbers, remark, msb, out, FIELDS);
+    turning::copy(behind, 0, behind.len(), out, whole - TAIL - behind.len());
+    close_frame(out, msb, whole, attribute);
+}
+
+// Writes a tuple of a row; 19 where the memory lent is short.
+pub fn write_tuple(
+    code: u16,
+    whole: usize,
+    numbers: &[u32],
+    remark: &[u8],
+    behind: &[u8],
+    attribute: i32,
+    msb: bool,
+    out: &mut [u8],
+) -> Answer
+    requires { ⌜ Handable (shapeOf code) (now numbers) (now remark) (now behind) whole ⌝ }
+    ensures { λ r. ⌜ Written [] (plainBytes msb code (handedValues (shapeOf code) (now (numbers .entry)) (now (remark .entry)) (now (behind .entry)) (patternOf 4 attribute))) (now (out .entry)) r (now (out .exit)) ⌝ }
+{
+    if out.len() < whole {
+        return layout::refuse(codes::NO_ROOM, 0);
+    }
+    put_tuple(code, whole, numbers, remark, behind, attribute, msb, out);
+    Answer::Accepted {
+        tuples: 1,
+        written: whole,
+    }
+}
