@@ -60,14 +60,7 @@ fn find(file: &[u8], place: usize) -> Opened
 }
 
 // Opens the tuple that was found: 9 for a type not asked for, then its own rules.
-fn open_found(
-    file: &[u8],
-    place: usize,
-    msb: bool,
-    whole: usize,
-    code: u16,
-    asked: bool,
-) -> Opened
+fn open_found(file: &[u8], place: usize, msb: bool, whole: usize, code: u16, asked: bool) -> Opened
     requires { ⌜ FoundTuple (now file) place msb whole code ⌝ }
     ensures { λ r. ⌜ ((asks : ℕ → Bool) → asks code ≡ asked → OpenedAs asks (now (file .entry)) place r) ⌝ }
 {
