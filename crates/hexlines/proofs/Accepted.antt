@@ -1,0 +1,107 @@
+-- What either normaliser accepts leaves a form: a mark and frames, which are as many bytes as it answers, within its room. Assumes nothing.
+use mathlib.Core.Path.{_≡_, refl, sym, ap, ap₂, subst, _∙_}
+use mathlib.Core.Bool.{Bool, true, false}
+use mathlib.Core.List.{List, [], _∷_, _++_}
+use mathlib.Core.Option.{Option, some, none}
+use Prim.Native.Nat.{ℕ, _≤_}
+use borrow.Author.Tests.{ltb-false}
+use lib.ListN.{length, drop}
+use Rattle.order.specs.Order.{Bytes}
+use Rattle.order.proofs.Laws.{bytes-drop}
+use Rattle.rules.specs.Rules.{Rule, _⇒_, firstOf, saying, AllPass}
+use Rattle.rules.proofs.Laws.{clear}
+use Rattle.layout.specs.declared.Answer.{Answer}
+use Rattle.layout.specs.declared.Answer.the-variants.{Accepted, Refused}
+use Rattle.layout.specs.Answers.{judged}
+use Rattle.layout.proofs.Verdicts.{passed, both-left, both-right, judged-append}
+use Rattle.frame.specs.Frames.{Tup, frames, tupAt, frameRules, framing}
+use Rattle.frame.specs.Files.{isMsb, fileRules}
+use Rattle.frame.proofs.Frames.{framed}
+use Rattle.frame.proofs.Files.{msb-mark}
+use Rattle.frame.proofs.Tuples.{AllFramed, tuples-of}
+use Rattle.content.specs.Items.{Item, itemOf, headRules, innerRules}
+use Rattle.content.specs.Forms.{formsOf}
+use Rattle.content.proofs.Fine.{Sound}
+use Rattle.content.proofs.Kept.{kept}
+use Rattle.intake.specs.Check.{checkFile}
+use Rattle.intake.proofs.Accepted.{isAccepted, refusal, Division, all-framed, accepted-file}
+use Rattle.normal.specs.Contents.{items, contentOf, normalTuples, formed, normalOf}
+use Rattle.normal.specs.Normaliser.{normalRules, behindCheck, normalAnswer}
+use Rattle.normal.specs.Single.{singleTuples, singleForm, behindRules, singleAnswer}
+use Rattle.normal.proofs.Carried.{carried}
+use Rattle.hexlines.specs.Printing.{Form}
+
+pub record Written (form : List ℕ) (ts : List Tup) (room m : ℕ) : Type 0 where
+  pub bytes : m ≡ length form
+  pub fits : length form ≤ room
+  pub whole : Form form ts
+
+-- ---- a file
+-- the normal tuples of a file that passes the check
+all-normal : (f : List ℕ) → Division f → AllFramed (normalTuples (contentOf f))
+unfolding contentOf
+all-normal f a =
+    let g = all-framed (a .msb) (a .tuples) (a .sound) in
+    let content : contentOf f ≡ items (a .msb) (a .tuples) = ap contentOf (a .whole) ∙ ap₂ items (msb-mark (a .msb) (frames (a .msb) (a .tuples))) (tuples-of (a .msb) (a .tuples) g) in
+    subst (λ (c : List Item). AllFramed (normalTuples c)) (sym content) (all-framed false (normalTuples (items (a .msb) (a .tuples))) (carried (a .msb) (a .tuples) (a .sound) .sound))
+
+pub file-written : (f : List ℕ) → Bytes f → (room n m : ℕ) → normalAnswer f room ≡ Accepted n m → Written (normalOf f) (normalTuples (contentOf f)) room m
+unfolding normalAnswer
+file-written f b room n m e = by-answer (checkFile f) refl e
+  where
+    by-answer : (a : Answer) → checkFile f ≡ a → behindCheck f room a ≡ Accepted n m → Written (normalOf f) (normalTuples (contentOf f)) room m
+    by-answer (Refused c p) h q = refusal c p n m q
+    by-answer (Accepted i j) h q =
+        let c = clear isAccepted (normalRules f room) (Accepted i (length (normalOf f))) (Accepted n m) (refl, (refl, (refl, tt))) q refl in
+        record {
+          bytes = sym (cc (c .1));
+          fits = ltb-false room (length (normalOf f)) (c .0 .1 .1 .0);
+          whole = record { whole = unfold normalOf formed in refl; framed = all-normal f (accepted-file f b i j h .0) };
+        }
+
+-- ---- a mark and one tuple
+-- what is accepted behind refusals passes them
+through : (p : ℕ) (rs : List (Rule ℕ)) (behind : List (Rule Answer)) (d : Answer) (n m : ℕ)
+    → firstOf (saying (λ (c : ℕ). Refused c p) rs ++ behind) d ≡ Accepted n m → AllPass rs × (firstOf behind d ≡ Accepted n m)
+through p [] behind d n m e = (tt, e)
+through p ((true ⇒ c) ∷ rs) behind d n m e = refusal c p n m e
+through p ((false ⇒ c) ∷ rs) behind d n m e = let r = through p rs behind d n m e in ((refl, r .0), r .1)
+
+-- the normal tuple of a sound one
+one-normal : (o : Bool) (t : Tup) → Sound o t → AllFramed (formsOf (itemOf o t))
+one-normal o t s = by-item (itemOf o t) refl
+  where
+    by-item : (x : Option Item) → itemOf o t ≡ x → AllFramed (formsOf x)
+    by-item none e = tt
+    by-item (some i) e = (kept o t s i e .sound .framed, tt)
+
+-- a tuple that passes its rules is sound
+sound : (o : Bool) (r : List ℕ) → Bytes r → AllPass (frameRules o r ++ (headRules o (tupAt o r) ++ innerRules o (tupAt o r))) → Sound o (tupAt o r)
+unfolding framing
+sound o r b p =
+    let head = headRules o (tupAt o r) in
+    let inner = innerRules o (tupAt o r) in
+    let whole = sym (judged-append (frameRules o r) (head ++ inner)) ∙ passed (frameRules o r ++ (head ++ inner)) p in
+    let own = sym (judged-append head inner) ∙ both-right (judged (frameRules o r)) (judged (head ++ inner)) whole in
+    record {
+      framed = framed o r b (both-left (judged (frameRules o r)) (judged (head ++ inner)) whole);
+      head = both-left (judged head) (judged inner) own;
+      inner = both-right (judged head) (judged inner) own;
+    }
+
+pub tuple-written : (f : List ℕ) → Bytes f → (room n m : ℕ) → singleAnswer f room ≡ Accepted n m → Written (singleForm f) (singleTuples f) room m
+unfolding singleAnswer
+tuple-written f b room n m e =
+    let o = isMsb f in
+    let r = drop 4 f in
+    let t = tupAt o r in
+    let own = frameRules o r ++ (headRules o t ++ innerRules o t) in
+    let d = Accepted 1 (length (singleForm f)) in
+    let filed = through 0 (fileRules f) (saying (λ (c : ℕ). Refused c 4) own ++ behindRules f room) d n m e in
+    let judged = through 4 own (behindRules f room) d n m (filed .1) in
+    let behind = clear isAccepted (behindRules f room) d (Accepted n m) (refl, (refl, (refl, tt))) (judged .1) refl in
+    record {
+      bytes = sym (cc (behind .1));
+      fits = ltb-false room (length (singleForm f)) (behind .0 .1 .1 .0);
+      whole = record { whole = unfold singleForm in refl; framed = one-normal o t (sound o r (bytes-drop 4 f b) (judged .0)) };
+    }

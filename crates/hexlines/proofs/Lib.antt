@@ -1,0 +1,9 @@
+pub mod Accepted
+pub mod Decimals
+pub mod Digits
+pub mod Lines
+pub mod Printing
+pub mod Programs
+pub mod Reading
+pub mod Stopping
+pub mod Stores

@@ -1,0 +1,53 @@
+-- `hexlines::normal_file` meets its contract: what is printed of the input is what is printed of the text. Assumes nothing.
+use mathlib.Core.Path.{_≡_, sym}
+use Prim.Native.Nat.{_≤_}
+use native.Mathlib.Omega.{arith}
+use borrow.Author.Needs.{needs}
+use lib.ListN.{length, take}
+use lib.Seq.{length-take-le}
+use Rattle.hexlines.specs.Lines.{room, bad, bytes, inputOf}
+use Rattle.hexlines.proofs.Reading.{read-bad, read-bytes}
+use Rattle.hexlines.proofs.Programs.{prints-file}
+use Rattle.hexlines.proofs.normal_file.Statement.{statement}
+use Rattle.hexlines.proofs.normal_file.Tie as tie
+
+-- a bad line, or the bytes at the front of the space
+finds-bad : (c : tie.After-number) → inputOf (c .before .before .before .before .before .before .before .before .args .text .now) ≡ bad (c .number .given .0 .0)
+finds-bad c = read-bad (c .before .before .before .decode .ensures) _ (c .number .given .1)
+
+finds-bytes : (c : tie.After-n) →
+    let n = c .n .given .0 .0 in (n ≤ room) × (inputOf (c .before .before .before .before .before .before .before .before .args .text .now) ≡ bytes (take n (c .before .before .before .decode .last .1 .0)))
+finds-bytes c = let d = c .before .before .before in read-bytes (d .decode .ensures) _ (d .before .before .space .ensures) (c .n .given .1)
+
+fits : (c : tie.After-n) → c .n .given .0 .0 ≤ length (c .before .before .before .decode .last .1 .0)
+fits c = let d = c .before .before .before in omega (arith, finds-bytes c .0, d .decode .kept .1 .0, d .before .before .space .ensures)
+
+array-share-prefix-file : tie.Need-array-share-prefix-file
+array-share-prefix-file c = fits (c .before .before)
+
+slice-aggregate-print : tie.Need-slice-aggregate-print
+slice-aggregate-print c = sym (length-take-le _ _ (fits (c .before .before .before)))
+
+returns : tie.Need-returns
+returns c = prints-file _ _ (finds-bad (c .before .before .before .before .before)) (c .before .before .print-bad .ensures)
+
+returns-2 : tie.Need-returns-2
+returns-2 c = prints-file _ _ (finds-bytes (c .before .before .before .before .before .before) .1) (c .before .before .print .ensures)
+
+pub normal-file-spec : {M : Type 1} → statement M
+normal-file-spec =
+    tie.close
+    (tie.spec
+    (λ c κs. search needs)
+    (λ c. search needs)
+    (λ c κs. search needs)
+    (λ c. search needs)
+    (λ c κs. search needs)
+    (λ c. search needs)
+    array-share-prefix-file
+    slice-aggregate-print
+    (λ c κs. search needs)
+    (λ c. search needs)
+    returns
+    (λ c. search needs)
+    returns-2)
