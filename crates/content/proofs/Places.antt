@@ -9,7 +9,7 @@ use native.Mathlib.Omega.{arith}
 use borrow.Author.Tests.{eqb-true, eqb-false, leb-true, lt-leb, eq-eqb, ne-eqb}
 use lib.Dec.{leb, eqb, lit≤}
 use lib.ListN.{length, take, drop, getD, length-drop}
-use lib.Seq.{drop-drop, take-take, length-take-le}
+use lib.Seq.{drop-drop, take-all, take-take, length-take-le}
 use Rattle.order.specs.Order.{numOf}
 use Rattle.rules.proofs.Laws.{by-rules}
 use Rattle.layout.specs.declared.Kind.{Kind}
@@ -29,7 +29,7 @@ use Rattle.samples.specs.Runs.{radix, decode}
 use Rattle.samples.specs.Judging.{pairRules, wordRules, judgedPairs, judgedWords}
 use Rattle.layout.specs.declared.Verdict.the-variants.{Fine}
 use Rattle.layout.specs.Answers.{judged}
-use Rattle.content.specs.Pings.{Ping, headU, headC, wordsIn, countIn, contentU, contentC}
+use Rattle.content.specs.Pings.{Ping, headU, headC, wordsIn, attributeIn, countIn, contentU, contentC}
 use Rattle.content.specs.Items.{Item, plain, ping, raw, rowIn, itemBy, itemOf, identifiedBy, innerBy, innerRules, numberAt, unless, linkBy, digestOf, digestItem, digest}
 
 -- ---- what a shape tells of the type code
@@ -125,6 +125,18 @@ module _ (o : Bool) (f : List ℕ) (at n : ℕ) (w : Whole o f at n) where
       ap (λ (l : List ℕ). take k (drop p l)) body
       ∙ within-take m p k (drop (at + 6) f) (omega (arith, size-n))
       ∙ ap (take k) (drop-drop p (at + 6) f ∙ ap (λ (i : ℕ). drop i f) e)
+
+  -- the attribute stands before the backlink
+  pub attribute-place : attributeIn o (tupAt o (drop at f) .body) ≡ fieldAt o f at 4 (n - 8)
+  unfolding attributeIn t
+  attribute-place =
+      let last : length (t .body) - 4 ≡ n - 14 = omega (arith, length-body) in
+      let four : length (drop (n - 14) (t .body)) ≤ 4 = simp length-drop (omega (arith, length-body)) in
+      let z : 6 + (n - 14) ≡ n - 8 = omega (arith, w .long) in
+      ap (λ (i : ℕ). numOf o (drop i (t .body))) last
+      ∙ ap (numOf o) (sym (take-all 4 (drop (n - 14) (t .body)) four))
+      ∙ ap (numOf o) (field-place (n - 14) 4 (omega (arith, w .long)))
+      ∙ ap (λ (i : ℕ). numOf o (take 4 (drop (at + i) f))) z
 
   -- the words between a header of a bytes and the attribute
   words-place : (a : ℕ) → a + 14 ≤ n → wordsIn a o (t .body) ≡ allWords 4 o (take (n - 14 - a) (drop (at + (6 + a)) f))

@@ -1,3 +1,4 @@
 pub mod Readers
+pub mod Fields
 pub mod Writers
 pub mod Headers

@@ -5,14 +5,15 @@ use layout::codes;
 use layout::types;
 use tuples::Opened;
 ghost use mathlib.Core.Path.{_≡_};
-ghost use Prim.Native.Nat.{_-_, _^_, _≤_, _<_, min};
-ghost use lib.ListN.{length};
+ghost use Prim.Native.Nat.{_+_, _-_, _^_, _≤_, _<_, min};
+ghost use lib.ListN.{length, drop};
 ghost use lib.Seq.{sets};
 ghost use Rattle.samples.specs.Words.{allWords, pairUp};
 ghost use Rattle.samples.specs.Runs.{radix, decode};
 ghost use Rattle.pings.specs.Readers.{samplesAt, Handed, SoundPing, SamplesRead};
 ghost use Rattle.layout.specs.Types.{pingRow};
-ghost use Rattle.turning.specs.Rows.{encode};
+ghost use Rattle.turning.specs.Rows.{valuesOf, encode};
+ghost use Rattle.pings.specs.Fields.{headerOf, pingFields, PingAt};
 ghost use Rattle.pings.specs.Writers.{bytesC};
 ghost use Rattle.pings.specs.Headers.{SoundList, headOf, openingBytes, handedPing, WrittenU, WrittenC};
 
@@ -42,6 +43,26 @@ pub struct PingHeader {
     pub transmitter_mode: u16,
     pub ping_number: u32,
     pub detected_bottom_range: i32,
+}
+
+// The two ways in which a ping's samples are stored.
+pub enum PingKind {
+    U32,
+    C32,
+}
+
+// What reading a ping's fields gives: its header, attribute, kind and number of values; or a refusal.
+pub enum PingRead {
+    Read {
+        header: PingHeader,
+        attribute: i32,
+        kind: PingKind,
+        values: usize,
+    },
+    Refused {
+        code: u8,
+        place: usize,
+    },
 }
 
 // Hands over the samples of a U-32 ping's pairs; 19 where either slice is short.
@@ -117,6 +138,58 @@ pub fn read_samples(file: &[u8], place: usize, numbers: &mut [u32], values: &mut
         Opened::Tuple { msb, whole, code } => {
             hand_over(file, place, msb, whole, code, numbers, values)
         }
+    }
+}
+
+// The header of the ping at a place.
+fn header_at(file: &[u8], place: usize, msb: bool) -> PingHeader
+    requires { ⌜ place + 24 ≤ length (now file) ⌝ }
+    ensures { λ r. ⌜ r ≡ headerOf (valuesOf msb pingRow (drop (place + 6) (now (file .entry)))) ⌝ }
+{
+    PingHeader {
+        time_fraction: order::read2(file, place + TIME_FRACTION, msb),
+        time_cpu: order::read4(file, place + TIME_CPU, msb),
+        software_channel_identifier: SoftwareChannel(order::read2(
+            file,
+            place + SOFTWARE_CHANNEL,
+            msb,
+        )),
+        transmitter_mode: order::read2(file, place + TRANSMITTER_MODE, msb),
+        ping_number: order::read4(file, place + PING_NUMBER, msb),
+        detected_bottom_range: tuples::signed4_at(file, place + DETECTED_BOTTOM, msb),
+    }
+}
+
+// The fields of a ping that keeps its own rules. A C-32 ping's number of samples is then the number of its values.
+fn fields_at(file: &[u8], place: usize, msb: bool, whole: usize, code: u16) -> PingRead
+    requires { ⌜ SoundPing (now file) place msb whole code ⌝ }
+    ensures { λ r. ⌜ r ≡ pingFields (now (file .entry)) place ⌝ }
+{
+    let header = header_at(file, place, msb);
+    let attribute = tuples::signed4_at(file, place + (whole - tuples::TAIL), msb);
+    if code == types::PING_U {
+        return PingRead::Read {
+            header,
+            attribute,
+            kind: PingKind::U32,
+            values: (whole - intake::PAIRS - tuples::TAIL) / PAIR,
+        };
+    }
+    PingRead::Read {
+        header,
+        attribute,
+        kind: PingKind::C32,
+        values: order::read4(file, place + intake::COUNT, msb) as usize,
+    }
+}
+
+// Reads a listed ping's fields: what its sample reader would refuse is refused here too.
+pub fn read_ping(file: &[u8], place: usize) -> PingRead
+    ensures { λ r. ⌜ PingAt (now (file .entry)) place r ⌝ }
+{
+    match tuples::open_ping(file, place) {
+        Opened::Refused { code, place } => PingRead::Refused { code, place },
+        Opened::Tuple { msb, whole, code } => fields_at(file, place, msb, whole, code),
     }
 }
 

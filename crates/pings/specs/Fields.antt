@@ -1,0 +1,66 @@
+-- What a ping's field reader answers and hands over. Assumes nothing.
+use mathlib.Core.Path.{_≡_, sym, _∙_}
+use Prim.Native.Nat.{ℕ}
+use mathlib.Core.Bool.{cond}
+use mathlib.Core.List.{List, []}
+use mathlib.Core.Option.{Option, some, none}
+use lib.Dec.{eqb}
+use lib.ListN.{length}
+use Rattle.order.specs.Order.{signedOf}
+use Rattle.layout.specs.declared.Answer.{Answer}
+use Rattle.layout.specs.declared.Answer.the-variants.{Accepted}
+use Rattle.layout.specs.declared.Answer.the-variants as answer
+use Rattle.turning.specs.Rows.{Value}
+use Rattle.content.specs.Pings.{Ping}
+use Rattle.content.specs.Items.{Item, plain, ping, raw, numberAt}
+use Rattle.tuples.specs.Readers.{isPing, tupleThere, readAnswer, readItem}
+use Rattle.pings.specs.declared.PingHeader.{PingHeader}
+use Rattle.pings.specs.declared.PingKind.{PingKind}
+use Rattle.pings.specs.declared.PingKind.the-variants.{U32, C32}
+use Rattle.pings.specs.declared.PingRead.{PingRead}
+use Rattle.pings.specs.declared.PingRead.the-variants.{Read, Refused}
+
+-- the values of the header's row under the fields' names
+abbrev pub headerOf : List Value → PingHeader
+headerOf vs =
+    record {
+      «time_fraction» = numberAt vs 0;
+      «time_cpu» = numberAt vs 1;
+      «software_channel_identifier» = record { 0 = numberAt vs 2 };
+      «transmitter_mode» = numberAt vs 3;
+      «ping_number» = numberAt vs 4;
+      «detected_bottom_range» = signedOf 4 (numberAt vs 5);
+    }
+
+-- the ping there
+abbrev pub pingBy : Option Item → Ping
+pingBy none = record { head = []; samples = []; attr = 0 }
+pingBy (some (plain k vs)) = record { head = []; samples = []; attr = 0 }
+pingBy (some (ping q)) = q
+pingBy (some (raw k d)) = record { head = []; samples = []; attr = 0 }
+
+abbrev pub kindOfPing : ℕ → PingKind
+kindOfPing k = cond (eqb k 10000) U32 C32
+
+-- its fields: header, attribute, kind and number of values
+abbrev pub fieldsBy : Ping → ℕ → PingRead
+fieldsBy q k = Read (headerOf (q .head)) (signedOf 4 (q .attr)) (kindOfPing k) (length (q .samples))
+
+unfoldable pub pingFields : List ℕ → ℕ → PingRead
+pingFields f p = fieldsBy (pingBy (readItem f p)) (tupleThere f p .kind)
+
+-- ---- 01's answer in each case, and the promise, which settles the outcome
+abbrev pub answerOf : PingRead → Answer
+answerOf (Read h a k n) = Accepted 1 0
+answerOf (Refused c p) = answer.Refused c p
+
+abbrev pub answered : Answer → PingRead → PingRead
+answered (Accepted n m) r = r
+answered (answer.Refused c p) r = Refused c p
+
+pub record PingAt (f : List ℕ) (p : ℕ) (r : PingRead) : Type 0 where
+  pub answer : answerOf r ≡ readAnswer isPing f p
+  pub outcome : r ≡ answered (readAnswer isPing f p) (pingFields f p)
+
+pub ping-settled : {f : List ℕ} {p : ℕ} {r t : PingRead} → PingAt f p r → PingAt f p t → r ≡ t
+ping-settled a b = a .outcome ∙ sym (b .outcome)
