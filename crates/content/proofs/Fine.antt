@@ -1,19 +1,17 @@
 -- A tuple that keeps its own rules, and what is to be shown of its content: the normal form keeps them too and has that content.
 -- Assumes nothing.
-use mathlib.Core.Path.{_≡_, refl, sym, ap, subst, _∙_}
-use mathlib.Core.Bool.{Bool, true, false, not, _&&_, _||_}
+use mathlib.Core.Path.{_≡_, sym, ap, subst, _∙_}
+use mathlib.Core.Bool.{Bool, true, false, not, _&&_}
 use mathlib.Core.List.{List, [], _∷_, _++_}
 use mathlib.Core.Option.{Option, some, none}
 use Prim.Native.Nat.{ℕ, _+_, _-_, _≤_}
 use native.Mathlib.Omega.{arith}
 use borrow.Author.Tests.{eqb-true, leb-true, not-false}
-use lib.Dec.{leb, eqb}
-use lib.ListN.{length}
-use Rattle.rules.specs.Rules.{Rule, _⇒_}
+use lib.Dec.{leb}
 use Rattle.layout.specs.declared.Verdict.the-variants.{Fine}
 use Rattle.layout.specs.Answers.{judged}
-use Rattle.layout.specs.Fields.{Field, size, widthOf}
-use Rattle.layout.specs.Types.{Shape, indexed, row, pairs, words, unlisted, fitting, kindOf, shapeOf, lengthsOf}
+use Rattle.layout.specs.Fields.{Field, size}
+use Rattle.layout.specs.Types.{Shape, row, fitting, kindOf, shapeOf, lengthsOf}
 use Rattle.layout.proofs.Tables.{lengthFrom, lengths-from}
 use Rattle.layout.proofs.Verdicts.{passes, passed}
 use Rattle.frame.specs.Frames.{Tup, lengthOf}

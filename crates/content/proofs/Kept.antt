@@ -1,15 +1,14 @@
 -- The whole interface of the tuple level to the file level: of a sound tuple's content the normal form is sound and has that
 -- content. Assumes nothing.
 use mathlib.Core.Path.{_≡_, refl, sym, subst}
-use mathlib.Core.Bool.{Bool, true, false}
-use mathlib.Core.Option.{Option, some, none}
+use mathlib.Core.Bool.{Bool, false}
+use mathlib.Core.Option.{some, none}
 use Prim.Native.Nat.{ℕ}
 use native.Mathlib.Omega.{arith}
-use lib.ListN.{length}
 use Rattle.layout.specs.Types.{Shape, indexed, row, pairs, words, unlisted, shapeOf}
 use Rattle.frame.specs.Frames.{Tup, lengthOf}
 use Rattle.content.specs.Pings.{contentU, contentC}
-use Rattle.content.specs.Items.{Item, plain, ping, raw, itemBy, itemOf}
+use Rattle.content.specs.Items.{Item, raw, itemBy, itemOf}
 use Rattle.content.specs.Forms.{formOf}
 use Rattle.content.proofs.Fine.{Sound, Kept, head-length, head-fine, inner-was, inner-fine, upward-least}
 use Rattle.content.proofs.Plain.{kept-plain}

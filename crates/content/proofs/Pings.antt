@@ -1,23 +1,20 @@
 -- 32-bit pings: data of either kind are read back in either order; what a sound ping holds; and that its normal form is sound and
 -- has the same content. Assumes nothing.
 use mathlib.Core.Path.{_≡_, refl, sym, ap, ap₂, subst, _∙_}
-use mathlib.Core.Bool.{Bool, true, false, not, _&&_}
+use mathlib.Core.Bool.{Bool, false}
 use mathlib.Core.List.{List, [], _∷_, _++_, append-assoc}
-use mathlib.Core.Option.{Option, some, none}
-use Prim.Native.Nat.{ℕ, zero, suc, _+_, _-_, _*_, _/_, _%_, _^_, _≤_, _<_}
+use mathlib.Core.Option.{some}
+use Prim.Native.Nat.{ℕ, _+_, _-_, _*_, _/_, _%_, _^_, _≤_, _<_}
 use native.Mathlib.Omega.{arith}
 use borrow.Author.Tests.{ltb-false, le-ltb, eq-eqb, le-leb}
-use lib.Dec.{ltb, leb, eqb, lit<}
+use lib.Dec.{ltb, lit<}
 use lib.ListN.{length, take, drop, length-append, length-drop}
 use lib.Seq.{length-take-le, take-at, drop-at}
 use Rattle.order.specs.Order.{numOf, bytesOf, Bytes}
 use Rattle.order.proofs.Laws.{length-bytesOf, numOf-bytesOf, numOf-bound, bytes-take, bytes-drop, bytes-append, bytes-ordered, bytes-lows}
-use Rattle.rules.specs.Rules.{Rule, _⇒_}
-use Rattle.layout.specs.declared.Verdict.{Verdict}
 use Rattle.layout.specs.declared.Verdict.the-variants.{Fine}
 use Rattle.layout.specs.Answers.{judged}
-use Rattle.layout.specs.Types.{pairs, words, fitting, classes, inClass, kindOf, lineOf, shapeOf, pingRow}
-use Rattle.layout.proofs.Tables.{lengthFrom}
+use Rattle.layout.specs.Types.{pairs, words, classes, inClass, kindOf, lineOf, pingRow}
 use Rattle.layout.proofs.Verdicts.{passes, passed}
 use Rattle.turning.specs.Rows.{Value, valuesOf, encode, Fit}
 use Rattle.turning.proofs.Contents.{values-encode, values-fit, values-take, length-encode, bytes-encode, Lettered}
@@ -32,7 +29,7 @@ use Rattle.samples.proofs.Runs.{decode-fit}
 use Rattle.samples.proofs.Values.{length-decode, decode-within}
 use Rattle.samples.proofs.Rising.{Rising, rising-all, rises, fit-rising}
 use Rattle.content.specs.Pings.{Ping, headU, headC, wordsIn, attributeIn, countIn, contentU, contentC, dataU, dataC}
-use Rattle.content.specs.Items.{Item, ping, itemBy, itemOf}
+use Rattle.content.specs.Items.{ping, itemOf}
 use Rattle.content.specs.Forms.{tupleU, tupleC, pingForm, formOf}
 use Rattle.content.proofs.Fine.{Sound, Kept, head-fine, inner-fine}
 

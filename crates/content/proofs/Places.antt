@@ -1,36 +1,36 @@
 -- A tuple by its places in the file, as the code reads it: what it says to the others, and what its own rules are asked of.
 -- Assumes nothing.
-use mathlib.Core.Path.{_≡_, refl, sym, ap, ap₂, subst, _∙_}
-use mathlib.Core.Bool.{Bool, true, false, not, _&&_, true≢false}
-use mathlib.Core.List.{List, [], _∷_, _++_}
-use mathlib.Core.Option.{Option, some, none}
+use mathlib.Core.Path.{_≡_, refl, sym, ap, ap₂, _∙_}
+use mathlib.Core.Bool.{Bool, true, false, _&&_}
+use mathlib.Core.List.{List}
+use mathlib.Core.Option.{some, none}
 use Prim.Native.Nat.{ℕ, _+_, _-_, _≤_, _<_}
 use native.Mathlib.Omega.{arith}
-use borrow.Author.Tests.{eqb-true, eqb-false, leb-true, lt-leb, eq-eqb, ne-eqb}
-use lib.Dec.{leb, eqb, lit≤}
-use lib.ListN.{length, take, drop, getD, length-drop}
-use lib.Seq.{drop-drop, take-all, take-take, length-take-le}
+use borrow.Author.Tests.{eqb-true, leb-true, lt-leb, ne-eqb}
+use lib.Dec.{leb, eqb}
+use lib.ListN.{length, take, drop, length-drop}
+use lib.Seq.{drop-drop, take-all, length-take-le}
 use Rattle.order.specs.Order.{numOf}
 use Rattle.rules.proofs.Laws.{by-rules}
 use Rattle.layout.specs.declared.Kind.{Kind}
-use Rattle.layout.specs.declared.Kind.the-variants.{Signature, Sounder, Channel, Position, Navigation, Attitude, Threshold, Event, PingU, PingC, RunStart, RunEnd, FileEnd, Index, Unlisted}
+use Rattle.layout.specs.declared.Kind.the-variants.{Signature, Sounder, Channel, Attitude, Threshold, PingU, PingC, Unlisted}
 use Rattle.layout.specs.Fields.{Field, known, size}
 use Rattle.layout.specs.Types
 use Rattle.layout.specs.Types.{Shape, indexed, row, pairs, words, unlisted, classes, inClass, kindRules, kindOf, lineOf, shapeOf, lengthsOf, fitting, pingRow}
-use Rattle.turning.specs.Rows.{Value, valuesOf, identified}
-use Rattle.turning.proofs.Contents.{valuesAt, values-at, values-take, within-take, drop-take}
-use Rattle.frame.specs.Frames.{Tup, lengthOf, sizeAt, kindAt, lenAt, tupAt}
+use Rattle.turning.specs.Rows.{Value, valuesOf}
+use Rattle.turning.proofs.Contents.{valuesAt, values-at, values-take, within-take}
+use Rattle.frame.specs.Frames.{Tup, lengthOf, sizeAt, kindAt, tupAt}
 use Rattle.frame.proofs.Frames.{both-true}
 use Rattle.frame.proofs.Places.{Whole, body-place}
-use Rattle.links.specs.Links.{Link, Digest}
+use Rattle.links.specs.Links.{Digest}
 use Rattle.links.specs.Links
 use Rattle.samples.specs.Words.{allWords, pairUp}
 use Rattle.samples.specs.Runs.{radix, decode}
 use Rattle.samples.specs.Judging.{pairRules, wordRules, judgedPairs, judgedWords}
 use Rattle.layout.specs.declared.Verdict.the-variants.{Fine}
 use Rattle.layout.specs.Answers.{judged}
-use Rattle.content.specs.Pings.{Ping, headU, headC, wordsIn, attributeIn, countIn, contentU, contentC}
-use Rattle.content.specs.Items.{Item, plain, ping, raw, rowIn, itemBy, itemOf, identifiedBy, innerBy, innerRules, numberAt, unless, linkBy, digestOf, digestItem, digest}
+use Rattle.content.specs.Pings.{Ping, wordsIn, attributeIn, countIn, contentU, contentC}
+use Rattle.content.specs.Items.{ping, rowIn, itemBy, itemOf, identifiedBy, innerBy, innerRules, numberAt, unless, linkBy, digestOf, digestItem, digest}
 
 -- ---- what a shape tells of the type code
 abbrev pub Shaped : ℕ → Shape → Type 0

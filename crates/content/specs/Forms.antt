@@ -1,6 +1,6 @@
 -- The tuples that are written for a content, in either byte order, and its normal form. Assumes nothing.
 use Prim.Native.Nat.{ℕ}
-use mathlib.Core.Bool.{Bool, true, false}
+use mathlib.Core.Bool.{Bool, false}
 use mathlib.Core.List.{List, [], _∷_}
 use mathlib.Core.Option.{Option, some, none}
 use Rattle.layout.specs.Types.{Shape, indexed, row, pairs, words, unlisted, shapeOf}

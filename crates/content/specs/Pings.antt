@@ -1,10 +1,10 @@
 -- A 32-bit ping: its content, and its data as U-32 and as C-32, in either byte order. Assumes nothing.
 use Prim.Native.Nat.{ℕ, _+_, _-_}
 use mathlib.Core.Bool.{Bool}
-use mathlib.Core.List.{List, [], _∷_, _++_}
+use mathlib.Core.List.{List, _++_}
 use lib.ListN.{length, take, drop}
 use Rattle.order.specs.Order.{numOf, bytesOf}
-use Rattle.layout.specs.Fields.{Field, u, size}
+use Rattle.layout.specs.Fields.{size}
 use Rattle.layout.specs.Types.{pingRow}
 use Rattle.turning.specs.Rows.{Value, valuesOf, encode}
 use Rattle.samples.specs.Words.{Sample, allWords, unwords, pairUp, unpair}

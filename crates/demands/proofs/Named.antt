@@ -1,7 +1,7 @@
 -- Each listed ping of an accepted file names exactly one channel declared earlier, that channel exactly one sounder declared
 -- earlier, and asking at the ping's place gives just these two, with the places of their tuples: `answered`. Assumes nothing.
 use mathlib.Core.Path.{_≡_, refl, sym, ap, subst, _∙_}
-use mathlib.Core.Logic.{_⊎_, inl, inr}
+use mathlib.Core.Logic.{inl, inr}
 use mathlib.Core.Bool.{Bool, true}
 use mathlib.Core.List.{List, [], _∷_, _++_, append-assoc, append-nil}
 use mathlib.Core.Option.{Option, some}
@@ -26,7 +26,7 @@ use Rattle.links.specs.Links.{Link, Digest, Sounder, Channel, Links, start, pla
 use Rattle.links.proofs.Linked.{Linked, linked-here}
 use Rattle.links.proofs.Parents.{Parents, upto, parents, steady-start}
 use Rattle.content.specs.Pings.{Ping, contentU, contentC}
-use Rattle.content.specs.Items.{Item, ping, itemBy, itemOf, numberAt, digestOf, digestItem, digest}
+use Rattle.content.specs.Items.{Item, ping, itemBy, itemOf, digestOf, digestItem, digest}
 use Rattle.content.proofs.Fine.{Sound}
 use Rattle.intake.specs.declared.Asked.{Asked}
 use Rattle.intake.specs.Check.{Course, begin, go, past, onward, after, turn, checkFile, sounderPlace, channelPlace}

@@ -18,7 +18,7 @@ use Rattle.layout.specs.Fields.{Field, widthOf, size}
 use Rattle.layout.specs.Types.{Shape, indexed, row, pairs, words, unlisted, fitting, shapeOf, pingRow}
 use Rattle.layout.proofs.Tables.{lengthFrom}
 use Rattle.layout.proofs.Verdicts.{both-left, both-right, passes, judged-append}
-use Rattle.turning.specs.Rows.{Value, valuesOf, encode, turnedField, turned}
+use Rattle.turning.specs.Rows.{valuesOf, encode, turnedField, turned}
 use Rattle.turning.proofs.Contents.{turned-encode, length-turned}
 use Rattle.frame.specs.Frames.{Tup, lengthOf, frame, frames}
 use Rattle.frame.proofs.Frames.{length-frame, both-true}
@@ -32,7 +32,7 @@ use Rattle.samples.proofs.Values.{length-decode, values-run, values-value}
 use Rattle.content.specs.Pings.{Ping, headU, headC, wordsIn, attributeIn, countIn, contentU, contentC, dataU, dataC}
 use Rattle.content.specs.Items.{rowIn, itemBy, itemOf, headRules, innerRules}
 use Rattle.content.specs.Forms.{encodeBy, tupleU, pingForm, formOf, formsOf, formBytes}
-use Rattle.content.proofs.Fine.{head-length, inner-was, row-size, upward-least}
+use Rattle.content.proofs.Fine.{head-length, inner-was, upward-least}
 use Rattle.content.proofs.Plain.{encode-any}
 use Rattle.intake.specs.Tallies.{ownVerdict}
 use Rattle.forms.specs.Parts.{frontBytes, openingBytes, closingBytes, silence}

@@ -1,29 +1,27 @@
 -- What the loop of asking carries, in a file that the check accepts: its declarations stay apart, the rest of the file is accepted,
 -- and what is still to come of the turns is the whole answer. Assumes nothing.
-use mathlib.Core.Path.{_≡_, refl, sym, ap, subst, _∙_}
-use mathlib.Core.Bool.{Bool, true, false, true≢false}
-use mathlib.Core.List.{List, [], _∷_}
-use mathlib.Core.Option.{Option, some, none}
-use Prim.Native.Nat.{ℕ, zero, suc, _+_, _-_, _*_, _≤_, _<_}
+use mathlib.Core.Path.{_≡_, refl, sym, ap, _∙_}
+use mathlib.Core.Bool.{Bool, true, false}
+use mathlib.Core.List.{List}
+use mathlib.Core.Option.{some, none}
+use Prim.Native.Nat.{ℕ, suc, _+_, _-_, _*_, _≤_}
 use native.Mathlib.Omega.{arith}
 use borrow.Author.Tests.{eq-eqb, ne-eqb}
-use lib.Dec.{eqb}
 use lib.ListN.{length, drop}
 use Rattle.layout.specs.declared.Answer.{Answer}
-use Rattle.layout.specs.declared.Answer.the-variants.{Accepted, Refused}
+use Rattle.layout.specs.declared.Answer.the-variants.{Accepted}
 use Rattle.layout.specs.declared.Verdict.{Verdict}
 use Rattle.layout.specs.declared.Verdict.the-variants.{Fine, Fault}
 use Rattle.layout.specs.Answers.{both, judged}
 use Rattle.layout.proofs.Verdicts.{both-left, both-right}
 use Rattle.frame.specs.Frames.{lenAt, tupAt, framing}
-use Rattle.links.specs.Links.{note}
 use Rattle.links.proofs.Parents.{Steady, steady-start, steady-past}
 use Rattle.content.specs.Items.{digest}
-use Rattle.intake.specs.Check.{Course, begin, tupleRules, Turn, stop, go, past, onward, after, turn, checkFrom}
+use Rattle.intake.specs.Check.{Course, begin, tupleRules, stop, go, past, onward, after, turn, checkFrom}
 use Rattle.intake.specs.Asking.{courseTo}
 use Rattle.intake.proofs.Turns.{emptied, judgement, flat, Judged, judged-parts, settle, from-suc}
 use Rattle.intake.proofs.Accepted.{refusal}
-use Rattle.intake.proofs.Going.{Onward, onward-of}
+use Rattle.intake.proofs.Going.{onward-of}
 
 -- ---- a turn in an accepted rest
 -- what a course of an accepted rest tells of its tuple

@@ -1,5 +1,5 @@
 -- What the loop of the check carries, over the tally and the columns. Assumes nothing.
-use mathlib.Core.Path.{_≡_, refl, sym, ap, subst, _∙_}
+use mathlib.Core.Path.{_≡_, sym, ap, subst, _∙_}
 use mathlib.Core.Bool.{Bool, true, false, not}
 use mathlib.Core.List.{List}
 use Prim.Native.Nat.{ℕ, _-_, _≤_, _<_}
@@ -16,7 +16,7 @@ use Rattle.frame.proofs.Files.{marked-4}
 use Rattle.intake.specs.declared.Tally.{Tally}
 use Rattle.intake.specs.declared.Turned.{Turned}
 use Rattle.intake.specs.declared.Turned.the-variants.{On, Done}
-use Rattle.intake.specs.Check.{Course, begin, stop, go, turn, checkFrom, checkFile}
+use Rattle.intake.specs.Check.{begin, go, turn, checkFrom, checkFile}
 use Rattle.intake.specs.Tallies.{Columns, Sized, courseOf, turnOf, Standing, StandsOn, TurnedTo, tallyBegin}
 use Rattle.intake.proofs.Going.{Going, going-begin, stopped, again}
 

@@ -1,17 +1,15 @@
 -- Asking where the tally stands at a tuple of an accepted file: a listed ping's lines are declared in the columns, and what the
 -- columns say is what the course says. Assumes nothing.
 use mathlib.Core.Path.{_≡_, refl, sym, ap, ap₂, subst, _∙_}
-use mathlib.Core.Logic.{_⊎_, inl, inr, ⊎-elim}
-use mathlib.Core.Bool.{Bool, true, false, cond, _&&_, _||_, true≢false}
-use mathlib.Core.List.{List, [], _∷_}
-use mathlib.Core.Option.{Option, some, none}
-use Prim.Native.Nat.{ℕ, _+_, _≤_, _<_}
+use mathlib.Core.Bool.{Bool, true, false, cond, _||_, true≢false}
+use mathlib.Core.List.{List}
+use mathlib.Core.Option.{Option, some}
+use Prim.Native.Nat.{ℕ, _<_}
 use native.Mathlib.Omega.{arith}
-use borrow.Author.Tests.{eqb-true, eqb-false, eq-eqb, not-false}
-use lib.Dec.{leb, eqb}
+use borrow.Author.Tests.{eqb-true, eq-eqb, not-false}
+use lib.Dec.{eqb}
 use lib.ListN.{length, take, drop, getD}
 use lib.Seq.{length-take-le, getD-take}
-use Rattle.layout.specs.declared.Verdict.the-variants.{Fine}
 use Rattle.layout.specs.declared.SoftwareChannel.{SoftwareChannel}
 use Rattle.layout.specs.declared.DocumentId.{DocumentId}
 use Rattle.layout.specs.declared.Kind.{Kind}
@@ -19,20 +17,18 @@ use Rattle.layout.specs.declared.Kind.the-variants.{PingU, PingC}
 use Rattle.layout.specs.Answers.{judged}
 use Rattle.layout.specs.Types.{Shape, indexed, row, pairs, words, unlisted, classes, inClass, kindOf, lineOf, shapeOf, fitting}
 use Rattle.layout.proofs.Verdicts.{passes}
-use Rattle.frame.specs.Frames.{Tup, kindAt, lenAt, tupAt}
+use Rattle.frame.specs.Frames.{kindAt, lenAt, tupAt}
 use Rattle.frame.proofs.Places.{Whole, framing-whole}
-use Rattle.links.specs.Links.{Link, Channel, Links, placeOf, idOf, docOf, declaredChannel}
-use Rattle.links.specs.Tables.{soundersOf, channelsOf, placeIn}
+use Rattle.links.specs.Links.{Link, Channel, Links, placeOf, idOf, docOf}
 use Rattle.links.proofs.Parents.{Steady, Parents, parents-of, named-declared}
 use Rattle.links.proofs.Columns.{channels-place, channels-length, channels-parent, sounders-place, sounders-length, even-columns, one-place, one-below}
 use Rattle.content.specs.Pings.{Ping, contentU, contentC}
-use Rattle.content.specs.Items.{Item, plain, ping, raw, itemBy, itemOf, numberAt, headRules, digestOf, digestItem, digest}
+use Rattle.content.specs.Items.{Item, ping, itemBy, itemOf, numberAt, headRules, digestOf, digestItem, digest}
 use Rattle.content.proofs.Fine.{upward-least}
 use Rattle.content.proofs.Places.{Shaped, shaped, fits-place, header}
 use Rattle.intake.specs.declared.Tally.{Tally}
 use Rattle.intake.specs.declared.Asked.{Asked}
 use Rattle.intake.specs.declared.Asked.the-variants
-use Rattle.intake.specs.Check.{Course}
 use Rattle.intake.specs.Asking.{parentsIn, askItem}
 use Rattle.intake.specs.Tallies.{Columns, Sized, courseOf, Standing, pingAt, namedAt, channelLineOf, sounderNamed, sounderLineOf, askColumns, AskIn}
 use Rattle.intake.proofs.Asks.{Fair}

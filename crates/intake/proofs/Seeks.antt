@@ -1,9 +1,7 @@
 -- What the loop of asking carries, over the tally and the columns. Assumes nothing.
 use mathlib.Core.Path.{_≡_, refl, sym, ap, subst, _∙_}
-use mathlib.Core.Logic.{_↔_}
-use mathlib.Core.Bool.{Bool, true, false, not}
+use mathlib.Core.Bool.{Bool, true}
 use mathlib.Core.List.{List}
-use mathlib.Core.Option.{Option, some, none}
 use Prim.Native.Nat.{ℕ, _-_, _≤_, _<_}
 use native.Mathlib.Omega.{arith}
 use borrow.Author.Tests.{ltb-false, not-false}
@@ -22,7 +20,7 @@ use Rattle.intake.specs.declared.Turned.{Turned}
 use Rattle.intake.specs.declared.Turned.the-variants.{On, Done}
 use Rattle.intake.specs.declared.Asked.{Asked}
 use Rattle.intake.specs.declared.Asked.the-variants
-use Rattle.intake.specs.Check.{Course, begin, stop, go, turn, checkFrom, checkFile}
+use Rattle.intake.specs.Check.{begin, go, turn, checkFrom, checkFile}
 use Rattle.intake.specs.Asking.{courseTo, askItem, askCourse, askAccepted}
 use Rattle.intake.specs.Tallies.{Columns, Sized, courseOf, turnOf, Standing, StandsOn, TurnedTo, tallyBegin, AcceptedFile, AskIn, askColumns}
 use Rattle.intake.proofs.Accepted.{isAccepted}

@@ -1,17 +1,17 @@
 -- A turn of the check, taken apart: the one list of a tuple's rules is the verdicts of its parts, one behind the other.
 -- Assumes nothing.
-use mathlib.Core.Path.{_≡_, refl, sym, ap, ap₂, _∙_}
-use mathlib.Core.Bool.{Bool, true, false}
+use mathlib.Core.Path.{_≡_, refl, ap, ap₂, _∙_}
+use mathlib.Core.Bool.{Bool}
 use mathlib.Core.List.{List, [], _∷_, _++_}
-use Prim.Native.Nat.{ℕ, zero, suc, _+_}
+use Prim.Native.Nat.{ℕ, suc, _+_}
 use lib.Dec.{eqb}
 use lib.ListN.{length, drop}
-use Rattle.rules.specs.Rules.{Rule, _⇒_}
+use Rattle.rules.specs.Rules.{_⇒_}
 use Rattle.layout.specs.declared.Answer.{Answer}
 use Rattle.layout.specs.declared.Verdict.{Verdict}
-use Rattle.layout.specs.declared.Verdict.the-variants.{Fine, Fault}
+use Rattle.layout.specs.declared.Verdict.the-variants.{Fine}
 use Rattle.layout.specs.Answers.{both, judged}
-use Rattle.layout.proofs.Verdicts.{both-left, both-right, both-fine, both-both, judged-append}
+use Rattle.layout.proofs.Verdicts.{both-left, both-right, both-fine, judged-append}
 use Rattle.frame.specs.Frames.{Tup, lenAt, tupAt, frameRules, framing}
 use Rattle.links.specs.Links.{signRules, linkRules}
 use Rattle.content.specs.Items.{headRules, innerRules, digest}

@@ -3,13 +3,12 @@
 use mathlib.Core.Path.{_≡_, refl, sym, ap, ap₂, _∙_}
 use mathlib.Core.Bool.{true, false}
 use mathlib.Core.List.{List, [], _∷_, _++_, map}
-use mathlib.Core.Option.{Option, some, none}
+use mathlib.Core.Option.{some, none}
 use Prim.Native.Nat.{ℕ, zero, suc, _+_, _-_, _%_, _<_, _≤_}
 use native.Mathlib.Omega.{arith}
 use borrow.Author.Tests.{le-leb, lt-leb}
 use lib.Dec.{eqb, lit<}
 use lib.ListN.{getD, List·getD-map}
-use Rattle.rules.specs.Rules.{firstOf}
 use Rattle.layout.specs.declared.Kind.{Kind}
 use Rattle.layout.specs.declared.Kind.the-variants.{Signature, Sounder, Channel, Position, Navigation, Attitude, Threshold, Event, PingU, PingC, RunStart, RunEnd, FileEnd, Index, Unlisted}
 use Rattle.layout.specs.Fields.{Field, u, size}

@@ -1,11 +1,11 @@
 -- Tuples that keep the rules between them, as a relation over what each says; leaving out and putting in a tuple of no concern.
 -- Assumes nothing.
 use mathlib.Core.Path.{_≡_, refl, sym, ap, subst, _∙_}
-use mathlib.Core.Bool.{Bool, true, false, not, _||_, true≢false}
-use mathlib.Core.List.{List, [], _∷_, _++_, append-nil}
+use mathlib.Core.Bool.{Bool, true, false, _||_, true≢false}
+use mathlib.Core.List.{List, [], _∷_, append-nil}
 use Prim.Native.Nat.{ℕ}
 use native.Mathlib.Omega.{arith}
-use Rattle.layout.specs.declared.Verdict.the-variants.{Fine, Fault}
+use Rattle.layout.specs.declared.Verdict.the-variants.{Fine}
 use Rattle.layout.specs.Answers.{judged}
 use Rattle.layout.proofs.Verdicts.{not-fine}
 use Rattle.links.specs.Links.{Digest, nothing, Links, signRules, linkRules, note, complete, counted}

@@ -1,12 +1,10 @@
 -- The fields of a sound ping by their places in the file. Assumes nothing.
 use mathlib.Core.Path.{_≡_, refl, sym, ap, _∙_}
-use mathlib.Core.Bool.{Bool, cond}
+use mathlib.Core.Bool.{Bool}
 use mathlib.Core.List.{List}
 use mathlib.Core.Option.{Option, some, none}
-use Prim.Native.Nat.{ℕ, _+_, _-_, _/_, _≤_}
+use Prim.Native.Nat.{ℕ, _+_, _-_, _/_}
 use native.Mathlib.Omega.{arith}
-use borrow.Author.Tests.{eq-eqb, ne-eqb}
-use lib.Dec.{eqb}
 use lib.IntN.{ℤ}
 use lib.ListN.{length, take, drop, length-drop}
 use lib.Seq.{length-take-le}
@@ -15,11 +13,11 @@ use Rattle.layout.specs.declared.Answer.{Answer}
 use Rattle.layout.specs.Types.{classes, inClass, kindOf, lineOf, pingRow}
 use Rattle.frame.specs.Files.{isMsb}
 use Rattle.frame.proofs.Places.{Whole}
-use Rattle.turning.specs.Rows.{Value, valuesOf}
+use Rattle.turning.specs.Rows.{valuesOf}
 use Rattle.turning.proofs.Contents.{values-at}
 use Rattle.content.specs.Pings.{Ping, attributeIn, contentU, contentC}
 use Rattle.content.specs.Items.{Item, plain, ping, raw, itemBy, itemOf}
-use Rattle.content.proofs.Places.{fieldAt, values-place, attribute-place}
+use Rattle.content.proofs.Places.{values-place, attribute-place}
 use Rattle.tuples.specs.Readers.{tupleThere, readItem}
 use Rattle.tuples.proofs.Reading.{stands, here}
 use Rattle.pings.specs.declared.PingHeader.{PingHeader}

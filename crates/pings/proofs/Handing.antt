@@ -7,13 +7,13 @@ use native.Mathlib.Omega.{arith}
 use borrow.Author.Tests.{lt-ltb, le-ltb}
 use lib.Dec.{ltb}
 use lib.IntN.{ℤ}
-use lib.ListN.{length, drop, length-drop}
+use lib.ListN.{length, drop}
 use lib.Seq.{sets, sets-eq}
 use Rattle.layout.specs.declared.Answer.the-variants.{Accepted, Refused}
 use Rattle.samples.specs.Words.{Sample, words, allWords, pairUp}
 use Rattle.samples.specs.Lists.{numbersOf, valuesOf, Room}
 use Rattle.samples.proofs.Words.{pairs-few}
-use Rattle.pings.specs.Readers.{handAnswer, Handed}
+use Rattle.pings.specs.Readers.{Handed}
 
 -- ---- either slice is short
 module _ (s : List Sample) (ns : List ℕ) (vs : List ℤ) where

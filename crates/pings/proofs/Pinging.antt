@@ -1,5 +1,5 @@
 -- What the ping writers answer, by the rule that is the first one broken, and the bytes that they leave. Assumes nothing.
-use mathlib.Core.Path.{_≡_, refl, sym, ap, _∙_}
+use mathlib.Core.Path.{_≡_, sym, ap, _∙_}
 use mathlib.Core.Bool.{Bool, true, false, not}
 use mathlib.Core.List.{List, [], _∷_, _++_, append-assoc}
 use Prim.Native.Nat.{ℕ, _+_, _-_, _*_, _≤_, _<_, min}
@@ -7,28 +7,27 @@ use native.Mathlib.Omega.{arith}
 use borrow.Author.Tests.{lt-ltb, le-ltb, eq-eqb, ne-eqb}
 use lib.Dec.{ltb, eqb}
 use lib.IntN.{ℤ}
-use lib.ListN.{length, drop, length-append}
-use lib.Seq.{sets, sets-eq}
-use Rattle.rules.specs.Rules.{Rule, _⇒_, firstOf, First}
+use lib.ListN.{length, length-append}
+use lib.Seq.{sets}
+use Rattle.rules.specs.Rules.{Rule, _⇒_, First}
 use Rattle.rules.specs.Rules.First.{none, here, pass}
 use Rattle.rules.proofs.Laws.{first-eq}
 use Rattle.order.specs.Order.{bytesOf, patternOf}
 use Rattle.order.proofs.Laws.{length-bytesOf}
-use Rattle.order.proofs.Stores.{sets-append}
 use Rattle.layout.specs.declared.Answer.{Answer}
 use Rattle.layout.specs.declared.Answer.the-variants.{Accepted, Refused}
 use Rattle.layout.specs.Types.{pingRow}
 use Rattle.turning.specs.Rows.{encode}
-use Rattle.frame.specs.Frames.{Tup, lengthOf, frame}
+use Rattle.frame.specs.Frames.{lengthOf, frame}
 use Rattle.frame.proofs.Frames.{length-frame}
-use Rattle.samples.specs.Words.{Sample, unwords, unpair}
+use Rattle.samples.specs.Words.{unwords, unpair}
 use Rattle.samples.specs.Lists.{paired, numbered, valued}
 use Rattle.samples.specs.Runs.{radix, fewest}
 use Rattle.samples.specs.Judging.{most, firstDrop, firstWordless}
 use Rattle.samples.proofs.Words.{length-unwords, length-unpair}
 use Rattle.samples.proofs.Apart.{length-paired, drop-numbered, wordless-valued}
 use Rattle.samples.proofs.Rising.{drop-most}
-use Rattle.content.specs.Pings.{Ping, dataU, dataC}
+use Rattle.content.specs.Pings.{dataU, dataC}
 use Rattle.content.specs.Forms.{tupleU, tupleC}
 use Rattle.pings.specs.declared.PingHeader.{PingHeader}
 use Rattle.tuples.specs.Writers.{writeAnswer, Written, tooLong}

@@ -1,13 +1,10 @@
 -- Numbers stored one behind the other are stored as one run of bytes. Assumes nothing.
-use mathlib.Core.Path.{_≡_, refl, sym, ap, _∙_}
+use mathlib.Core.Path.{_≡_, sym, ap, _∙_}
 use mathlib.Core.Bool.{Bool}
-use mathlib.Core.List.{List, [], _∷_, _++_, append-nil}
-use Prim.Native.Nat.{ℕ, _+_, _-_}
-use lib.IntN.{ℤ}
+use mathlib.Core.List.{List, []}
+use Prim.Native.Nat.{ℕ, _-_}
 use lib.Seq.{sets}
 use Rattle.order.specs.Order.{bytesOf, patternOf}
-use Rattle.order.proofs.Laws.{length-bytesOf}
-use Rattle.order.proofs.Stores.{sets-append}
 use Rattle.layout.specs.Types.{pingRow}
 use Rattle.turning.specs.Rows.{encode}
 use Rattle.pings.specs.declared.PingHeader.{PingHeader}

@@ -1,6 +1,6 @@
 -- Sample numbers that rise strictly: the rule as a relation, and that the first fault's place agrees with it. Assumes nothing.
-use mathlib.Core.Path.{_≡_, refl, sym, ap, _∙_}
-use mathlib.Core.Bool.{Bool, true, false}
+use mathlib.Core.Path.{_≡_, refl, ap, _∙_}
+use mathlib.Core.Bool.{Bool, false}
 use mathlib.Core.List.{List, [], _∷_}
 use Prim.Native.Nat.{ℕ, _+_, _≤_, _<_}
 use native.Mathlib.Omega.{arith}
@@ -8,7 +8,7 @@ use lib.Dec.{leb, ltb, lit<}
 use lib.ListN.{length}
 use borrow.Author.Tests.{ltb-false, leb-true, leb-false, le-leb}
 use Rattle.samples.specs.Words.{Sample, pairUp}
-use Rattle.samples.specs.Runs.{decode, decodeFrom}
+use Rattle.samples.specs.Runs.{decode}
 use Rattle.samples.specs.Judging.{firstDrop}
 use Rattle.samples.proofs.Words.{wordAt, wordsFrom, from-cons, from-end}
 use Rattle.samples.proofs.Runs.{Fit, by-bool, decode-fit}

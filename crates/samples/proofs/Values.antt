@@ -1,11 +1,10 @@
 -- Laws of the values among words: how many, the first outside the limits, and how far their numbers go. Assumes nothing.
-use mathlib.Core.Path.{_≡_, refl, sym, ap, _∙_}
-use mathlib.Core.Bool.{Bool, true, false}
+use mathlib.Core.Path.{_≡_, refl}
+use mathlib.Core.Bool.{true, false}
 use mathlib.Core.List.{List, [], _∷_}
 use Prim.Native.Nat.{ℕ, _+_, _*_, _≤_, _<_}
 use native.Mathlib.Omega.{arith}
 use lib.ListN.{length}
-use Rattle.samples.specs.Words.{Sample}
 use Rattle.samples.specs.Runs.{isRun, runLength, decodeFrom, isBad, values, firstBad}
 use Rattle.samples.proofs.Words.{Below, Within}
 use Rattle.samples.proofs.Runs.{decode-run, decode-value, run-short, by-bool}

@@ -4,7 +4,7 @@ use Prim.Native.Nat.{ℕ, zero, suc, _+_, _-_, _*_, _/_, _%_}
 use mathlib.Core.Bool.{Bool, true, false, _&&_}
 use mathlib.Core.List.{List, [], _∷_, _++_}
 use lib.Dec.{eqb, leb, ltb}
-use lib.ListN.{length, replicate}
+use lib.ListN.{replicate}
 use Rattle.samples.specs.Words.{Sample}
 
 -- the radix of C-32: sixteen leading ones make a word a run

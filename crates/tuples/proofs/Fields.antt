@@ -2,28 +2,25 @@
 use mathlib.Core.Path.{_≡_, refl, sym, ap, _∙_}
 use mathlib.Core.Bool.{Bool, true}
 use mathlib.Core.List.{List, [], _∷_, _++_}
-use mathlib.Core.Option.{Option, some, none}
+use mathlib.Core.Option.{some, none}
 use Prim.Native.Nat.{ℕ, _+_, _-_, _≤_}
 use native.Mathlib.Omega.{arith}
 use borrow.Author.Tests.{eqb-true, leb-true}
 use lib.Dec.{eqb, leb}
 use lib.ListN.{length, take, drop, length-drop}
 use lib.Seq.{length-take-le}
-use Rattle.layout.specs.declared.Verdict.the-variants.{Fine}
-use Rattle.layout.specs.Answers.{both}
 use Rattle.layout.specs.Fields.{Field, s, c, size}
-use Rattle.layout.specs.Types.{Shape, indexed, row, pairs, words, unlisted, kindOf, lineOf, shapeOf, Length, exactly, upward, free, fitting}
+use Rattle.layout.specs.Types.{Shape, indexed, row, pairs, words, unlisted, kindOf, lineOf, shapeOf, Length, exactly, upward, fitting}
 use Rattle.layout.proofs.Tables.{lengthFrom, lengths-from}
 use Rattle.layout.proofs.Verdicts.{both-left}
 use Rattle.turning.specs.Rows.{valuesOf}
 use Rattle.turning.proofs.Contents.{valuesAt, values-at}
 use Rattle.frame.specs.Files.{isMsb}
-use Rattle.frame.specs.Frames.{tupAt}
 use Rattle.frame.proofs.Frames.{both-true}
 use Rattle.frame.proofs.Places.{Whole}
-use Rattle.content.specs.Items.{Item, rowIn, itemBy, itemOf}
+use Rattle.content.specs.Items.{rowIn, itemBy, itemOf}
 use Rattle.content.proofs.Places.{length-body, values-place}
-use Rattle.intake.specs.Tallies.{Here, Fits, headVerdict, innerVerdict}
+use Rattle.intake.specs.Tallies.{Here, Fits, innerVerdict}
 use Rattle.intake.proofs.Judges.{head-fits, own-parts}
 use Rattle.tuples.specs.Readers.{tupleThere, only, Readable, valuesBy, readValues, rowBy, rowOf}
 use Rattle.tuples.proofs.Reading.{stands, here}

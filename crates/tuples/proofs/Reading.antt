@@ -1,13 +1,13 @@
 -- What a reader answers, by what the step forward finds, what is asked for and what is said of the tuple's own rules. Assumes nothing.
-use mathlib.Core.Path.{_≡_, refl, sym, ap, _∙_}
+use mathlib.Core.Path.{_≡_, sym, ap, _∙_}
 use mathlib.Core.Bool.{Bool, true, false, not, _&&_}
-use mathlib.Core.List.{List, [], _∷_, _++_}
+use mathlib.Core.List.{List, _∷_, _++_}
 use Prim.Native.Nat.{ℕ, _%_, _≤_}
 use native.Mathlib.Omega.{arith}
 use borrow.Author.Tests.{leb-true}
 use lib.Dec.{eqb, leb}
 use lib.ListN.{length}
-use Rattle.rules.specs.Rules.{Rule, _⇒_, firstOf, saying}
+use Rattle.rules.specs.Rules.{_⇒_, firstOf, saying}
 use Rattle.layout.specs.declared.Answer.the-variants.{Accepted, Refused}
 use Rattle.layout.specs.declared.Verdict.the-variants.{Fine, Fault}
 use Rattle.frame.specs.declared.Walk.{Walk}
@@ -17,8 +17,8 @@ use Rattle.frame.specs.Frames.{allowed}
 use Rattle.frame.specs.Files.{isMsb}
 use Rattle.frame.specs.Steps.{stepForward}
 use Rattle.frame.proofs.Frames.{both-true}
-use Rattle.frame.proofs.Places.{Whole, whole-framing}
-use Rattle.frame.proofs.Walks.{Stands, Forward, forward-stands}
+use Rattle.frame.proofs.Places.{whole-framing}
+use Rattle.frame.proofs.Walks.{Stands, forward-stands}
 use Rattle.frame.proofs.Ways.{said, unsaid}
 use Rattle.content.specs.Items.{headRules, innerRules}
 use Rattle.intake.specs.Tallies.{Here, ownVerdict}

@@ -2,14 +2,13 @@
 use mathlib.Core.Path.{_≡_, refl, sym, ap, subst, _∙_}
 use mathlib.Core.Bool.{Bool, true, false}
 use mathlib.Core.List.{List, [], _∷_, _++_, append-assoc, append-nil}
-use mathlib.Core.Option.{Option, some, none}
+use mathlib.Core.Option.{some, none}
 use Prim.Native.Nat.{ℕ, _+_, _-_, _<_, _≤_}
 use native.Mathlib.Omega.{arith}
 use borrow.Author.Tests.{lt-ltb, le-ltb}
-use lib.Dec.{ltb}
 use lib.ListN.{length, drop, getD, length-append}
 use lib.Seq.{sets, sets-eq}
-use Rattle.rules.specs.Rules.{Rule, _⇒_, firstOf}
+use Rattle.rules.specs.Rules.{Rule, _⇒_}
 use Rattle.rules.specs.Rules.First.{none, here, pass}
 use Rattle.rules.proofs.Laws.{first-eq}
 use Rattle.order.specs.Order.{bytesOf}
@@ -23,7 +22,7 @@ use Rattle.layout.specs.Codes.{fieldsOf, rowCodes}
 use Rattle.layout.proofs.Tables.{Said, fieldsIn, tabled, by-kind}
 use Rattle.frame.specs.Frames.{frame}
 use Rattle.frame.proofs.Frames.{length-frame}
-use Rattle.turning.specs.Rows.{Value, number, text, encode, woven, behindField, textFits}
+use Rattle.turning.specs.Rows.{Value, number, text, encode, woven, textFits}
 use Rattle.turning.proofs.Writes.{length-woven}
 use Rattle.content.specs.Forms.{encodeBy, plainTuple}
 use Rattle.tuples.specs.Writers.{writeAnswer, Written, plainBytes, handedValues, Handable, openBytes, closeBytes}

@@ -8,10 +8,10 @@ use Prim.Native.Nat.{ℕ, zero, suc, _+_, _*_, _%_, _/_, _<_}
 use native.Mathlib.Omega.{arith}
 use borrow.Author.Tests.{eqb-true, ne-eqb}
 use lib.Dec.{eqb}
-use lib.ListN.{length, getD, take, drop, replicate, length-append, length-replicate, length-drop}
+use lib.ListN.{length, getD, take, drop, replicate, length-append, length-replicate}
 use lib.Seq.{sets, take-all, drop-drop}
 use Rattle.rules.specs.Rules.{_⇒_, firstOf}
-use Rattle.order.specs.Order.{lows, ordered, bytesOf}
+use Rattle.order.specs.Order.{ordered, bytesOf}
 use Rattle.order.proofs.Laws.{length-bytesOf}
 use Rattle.order.proofs.Stores.{sets-append}
 use Rattle.layout.specs.Fields.{Field, num, txt, gap, ident, widthOf, size, identifier}

@@ -5,10 +5,7 @@ use mathlib.Core.Bool.{true}
 use mathlib.Core.List.{List, [], _∷_, map}
 use Prim.Native.Nat.{ℕ}
 use Prim.Native.String.{String}
-use lib.Dec.{eqb}
-use Rattle.layout.specs.declared.Answer.{Answer}
 use Rattle.layout.specs.declared.Answer.the-variants.{Accepted}
-use Rattle.layout.specs.Text.{ascii}
 use Rattle.layout.specs.Types.{classes, inClass, kindOf, lineOf}
 use Rattle.frame.specs.Frames.{allowed, frame, sizeAt, kindAt, backAt, framing}
 use Rattle.frame.specs.Files.{mark, isMsb, marked}

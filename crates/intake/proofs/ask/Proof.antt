@@ -1,5 +1,5 @@
 -- `intake::ask` meets its contract: the check's refusals, then what asking in an accepted file gives. Assumes nothing.
-use mathlib.Core.Path.{_≡_, sym, ap, _∙_}
+use mathlib.Core.Path.{sym, ap, _∙_}
 use borrow.Author.Needs.{needs}
 use Rattle.intake.specs.Asking.{askChecked, askAt}
 use Rattle.intake.proofs.ask.Statement.{statement}

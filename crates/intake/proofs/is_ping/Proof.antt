@@ -1,5 +1,4 @@
 -- `intake::is_ping` meets its contract. Assumes nothing.
-use borrow.Author.Needs.{needs}
 use borrow.Author.Tests.{eq-eqb, ne-eqb}
 use Rattle.intake.proofs.is_ping.Statement.{statement}
 use Rattle.intake.proofs.is_ping.Tie as tie

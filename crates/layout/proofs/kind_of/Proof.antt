@@ -6,7 +6,7 @@ use borrow.Author.Tests.{ne-eqb}
 use Rattle.rules.proofs.Laws.{all-pass, first-eq}
 use Rattle.rules.specs.Rules.First.{here}
 use Rattle.layout.specs.declared.Kind.{Kind}
-use Rattle.layout.specs.declared.Kind.the-variants.{Index, Unlisted}
+use Rattle.layout.specs.declared.Kind.the-variants.{Unlisted}
 use Rattle.layout.specs.Types.{classes, inClass, kindRules, kindOf}
 use Rattle.layout.proofs.kind_of.Statement.{statement}
 use Rattle.layout.proofs.kind_of.Tie as tie

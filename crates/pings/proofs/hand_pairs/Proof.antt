@@ -1,7 +1,4 @@
 -- `pings::hand_pairs` meets its contract: as many pairs as their bytes hold. Assumes nothing.
-use mathlib.Core.Path.{_≡_, sym, ap, _∙_}
-use Prim.Native.Nat.{_≤_, _<_}
-use native.Mathlib.Omega.{arith}
 use borrow.Author.Needs.{needs}
 use Rattle.samples.specs.Words.{allWords, pairUp}
 use Rattle.samples.specs.Lists.{Room}

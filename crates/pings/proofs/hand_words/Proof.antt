@@ -1,7 +1,4 @@
 -- `pings::hand_words` meets its contract: as many samples as the ping counts. Assumes nothing.
-use mathlib.Core.Path.{_≡_, sym, ap, _∙_}
-use Prim.Native.Nat.{_≤_, _<_}
-use native.Mathlib.Omega.{arith}
 use borrow.Author.Needs.{needs}
 use Rattle.samples.specs.Words.{allWords}
 use Rattle.samples.specs.Runs.{radix, decode}

@@ -1,5 +1,5 @@
 -- `pings::read_ping` meets its contract: the reader's refusal, or the fields of the ping that was opened. Assumes nothing.
-use mathlib.Core.Path.{ap, _∙_}
+use mathlib.Core.Path.{ap}
 use borrow.Author.Needs.{needs}
 use Rattle.layout.specs.declared.Answer.{Answer}
 use Rattle.pings.specs.Fields.{answered, pingFields}

@@ -1,14 +1,9 @@
 -- `pings::write_u32` meets its contract: the first rule that is broken, or the ping's bytes in three runs of stores. Assumes
 -- nothing.
-use mathlib.Core.Path.{_≡_, sym, ap, _∙_}
-use Prim.Native.Nat.{_+_, _*_, _≤_}
 use native.Mathlib.Omega.{arith}
 use borrow.Author.Needs.{needs}
-use lib.ListN.{length}
 use mir.Syntax.{w32}
 use mir.Facts.{toZ-ofZ}
-use Rattle.samples.specs.Lists.{numbered}
-use Rattle.samples.specs.Judging.{firstDrop}
 use Rattle.pings.proofs.Pinging.{unequal-U, overfull-U, silent, drops, no-room, written}
 use Rattle.pings.proofs.write_u32.Statement.{statement}
 use Rattle.pings.proofs.write_u32.Tie as tie

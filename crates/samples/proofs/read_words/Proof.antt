@@ -1,18 +1,17 @@
 -- `samples::read_words` meets its contract: the samples of the words from here on are still to be handed over (`Handing`). Assumes
 -- nothing.
-use mathlib.Core.Path.{_≡_, sym, ap, _∙_}
+use mathlib.Core.Path.{sym, ap, _∙_}
 use mathlib.Core.Logic.{⊎-elim}
-use mathlib.Core.List.{List, _∷_}
-use Prim.Native.Nat.{ℕ, _+_, _-_, _*_, _≤_}
+use mathlib.Core.List.{_∷_}
+use Prim.Native.Nat.{_+_, _-_, _*_, _≤_}
 use native.Mathlib.Omega.{arith}
 use borrow.Author.Needs.{needs}
 use lib.Dec.{lit<}
 use lib.ListN.{length}
 use mir.Syntax.{w32}
 use mir.Facts.{toZ-ofZ}
-use Rattle.order.specs.Order.{signedOf}
 use Rattle.samples.specs.Words.{allWords}
-use Rattle.samples.specs.Runs.{radix, runLength, decodeFrom, decode}
+use Rattle.samples.specs.Runs.{radix, decodeFrom, decode}
 use Rattle.samples.proofs.Words.{wordsFrom, from-all, from-end}
 use Rattle.samples.proofs.Runs.{decode-run, decode-value, run-short}
 use Rattle.samples.proofs.Judging.{next}

@@ -11,7 +11,7 @@ use lib.ListN.{length, getD}
 use lib.Seq.{take-length}
 use Rattle.order.specs.Order.{patternOf}
 use Rattle.layout.specs.Fields.{size}
-use Rattle.layout.specs.Types.{shapeOf, kindOf, placeIn}
+use Rattle.layout.specs.Types.{shapeOf, placeIn}
 use Rattle.layout.specs.Codes.{fieldsOf, rowCodes}
 use Rattle.layout.proofs.Tables.{fieldsIn}
 use Rattle.turning.specs.Rows.{textFits}

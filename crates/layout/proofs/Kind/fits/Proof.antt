@@ -1,12 +1,12 @@
 -- `layout::Kind::fits` meets its contract: the least length and the step of the kind's line say its lengths (`tabled`). Assumes nothing.
-use mathlib.Core.Path.{_≡_, sym, ap, _∙_}
+use mathlib.Core.Path.{_≡_, ap, _∙_}
 use Prim.Native.Nat.{ℕ, _<_}
 use native.Mathlib.Omega.{arith}
 use borrow.Author.Needs.{needs}
 use lib.ListN.{getD}
 use Rattle.layout.specs.Types.{Length, fitting, lineOf, placeIn}
 use Rattle.layout.specs.Codes.{leasts, steps, lengthBy}
-use Rattle.layout.proofs.Tables.{Said, coded, printed, tabled, fixed, short, long, any}
+use Rattle.layout.proofs.Tables.{Said, tabled, fixed, short, long, any}
 use Rattle.layout.proofs.Kind.fits.Statement.{statement}
 use Rattle.layout.proofs.Kind.fits.Tie as tie
 use Rattle.layout.proofs.Kind.fits.Reads as reads

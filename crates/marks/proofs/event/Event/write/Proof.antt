@@ -1,5 +1,5 @@
 -- `marks::event::Event::write` meets its contract: 9 for a text that no event marker can hold, 11, then 19. Assumes nothing.
-use mathlib.Core.Path.{refl, ap, _∙_}
+use mathlib.Core.Path.{refl, ap}
 use mathlib.Core.Bool.{not}
 use mathlib.Core.List.{List, [], _∷_}
 use Prim.Native.Nat.{ℕ}

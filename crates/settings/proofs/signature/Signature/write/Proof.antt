@@ -1,5 +1,5 @@
 -- `settings::signature::Signature::write` meets its contract: the fields in order are the values of the row. Assumes nothing.
-use mathlib.Core.Path.{refl, ap, _∙_}
+use mathlib.Core.Path.{refl, ap}
 use mathlib.Core.List.{[], _∷_}
 use native.Mathlib.Omega.{arith}
 use borrow.Author.Needs.{needs}

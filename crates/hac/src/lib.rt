@@ -1,0 +1,86 @@
+// HAC files: checked, walked both ways, linked, read, written and brought to one normal form. The whole library under one name.
+//
+// A file is lent as a slice of bytes and may hold anything; a place is a byte offset in it. Every call answers for every argument and
+// asks for nothing. It accepts, or it refuses by one code of document 01 with a place: the first rule broken, in 01's order. A refused
+// call leaves all lent memory as it was; an accepted one leaves what stands past what it wrote. `msb` is the byte order that a writer
+// is asked for: most significant byte first where it is true. Codes are named in `codes`, type codes in `types`.
+
+// What a call says: accepted with the tuples counted and the length written, or refused with a code and a place.
+pub use layout::Answer;
+pub use layout::codes;
+pub use layout::types;
+
+// Three kinds of identifier that are never taken for one another.
+pub use layout::DocumentId;
+pub use layout::SoftwareChannel;
+pub use layout::Transceiver;
+
+// check(file): 1, 2; tuple by tuple 4, 3, 5, 3, 6, 7, 9, 8, 12, 14, 13, 11, 10; behind the end of file 15, 16, 17. Accepts with the
+// file's tuples and length 0. Promise: `Checked`, crates/intake/specs/Check.antt.
+pub use intake::check;
+
+// The walk: a state that a step takes and hands back. Walk { at }.forward(file) and .backward(file) give a tuple (place, length, type
+// code, next state), the end, or a refusal at the step's place: 1, 2, 3, 5, 3, 6. Promises: `SteppedForward`, `SteppedBackward`,
+// crates/frame/specs/Steps.antt.
+pub use frame::Step;
+pub use frame::Walk;
+
+// ask(file, place): the channel and the sounder of the ping at a place, both identifiers and both tuples' places, with the file's
+// tuples. Refuses as the check does, then by 9 where no listed ping starts. Promise: `AskedFor`, crates/intake/specs/Asking.antt.
+pub use intake::Asked;
+pub use intake::ask;
+
+// read_ping(file, place): header, attribute, kind and number of values of a listed ping. Refuses as a forward step does, 3 at the end;
+// then 9 for another type; 9, 11, 10. Promise: `PingAt`, crates/pings/specs/Fields.antt.
+pub use pings::PingHeader;
+pub use pings::PingKind;
+pub use pings::PingRead;
+pub use pings::read_ping;
+
+// read_samples(file, place, numbers, values): a listed ping's samples, an entry of both slices for each; the length is their number.
+// Refuses as read_ping does, then by 19 at 0 where either slice is short. Promise: `SamplesRead`, crates/pings/specs/Readers.antt.
+pub use pings::read_samples;
+
+// write_u32 and write_c32(header, attribute, numbers, values, msb, out): a ping as pairs, or in the fewest words. Refuse by 10 at the
+// smaller of unequal counts; 11 (count); 22 (U-32 without samples); 10 at the first number not above the one before it; 21 at the
+// first value that has no word (C-32); 11 (length); 19. Promises: `WrittenU`, `WrittenC`, crates/pings/specs/Headers.antt.
+pub use pings::write_c32;
+pub use pings::write_u32;
+
+// The records. T::read(file, place) gives the record, and where its characters stand (`Part`), or a refusal: a forward step's, 3 at the
+// end; 9 for another type; 9, 8. T::write(record, msb, out) refuses by 19 alone; with remarks by 9 at 0 where they are not thirty
+// characters, before 19; an event's text by 9 where it is no multiple of four characters or none, 11 where the tuple would be over
+// 262,144 bytes, both at 0, before 19. T::new makes a record of its fields; T::CODE, T::LENGTH and a constant for each field's place
+// are the type's own. Promises: `TAt` and `TWritten`, crates/settings|voyage|marks/specs/T.antt.
+pub use marks::event::Event;
+pub use marks::event::EventRead;
+pub use marks::file_end::FileEnd;
+pub use marks::file_end::FileEndRead;
+pub use marks::run_end::RunEnd;
+pub use marks::run_end::RunEndRead;
+pub use marks::run_start::RunStart;
+pub use marks::run_start::RunStartRead;
+pub use settings::channel::Channel;
+pub use settings::channel::ChannelRead;
+pub use settings::signature::Signature;
+pub use settings::signature::SignatureRead;
+pub use settings::sounder::Sounder;
+pub use settings::sounder::SounderRead;
+pub use settings::threshold::Threshold;
+pub use settings::threshold::ThresholdRead;
+pub use tuples::Part;
+pub use voyage::attitude::Attitude;
+pub use voyage::attitude::AttitudeRead;
+pub use voyage::navigation::Navigation;
+pub use voyage::navigation::NavigationRead;
+pub use voyage::position::Position;
+pub use voyage::position::PositionRead;
+
+// normalise(file, out): the file's normal form. Refuses as the check does; then by 18 at the first unlisted tuple, index class apart, of
+// an MSB file; 20 where the normal form is over the limit of a file; 19. Accepts with the file's tuples and the bytes written.
+// Promise: `Normalised`, crates/normal/specs/Normaliser.antt; demand 3: crates/normal/specs/Demand.antt.
+pub use normal::normalise;
+
+// normalise_tuple(file, out): the normal form of a mark and one tuple, whatever would stand around it: 1, 2; 3, 5, 3, 6, 9, 8, 11, 10
+// at 4; 15 for bytes behind it; 18; 19. Promise: `NormalisedTuple`, crates/normal/specs/Single.antt.
+pub use normal::normalise_tuple;
