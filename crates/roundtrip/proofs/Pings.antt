@@ -1,0 +1,241 @@
+-- Pings: what the U-32 and the C-32 writer write is sound in either byte order and is read back; and where both can be written, both
+-- say the same. Assumes nothing.
+use mathlib.Core.Path.{_≡_, refl, sym, ap, ap₂, _∙_}
+use Prim.Native.Nat.{ℕ, _+_, _-_, _%_, _^_, _≤_, _<_}
+use mathlib.Core.Bool.{Bool, true, false, not, _||_}
+use mathlib.Core.List.{List, [], _∷_, _++_}
+use mathlib.Core.Option.{some}
+use native.Mathlib.Omega.{arith}
+use borrow.Author.Tests.{ltb-false, le-ltb, le-leb, eq-eqb, eqb-true, eqb-false, not-false}
+use lib.Dec.{ltb, eqb, lit<}
+use lib.IntN.{ℤ}
+use lib.ListN.{length, take, drop}
+use Rattle.layout.specs.declared.Answer.{Answer}
+use Rattle.layout.specs.declared.Answer.the-variants.{Accepted}
+use Rattle.layout.specs.Answers.{judged, leftBy}
+use Rattle.layout.specs.Types.{pairs, words, classes, inClass, kindOf, lineOf}
+use Rattle.layout.proofs.Verdicts.{passed}
+use Rattle.frame.specs.Frames.{Tup, lengthOf, frame}
+use Rattle.frame.proofs.Frames.{allowed-of, length-frame}
+use Rattle.turning.specs.Rows.{fit-end, fit-num}
+use Rattle.samples.specs.Words.{Sample}
+use Rattle.samples.specs.Lists.{paired, numbersOf, valuesOf}
+use Rattle.samples.specs.Runs.{radix, isRun, isBad, fewest}
+use Rattle.samples.specs.Judging.{most, firstDrop, firstWordless, pairRules, wordRules}
+use Rattle.samples.proofs.Words.{Below}
+use Rattle.samples.proofs.Runs.{by-bool, encode-length}
+use Rattle.samples.proofs.Rising.{all-rising, drop-most}
+use Rattle.samples.proofs.Apart.{Ints, paired-within, length-paired, wordless-here, wordless-later}
+use Rattle.samples.proofs.Written.{below-fewest, words-back, words-pass}
+use Rattle.content.specs.Pings.{Ping, contentU, dataU, dataC}
+use Rattle.content.specs.Items.{ping, itemOf}
+use Rattle.content.specs.Forms.{tupleU, tupleC}
+use Rattle.content.proofs.Fine.{Sound, head-fine, inner-fine}
+use Rattle.content.proofs.Pings.{Good, content-U, content-C, words-C, count-C, length-U, length-C, bytes-U, bytes-C}
+use Rattle.tuples.specs.Readers.{readAnswer, readItem, isPing}
+use Rattle.pings.specs.declared.PingHeader.{PingHeader}
+use Rattle.pings.specs.declared.PingKind.the-variants.{U32, C32}
+use Rattle.pings.specs.declared.PingRead.the-variants.{Read}
+use Rattle.pings.specs.Headers.{headOf, handedPing, WrittenU, WrittenC}
+use Rattle.pings.specs.Writers.{bytesU, bytesC}
+use Rattle.pings.specs.Readers.{samplesBy, samplesAt, handAnswer, behindRead, sampleAnswer, SamplesRead}
+use Rattle.pings.specs.Fields.{headerOf, pingBy, kindOfPing, fieldsBy, pingFields, answered}
+use Rattle.pings.proofs.Pinging.{length-bytes-C}
+use Rattle.roundtrip.specs.Held.{Holds}
+use Rattle.roundtrip.specs.Pings.{HeaderTyped, EachI32, PingTyped, Listed, Worded, PingBack}
+use Rattle.roundtrip.proofs.Tuples.{read-tuple, read-answer, read-item}
+use Rattle.roundtrip.proofs.Rows.{signed-pattern, pattern-below}
+use Rattle.roundtrip.proofs.Written.{written-kept, written-held}
+
+-- ---- numbers and values apart are found again in the samples
+ints : (vs : List ℤ) → EachI32 vs → Ints vs
+ints [] f = tt
+ints (v ∷ vs) f = (omega (arith, f .0), ints vs (f .1))
+
+numbers-paired : (ns : List ℕ) (vs : List ℤ) → length vs ≡ length ns → numbersOf (paired ns vs) ≡ ns
+numbers-paired [] vs e = refl
+numbers-paired (n ∷ ns) [] e = absurd (omega arith)
+numbers-paired (n ∷ ns) (v ∷ vs) e = ap (λ (l : List ℕ). n ∷ l) (numbers-paired ns vs (omega arith))
+
+values-paired : (ns : List ℕ) (vs : List ℤ) → length vs ≡ length ns → EachI32 vs → valuesOf (paired ns vs) ≡ vs
+values-paired [] [] e f = refl
+values-paired [] (v ∷ vs) e f = absurd (omega arith)
+values-paired (n ∷ ns) [] e f = absurd (omega arith)
+values-paired (n ∷ ns) (v ∷ vs) e f = ap₂ (λ (x : ℤ) (l : List ℤ). x ∷ l) (signed-pattern 3 v (f .0)) (values-paired ns vs (omega arith) (f .1))
+
+-- the fewest words are one at least
+some-words : (s : List Sample) → 1 ≤ length (fewest radix s)
+some-words [] = lit< tt
+some-words (x ∷ s) = omega (arith, encode-length radix (lit< tt) 0 x s 0)
+
+pub header-back : (h : PingHeader) → HeaderTyped h → headerOf (headOf h) ≡ h
+header-back h g = rw (signed-pattern 3 (h .«detected_bottom_range») (g .5))
+
+-- ---- a file that holds a sound tuple of type k with this ping as its content
+pub record Says (c : Ping) (k : ℕ) (f : List ℕ) (p : ℕ) : Type 0 where
+  pub order : Bool
+  pub tuple : Tup
+  pub sound : Sound order tuple
+  pub item : itemOf order tuple ≡ some (ping c)
+  pub kind : tuple .kind ≡ k
+  pub there : Holds f p order (frame order tuple)
+
+-- what is read there is that ping, whatever the type and the byte order
+pub says-item : {c : Ping} {k : ℕ} {f : List ℕ} {p : ℕ} → Says c k f p → readItem f p ≡ some (ping c)
+says-item s = read-item (s .sound) (s .there) ∙ s .item
+
+module _ {h : PingHeader} {a : ℤ} {ns : List ℕ} {vs : List ℤ} (g : PingTyped h a ns vs) (l : Listed ns vs) where
+  -- ---- the tuples of the ping
+  abbrev c : Ping
+  c = handedPing h a ns vs
+
+  many : length (paired ns vs) ≡ length ns
+  many = length-paired ns vs (l .equal)
+
+  pub good : Good (handedPing h a ns vs)
+  good =
+      let i = g .header in
+      record {
+        head = fit-num (i .0) (fit-num (i .1) (fit-num (i .2) (fit-num (i .3) (fit-num (i .4) (fit-num (pattern-below 3 (h .«detected_bottom_range») (i .5)) fit-end)))));
+        lettered = tt;
+        within = paired-within ns vs (g .numbers) (ints vs (g .values));
+        attr = pattern-below 3 a (g .attribute);
+        few = omega (arith, many, l .few);
+        rising = all-rising (paired ns vs) 0 (l .rising ∙ sym many);
+      }
+
+  module _ (o : Bool) where
+    pub sound-U : 0 < length ns → Sound o (tupleU o (handedPing h a ns vs))
+    unfolding classes inClass kindOf lineOf
+    sound-U any =
+        let d = dataU o c in
+        let n = length-U o c good in
+        let f = l .few in
+        let m = many in
+        record {
+          framed = record { kind = lit< tt; bytes = bytes-U o c good; allowed = allowed-of (length d + 10) (omega arith) (omega arith) (omega arith) };
+          head = head-fine o (tupleU o c) pairs refl (rw (le-leb 40 (length d + 10) (omega arith), eq-eqb ((length d + 10 - 40) % 8) 0 (omega arith))) refl;
+          inner = inner-fine o (tupleU o c) pairs refl (passed (pairRules (contentU o d .samples))
+              (ap (λ (p : Ping). ltb (firstDrop 0 (p .samples)) (length (p .samples))) (content-U o c good) ∙ le-ltb (firstDrop 0 (paired ns vs)) (length (paired ns vs)) (omega (arith, l .rising)), tt));
+        }
+
+    pub item-U : itemOf o (tupleU o (handedPing h a ns vs)) ≡ some (ping (handedPing h a ns vs))
+    unfolding itemOf classes inClass kindOf lineOf
+    item-U = ap (λ (p : Ping). some (ping p)) (content-U o c good)
+
+    module _ (w : Worded ns vs) where
+      abbrev ws : List ℕ
+      ws = fewest radix (paired ns vs)
+
+      below : Below (256 ^ 4) ws
+      below = below-fewest (paired ns vs) (good .within)
+
+      pub sound-C : Sound o (tupleC o (handedPing h a ns vs))
+      unfolding classes inClass kindOf lineOf
+      sound-C =
+          let d = dataC o c ws in
+          let n = length-C o c good ws below in
+          let k = some-words (paired ns vs) in
+          record {
+            framed = record { kind = lit< tt; bytes = bytes-C o c good ws below; allowed = allowed-of (length d + 10) (omega arith) (omega arith) (omega (arith, w .short)) };
+            head = head-fine o (tupleC o c) words refl (rw (le-leb 40 (length d + 10) (omega arith), eq-eqb ((length d + 10 - 40) % 4) 0 (omega arith))) refl;
+            inner = inner-fine o (tupleC o c) words refl
+                (ap₂ (λ (k : ℕ) (us : List ℕ). judged (wordRules k us)) (count-C o c good ws below) (words-C o c good ws below)
+                ∙ words-pass (paired ns vs) (l .rising ∙ sym many) (w .worded ∙ sym many) (good .few));
+          }
+
+      pub item-C : itemOf o (tupleC o (handedPing h a ns vs)) ≡ some (ping (handedPing h a ns vs))
+      unfolding itemOf classes inClass kindOf lineOf
+      item-C = ap (λ (p : Ping). some (ping p)) (content-C o c good ws below (words-back (paired ns vs) (l .rising ∙ sym many) (w .worded ∙ sym many)))
+
+  pub says-U : {o : Bool} {f : List ℕ} {p : ℕ} → 0 < length ns → Holds f p o (bytesU o (handedPing h a ns vs)) → Says (handedPing h a ns vs) 10000 f p
+  says-U {o} any b = record { order = o; tuple = tupleU o c; sound = sound-U o any; item = item-U o; kind = refl; there = b }
+
+  pub says-C : {o : Bool} {f : List ℕ} {p : ℕ} → Worded ns vs → Holds f p o (bytesC o (handedPing h a ns vs)) → Says (handedPing h a ns vs) 10010 f p
+  says-C {o} w b = record { order = o; tuple = tupleC o c; sound = sound-C o w; item = item-C o w; kind = refl; there = b }
+
+  -- ---- read by both readers
+  module _ {k : ℕ} (q : isPing k ≡ true) {f : List ℕ} {p : ℕ} (s : Says (handedPing h a ns vs) k f p) where
+    says-samples : samplesAt f p ≡ paired ns vs
+    says-samples = ap samplesBy (says-item s)
+
+    says-answer : readAnswer isPing f p ≡ Accepted 1 0
+    says-answer = read-answer (s .sound) (s .there) isPing (ap isPing (s .kind) ∙ q)
+
+    says-fields : pingFields f p ≡ Read h a (kindOfPing k) (length ns)
+    unfolding pingFields
+    says-fields =
+        ap₂ fieldsBy (ap pingBy (says-item s)) (ap (λ (u : Tup). u .kind) (read-tuple (s .sound) (s .there)) ∙ s .kind)
+        ∙ (λ j. Read (header-back h (g .header) j) (signed-pattern 3 a (g .attribute) j) (kindOfPing k) (many j))
+
+    says-handed : (numbers ms : List ℕ) (values us : List ℤ) (r : Answer) → length ns ≤ length numbers → length ns ≤ length values → SamplesRead f p numbers values r ms us
+        → (r ≡ Accepted 1 (length ns)) × (ms ≡ ns ++ drop (length ns) numbers) × (us ≡ vs ++ drop (length ns) values)
+    unfolding sampleAnswer
+    says-handed numbers ms values us r m n e =
+        let room : handAnswer (length (paired ns vs)) (length numbers) (length values) ≡ Accepted 1 (length ns) =
+        ap (λ (i : ℕ). handAnswer i (length numbers) (length values)) many ∙ rw (le-ltb (length numbers) (length ns) m, le-ltb (length values) (length ns) n) in
+        let is : sampleAnswer f p (length numbers) (length values) ≡ Accepted 1 (length ns) =
+        ap₂ (λ (x : List Sample) (y : Answer). behindRead (length x) (length numbers) (length values) y) says-samples says-answer ∙ room in (
+          e .answer ∙ is,
+          e .numbersLeft ∙ ap₂ (λ (y : Answer) (x : List Sample). leftBy y (numbersOf x) numbers) is says-samples ∙ ap (λ (x : List ℕ). x ++ drop (length x) numbers) (numbers-paired ns vs (l .equal)),
+          e .valuesLeft ∙ ap₂ (λ (y : Answer) (x : List Sample). leftBy y (valuesOf x) values) is says-samples ∙ ap (λ (x : List ℤ). x ++ drop (length x) values) (values-paired ns vs (l .equal) (g .values))
+              ∙ ap (λ (i : ℕ). vs ++ drop i values) (l .equal),
+        )
+
+    says-back : PingBack h a ns vs (kindOfPing k) f p
+    says-back = record { fields = λ out e. e .outcome ∙ ap₂ answered says-answer says-fields; samples = says-samples; handed = says-handed }
+
+  -- ---- a file that holds what a writer writes
+  module _ {o : Bool} {f : List ℕ} {p : ℕ} where
+    pub back-U : 0 < length ns → Holds f p o (bytesU o (handedPing h a ns vs)) → PingBack h a ns vs U32 f p
+    back-U any b = says-back refl (says-U any b)
+
+    pub back-C : Worded ns vs → Holds f p o (bytesC o (handedPing h a ns vs)) → PingBack h a ns vs C32 f p
+    back-C w b = says-back refl (says-C w b)
+
+  -- ---- where both can be written, the U-32 and the C-32 ping have one content, samples, header and attribute
+  pub same-samples : {x y : Bool} {e f : List ℕ} {p q : ℕ} → 0 < length ns → Worded ns vs → Holds e p x (bytesU x (handedPing h a ns vs)) → Holds f q y (bytesC y (handedPing h a ns vs))
+      → (readItem e p ≡ readItem f q) × (samplesAt e p ≡ samplesAt f q)
+  same-samples any w b d = let same = says-item (says-U any b) ∙ sym (says-item (says-C w d)) in (same, ap samplesBy same)
+
+-- ---- what an acceptance tells of the lists handed over
+listed : (ns : List ℕ) (vs : List ℤ) → not (eqb (length ns) (length vs)) ≡ false → ltb most (length ns) ≡ false → ltb (firstDrop 0 (paired ns vs)) (length (paired ns vs)) ≡ false → Listed ns vs
+listed ns vs e m d =
+    let same : length ns ≡ length vs = eqb-true _ _ (not-false _ e) in
+    let many = length-paired ns vs (sym same) in
+    record { equal = sym same; few = ltb-false _ _ m; rising = omega (arith, ltb-false (firstDrop 0 (paired ns vs)) (length (paired ns vs)) d, drop-most (paired ns vs) 0) }
+
+wordless-most : (s : List Sample) → firstWordless s ≤ length s
+wordless-most [] = unfold firstWordless in omega arith
+wordless-most (x ∷ s) =
+    by-bool (isRun radix (x .1) || isBad radix (x .1))
+    (λ t. omega (arith, wordless-here x s t))
+    (λ t. omega (arith, wordless-later x s t, wordless-most s))
+
+module _ (o : Bool) (h : PingHeader) (a : ℤ) (ns : List ℕ) (vs : List ℤ) {out left : List ℕ} {n m : ℕ} where
+  pub accepted-U : WrittenU o h a ns vs out (Accepted n m) left → Listed ns vs × (0 < length ns)
+  accepted-U w =
+      let k = written-kept (refl, (refl, (refl, (refl, (refl, (refl, tt)))))) w in
+      let z = eqb-false (length ns) 0 (k .1 .1 .0) in
+      (listed ns vs (k .0) (k .1 .0) (k .1 .1 .1 .0), omega arith)
+
+  pub accepted-C : WrittenC o h a ns vs out (Accepted n m) left → Listed ns vs × Worded ns vs
+  accepted-C w =
+      let k = written-kept (refl, (refl, (refl, (refl, (refl, (refl, tt)))))) w in
+      let l = listed ns vs (k .0) (k .1 .0) (k .1 .1 .0) in
+      let s = paired ns vs in
+      let t = tupleC o (handedPing h a ns vs) in (
+        l,
+        record {
+          worded = omega (arith, ltb-false (firstWordless s) (length s) (k .1 .1 .1 .0), wordless-most s, length-paired ns vs (l .equal));
+          short = omega (arith, ltb-false 262144 (lengthOf t) (k .1 .1 .1 .1 .0), length-frame o t, length-bytes-C o h a ns vs);
+        },
+      )
+
+  -- what a writer wrote, both readers read
+  module _ {f : List ℕ} {p : ℕ} (g : PingTyped h a ns vs) where
+    pub again-U : WrittenU o h a ns vs out (Accepted n m) left → Holds f p o (take m left) → PingBack h a ns vs U32 f p
+    again-U w b = let l = accepted-U w in back-U g (l .0) (l .1) (written-held (refl, (refl, (refl, (refl, (refl, (refl, tt)))))) w b)
+
+    pub again-C : WrittenC o h a ns vs out (Accepted n m) left → Holds f p o (take m left) → PingBack h a ns vs C32 f p
+    again-C w b = let l = accepted-C w in back-C g (l .0) (l .1) (written-held (refl, (refl, (refl, (refl, (refl, (refl, tt)))))) w b)

@@ -1,0 +1,111 @@
+-- Values that fill a row: their tuple is sound and has them as its content, in either byte order, and so they are read back; and
+-- signed numbers are found again from their patterns. Assumes nothing.
+use mathlib.Core.Path.{_≡_, refl, sym, ap, ap₂, subst, _∙_}
+use Prim.Native.Nat.{ℕ, suc, _+_, _-_, _*_, _^_, _<_}
+use mathlib.Core.Bool.{Bool, true}
+use mathlib.Core.List.{List, _++_}
+use mathlib.Core.Option.{Option, some}
+use native.Mathlib.Nat.{pow-suc}
+use native.Mathlib.Omega.{arith}
+use borrow.Author.Tests.{lt-ltb, le-ltb, eq-eqb}
+use lib.IntN.{ℤ, pos, negsuc}
+use lib.ListN.{length, drop}
+use lib.Seq.{take-at, drop-drop}
+use mir.Syntax.{Width}
+use mir.Val.{hbits, SFits}
+use Rattle.order.specs.Order.{signedOf, patternOf, bytesOf, Bytes}
+use Rattle.layout.specs.declared.Answer.{Answer}
+use Rattle.layout.specs.declared.Answer.the-variants.{Accepted}
+use Rattle.layout.specs.Fields.{Field, size}
+use Rattle.layout.specs.Types.{Shape, row, fitting, shapeOf}
+use Rattle.layout.proofs.Tables.{lengthFrom}
+use Rattle.frame.specs.Frames.{lengthOf, allowed}
+use Rattle.frame.proofs.Frames.{past-6}
+use Rattle.turning.specs.Rows.{Value, valuesOf, encode, identified, Fit}
+use Rattle.turning.proofs.Contents.{Lettered, values-encode, identified-encode, length-encode, bytes-encode, values-take, valuesAt, values-at}
+use Rattle.content.specs.Items.{plain, rowIn, itemBy, itemOf}
+use Rattle.content.specs.Forms.{encodeBy, plainTuple}
+use Rattle.content.proofs.Fine.{Sound, head-fine, inner-fine, row-size}
+use Rattle.content.proofs.Plain.{encode-any}
+use Rattle.tuples.specs.Readers.{readAnswer, valuesBy, readValues, only}
+use Rattle.tuples.specs.Writers.{plainBytes}
+use Rattle.roundtrip.specs.Held.{Holds, Filled, InRange}
+use Rattle.roundtrip.proofs.Tuples.{read-answer, read-item}
+
+-- ---- signed numbers
+-- one that fits a width of the program, which is b bytes, is in range
+pub in-range : (w : Width) (b : ℕ) (z : ℤ) → 256 ^ b ≡ 2 ^ hbits w + 2 ^ hbits w → SFits w z → InRange b z
+in-range w b z e f = omega (arith, f .sfits)
+
+-- it is found again from its pattern
+pub signed-pattern : (w : ℕ) (z : ℤ) → InRange (suc w) z → signedOf (suc w) (patternOf (suc w) z) ≡ z
+signed-pattern w (pos n) h = rw (lt-ltb (n + n) (256 ^ suc w) h)
+signed-pattern w (negsuc n) h =
+    let even : 256 ^ suc w ≡ 256 ^ w * 256 = pow-suc 256 w in
+    let m = 256 ^ suc w - suc n in
+    let back : 256 ^ suc w - suc (256 ^ suc w - suc n) ≡ n = omega arith in
+    rw (le-ltb (m + m) (256 ^ suc w) (omega arith), back)
+
+pub pattern-below : (w : ℕ) (z : ℤ) → InRange (suc w) z → patternOf (suc w) z < 256 ^ suc w
+pattern-below w (pos n) h = omega arith
+pattern-below w (negsuc n) h = omega arith
+
+-- ---- the tuple of values that fill a row
+module _ {k : ℕ} {vs : List Value} (g : Filled k vs) (o : Bool) where
+  abbrev gs : List Field
+  gs = rowIn (g .fields) (g .characters) (g .size)
+
+  body-row : encodeBy o (shapeOf k) vs ≡ encode o gs vs
+  body-row = ap (λ (q : Shape). encodeBy o q vs) (g .shape) ∙ encode-any o (g .fields) (g .characters) 0 (g .size) vs
+
+  size-row : size gs ≡ g .size
+  size-row = row-size (g .fields) (g .characters) (g .size) (g .fits)
+
+  length-row : length (encodeBy o (shapeOf k) vs) ≡ g .size
+  length-row = ap length body-row ∙ length-encode o (g .fit) ∙ size-row
+
+  pub sound-row : Sound o (plainTuple o k vs)
+  sound-row =
+      record {
+        framed = record { kind = g .code; bytes = subst Bytes (sym body-row) (bytes-encode o (g .fit) (g .lettered)); allowed = rw length-row (g .whole) };
+        head = head-fine o (plainTuple o k vs) (row (g .fields) (g .characters)) (g .shape) (rw length-row (g .fits))
+            (ap₂ (λ (n : ℕ) (b : List ℕ). identified o (rowIn (g .fields) (g .characters) n) b) length-row body-row ∙ identified-encode o (g .fit));
+        inner = inner-fine o (plainTuple o k vs) (row (g .fields) (g .characters)) (g .shape) refl;
+      }
+
+  pub item-row : itemOf o (plainTuple o k vs) ≡ some (plain k vs)
+  unfolding itemOf
+  item-row =
+      subst (λ (q : Shape). itemBy q o (plainTuple o k vs) ≡ some (plain k vs)) (sym (g .shape))
+      (ap (λ (ws : List Value). some (plain k ws))
+      (ap₂ (λ (n : ℕ) (b : List ℕ). valuesOf o (rowIn (g .fields) (g .characters) n) b) length-row body-row ∙ values-encode o (g .fit)))
+
+-- ---- what fills the row of a type code in m bytes of data
+abbrev pub filled : (k m : ℕ) {fs : List Field} {x : Option ℕ} {vs : List Value} → k < 65536 → shapeOf k ≡ row fs x → fitting (lengthFrom (row fs x)) (m + 10) ≡ true → allowed (m + 10) ≡ true
+    → Fit (rowIn fs x m) vs → Lettered vs → Filled k vs
+filled k m {fs} {x} c e f a v l = record { fields = fs; characters = x; size = m; code = c; shape = e; fits = f; whole = a; fit = v; lettered = l }
+
+-- ---- read back
+module _ {k : ℕ} {vs : List Value} (g : Filled k vs) {f : List ℕ} {p : ℕ} {o : Bool} (h : Holds f p o (plainBytes o k vs)) where
+  pub row-answer : readAnswer (only k) f p ≡ Accepted 1 0
+  row-answer = read-answer (sound-row g o) h (only k) (eq-eqb k k refl)
+
+  pub row-values : readValues f p ≡ vs
+  row-values = ap valuesBy (read-item (sound-row g o) h ∙ item-row g o)
+
+  -- each value stands at its field's place
+  pub row-places : valuesAt o (rowIn (g .fields) (g .characters) (g .size)) f p 6 ≡ vs
+  row-places =
+      let t = plainTuple o k vs in
+      let fs = rowIn (g .fields) (g .characters) (g .size) in
+      let tail = bytesOf o 4 (lengthOf t) ++ h .rest in
+      sym (values-at o fs f p 6)
+      ∙ ap (valuesOf o fs) (sym (drop-drop 6 p f) ∙ ap (drop 6) (h .there) ∙ past-6 o t (sound-row g o .framed) (h .rest))
+      ∙ sym (values-take o fs (g .size) (t .body ++ tail) (omega (arith, size-row g o)))
+      ∙ ap (valuesOf o fs) (take-at (t .body) tail (g .size) (length-row g o) ∙ body-row g o)
+      ∙ values-encode o (g .fit)
+
+  -- what a reader makes of the values and of its answer, it makes of these
+  pub row-read : {R O : Type 0} (answered : Answer → R → O) (of : List Value → R) {r : R} {out : O} → of vs ≡ r
+      → out ≡ answered (readAnswer (only k) f p) (of (readValues f p)) → out ≡ answered (Accepted 1 0) r
+  row-read answered of e a = a ∙ ap₂ answered row-answer (ap of row-values ∙ e)

@@ -1,0 +1,5 @@
+pub mod Held
+pub mod Settings
+pub mod Voyage
+pub mod Marks
+pub mod Pings
