@@ -44,17 +44,23 @@ fn expected_answers() {
     assert!(told * 2 > count(16000), "too few cases told their answer");
 }
 
+/// The check's answer to a case, which must be the one that its making tells.
+fn answer_expected(case: &Case) -> Answer {
+    let answer = check(&case.bytes);
+    assert_eq!(
+        Some((answer.code, answer.place)),
+        case.expected,
+        "{}",
+        case.name
+    );
+    answer
+}
+
 #[test]
 fn limits() {
     for nth in 0..limit_count() {
         let case = limit(nth);
-        let answer = check(&case.bytes);
-        assert_eq!(
-            Some((answer.code, answer.place)),
-            case.expected,
-            "{}",
-            case.name
-        );
+        answer_expected(&case);
         normal_form_holds(&case.bytes, &case.name);
     }
 }
@@ -64,13 +70,7 @@ fn limits() {
 fn big_limits() {
     for nth in 0..big_limit_count() {
         let case = big_limit(nth);
-        let answer = check(&case.bytes);
-        assert_eq!(
-            Some((answer.code, answer.place)),
-            case.expected,
-            "{}",
-            case.name
-        );
+        let answer = answer_expected(&case);
         let mut out = lent(16_777_216 + 8);
         let written = normalise(&case.bytes, &mut out);
         match nth {
