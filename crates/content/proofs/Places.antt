@@ -20,7 +20,7 @@ use Rattle.layout.specs.Types.{Shape, indexed, row, pairs, words, unlisted, cla
 use Rattle.turning.specs.Rows.{Value, valuesOf}
 use Rattle.turning.proofs.Contents.{valuesAt, values-at, values-take, within-take}
 use Rattle.frame.specs.Frames.{Tup, lengthOf, sizeAt, kindAt, tupAt}
-use Rattle.frame.proofs.Frames.{both-true}
+use Rattle.rules.proofs.Bools.{both-true, and-false, and-true}
 use Rattle.frame.proofs.Places.{Whole, body-place}
 use Rattle.links.specs.Links.{Digest}
 use Rattle.links.specs.Links
@@ -49,11 +49,7 @@ shaped k =
     )
 
 above : (a b k : ℕ) → b < k → leb a k && leb k b ≡ false
-above a b k h = rw (lt-leb k b h) (and-false (leb a k))
-  where
-    and-false : (x : Bool) → x && false ≡ false
-    and-false true = refl
-    and-false false = refl
+above a b k h = rw (lt-leb k b h) (and-false (leb a k) refl)
 
 -- ---- a signature, an end of file and the classes, by the type code
 pub record ByCode (k : ℕ) (d : Digest) : Type 0 where
@@ -201,10 +197,6 @@ module _ (o : Bool) (f : List ℕ) (at n : ℕ) (w : Whole o f at n) where
       ap (λ (x : Kind). identifiedBy (lineOf x .shape) o t) e
       ∙ and-true (known (numOf o (take 2 (t .body))))
       ∙ ap (λ (l : List ℕ). known (numOf o l)) (field-place 0 2 (omega arith))
-    where
-      and-true : (b : Bool) → b && true ≡ b
-      and-true true = refl
-      and-true false = refl
 
   -- the words of a ping stand behind its header
   words-U : 40 ≤ n → wordsIn 18 o (t .body) ≡ allWords 4 o (take (n - 32) (drop (at + 24) f))

@@ -21,7 +21,8 @@ use Rattle.layout.proofs.Verdicts.{both-left, both-right, passes, judged-append
 use Rattle.turning.specs.Rows.{valuesOf, encode, turnedField, turned}
 use Rattle.turning.proofs.Contents.{turned-encode, length-turned}
 use Rattle.frame.specs.Frames.{Tup, lengthOf, frame, frames}
-use Rattle.frame.proofs.Frames.{length-frame, both-true}
+use Rattle.frame.proofs.Frames.{length-frame}
+use Rattle.rules.proofs.Bools.{both-true}
 use Rattle.samples.specs.Words.{Sample, unwords, pairUp, unpair}
 use Rattle.samples.specs.Runs.{radix, isRun, values, decode, fewest}
 use Rattle.samples.specs.Judging.{wordRules}

@@ -10,7 +10,7 @@ use lib.ListN.{length, drop, getD, drop-of-length-le}
 use lib.Seq.{drop-cons}
 use borrow.Author.Tests.{leb-true}
 use Rattle.order.proofs.Stores.{add-two}
-use Rattle.frame.proofs.Frames.{both-true}
+use Rattle.rules.proofs.Bools.{both-true}
 use Rattle.hexlines.specs.Lines.{isDigit, digitOf, allDigits, bytesIn, digit, hex}
 
 pub by-bool : {C : Type 0} (b : Bool) → (b ≡ true → C) → (b ≡ false → C) → C

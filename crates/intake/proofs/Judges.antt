@@ -17,7 +17,7 @@ use Rattle.layout.specs.Fields.{known}
 use Rattle.layout.specs.Types.{classes, inClass, kindOf, lineOf, shapeOf, fitting}
 use Rattle.layout.proofs.Verdicts.{passes, judged-append}
 use Rattle.frame.specs.Frames.{Tup, kindAt, tupAt, framing}
-use Rattle.frame.proofs.Frames.{both-true}
+use Rattle.rules.proofs.Bools.{both-true}
 use Rattle.frame.proofs.Places.{Whole, framing-whole}
 use Rattle.links.specs.Links.{Link, signRules}
 use Rattle.links.specs.Links

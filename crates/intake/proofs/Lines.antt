@@ -10,6 +10,7 @@ use borrow.Author.Tests.{eqb-true, eq-eqb, not-false}
 use lib.Dec.{eqb}
 use lib.ListN.{length, take, drop, getD}
 use lib.Seq.{length-take-le, getD-take}
+use Rattle.rules.proofs.Bools.{or-true}
 use Rattle.layout.specs.declared.SoftwareChannel.{SoftwareChannel}
 use Rattle.layout.specs.declared.DocumentId.{DocumentId}
 use Rattle.layout.specs.declared.Kind.{Kind}
@@ -185,10 +186,6 @@ module _ (o : Bool) (f : List ℕ) (w : Tally) (c : Columns) (s : Standing f w) 
       by-shape (row fs y) z = refl
       by-shape pairs z = absurd (true≢false (sym (ap (λ (b : Bool). b || eqb k 10010) (eq-eqb k 10000 z)) ∙ e))
       by-shape words z = absurd (true≢false (sym (or-true (eqb k 10000) (eq-eqb k 10010 z)) ∙ e))
-        where
-          or-true : (a : Bool) {b : Bool} → b ≡ true → a || b ≡ true
-          or-true true r = refl
-          or-true false r = r
       by-shape unlisted z = refl
 
   pub ask-columns : (m : ℕ) → askColumns o f w m (c .docs) (c .sounders) (c .ids) (c .parents) (c .channels) ≡ askItem (courseOf w c) (w .at) m (itemOf o (tupAt o (drop (w .at) f)))

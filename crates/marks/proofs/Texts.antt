@@ -1,5 +1,5 @@
 -- The length of an event marker by its text, and what the rules say of it. Assumes nothing.
-use mathlib.Core.Path.{_≡_, ap, _∙_}
+use mathlib.Core.Path.{_≡_, refl, ap, _∙_}
 use mathlib.Core.Bool.{Bool, true, false, not, _&&_}
 use mathlib.Core.List.{List, [], _++_, append-nil}
 use Prim.Native.Nat.{ℕ, _+_, _-_, _%_, _<_, _≤_}
@@ -7,6 +7,7 @@ use native.Mathlib.Omega.{arith}
 use borrow.Author.Tests.{lt-ltb, le-ltb, lt-leb, le-leb, eq-eqb, ne-eqb}
 use lib.Dec.{ltb, leb, eqb}
 use lib.ListN.{length}
+use Rattle.rules.proofs.Bools.{and-false}
 use Rattle.order.specs.Order.{bytesOf, patternOf}
 use Rattle.order.proofs.Laws.{length-bytesOf}
 use Rattle.layout.specs.Types.{classes, inClass, kindOf, lineOf, lengthsOf, fitting}
@@ -15,10 +16,6 @@ use Rattle.content.specs.Forms.{plainTuple}
 use Rattle.tuples.proofs.Storing.{length-four}
 use Rattle.marks.specs.declared.event.Event.{Event}
 use Rattle.marks.specs.Event.{eventValues}
-
-and-false : (b : Bool) → b && false ≡ false
-and-false true = λ i. false
-and-false false = λ i. false
 
 module _ (o : Bool) (r : Event) (t : List ℕ) where
   abbrev whole : ℕ
@@ -42,7 +39,7 @@ module _ (o : Bool) (r : Event) (t : List ℕ) where
 
   pub uneven : 4 ≤ length t → (length t % 4 ≡ 0 → ⊥) → not (fitting (lengthsOf 10110) (lengthOf (plainTuple o 10110 (eventValues r t)))) ≡ true
   uneven h e =
-      ap not (fits-by ∙ ap (λ (b : Bool). leb 24 (20 + length t) && b) (ne-eqb ((20 + length t - 24) % 4) 0 (λ z. e (omega (arith, z)))) ∙ and-false (leb 24 (20 + length t)))
+      ap not (fits-by ∙ ap (λ (b : Bool). leb 24 (20 + length t) && b) (ne-eqb ((20 + length t - 24) % 4) 0 (λ z. e (omega (arith, z)))) ∙ and-false (leb 24 (20 + length t)) refl)
 
   pub even : 4 ≤ length t → length t % 4 ≡ 0 → not (fitting (lengthsOf 10110) (lengthOf (plainTuple o 10110 (eventValues r t)))) ≡ false
   even h e =

@@ -9,6 +9,7 @@ use lib.Dec.{ltb}
 use lib.IntN.{ℤ}
 use lib.ListN.{length, drop}
 use lib.Seq.{sets, sets-eq}
+use Rattle.rules.proofs.Bools.{or-true}
 use Rattle.layout.specs.declared.Answer.the-variants.{Accepted, Refused}
 use Rattle.samples.specs.Words.{Sample, words, allWords, pairUp}
 use Rattle.samples.specs.Lists.{numbersOf, valuesOf, Room}
@@ -20,15 +21,11 @@ module _ (s : List Sample) (ns : List ℕ) (vs : List ℤ) where
   short : ltb (length ns) (length s) || ltb (length vs) (length s) ≡ true → Handed s ns vs (Refused 19 0) ns vs
   short e = record { answer = rw e; numbersLeft = rw e; valuesLeft = rw e }
 
-  or-true : (b : Bool) → b || true ≡ true
-  or-true true = refl
-  or-true false = refl
-
   pub short-numbers : length ns < length s → Handed s ns vs (Refused 19 0) ns vs
   short-numbers h = short (rw (lt-ltb _ _ h))
 
   pub short-values : length vs < length s → Handed s ns vs (Refused 19 0) ns vs
-  short-values h = short (ap (λ (b : Bool). ltb (length ns) (length s) || b) (lt-ltb _ _ h) ∙ or-true (ltb (length ns) (length s)))
+  short-values h = short (ap (λ (b : Bool). ltb (length ns) (length s) || b) (lt-ltb _ _ h) ∙ or-true (ltb (length ns) (length s)) refl)
 
   -- ---- both have room
   over : {A : Type 0} (l xs : List A) → length xs ≤ length l → sets l 0 xs ≡ xs ++ drop (length xs) l

@@ -16,7 +16,7 @@ use Rattle.layout.specs.declared.Answer.the-variants.{Accepted, Refused}
 use Rattle.layout.specs.Answers.{leftBy}
 use Rattle.layout.specs.Types.{classes, inClass, kindOf, lineOf}
 use Rattle.frame.specs.Frames.{lengthOf}
-use Rattle.frame.proofs.Frames.{both-true}
+use Rattle.rules.proofs.Bools.{both-true}
 use Rattle.content.specs.Forms.{plainTuple}
 use Rattle.tuples.specs.Writers.{Written, remarkRules}
 use Rattle.marks.specs.declared.event.Event.{Event}

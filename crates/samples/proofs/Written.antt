@@ -1,13 +1,14 @@
 -- What the writers write: it says what was handed over, passes the rules, and no fewer words say the same. Assumes nothing.
 use mathlib.Core.Path.{_≡_, refl, sym, ap, _∙_}
-use mathlib.Core.Bool.{Bool, true, false, not, _||_, _&&_, false≢true}
+use mathlib.Core.Bool.{Bool, true, false, not, _||_, false≢true}
 use mathlib.Core.List.{List, [], _∷_, _++_, append-assoc, append-nil}
 use Prim.Native.Nat.{ℕ, zero, suc, _+_, _-_, _*_, _/_, _%_, _^_, _≤_, _<_}
 use native.Mathlib.Nat.{mod-lt, add-zero, mul-comm, mul-le-mul-right, div-mul-le-self}
 use native.Mathlib.Omega.{arith}
-use lib.Dec.{leb, ltb, lit<}
+use lib.Dec.{leb, lit<}
 use lib.ListN.{length, replicate}
 use borrow.Author.Tests.{le-ltb, eq-eqb}
+use Rattle.rules.proofs.Bools.{and-false}
 use Rattle.layout.specs.declared.Verdict.the-variants.{Fine}
 use Rattle.layout.specs.Answers.{judged}
 use Rattle.layout.proofs.Verdicts.{passed}
@@ -81,10 +82,6 @@ good-none : (R : ℕ) (ws : List ℕ) → Each (λ (w : ℕ). isBad R w ≡ fals
 good-none R [] g = unfold firstBad in refl
 good-none R (w ∷ ws) g = bad-later R w ws (g .0) ∙ omega (arith, good-none R ws (g .1))
 
-and-false : (a b : Bool) → b ≡ false → (a && b) ≡ false
-and-false true b e = e
-and-false false b e = refl
-
 module _ (R : ℕ) (some : 2 < R) where
   -- a run is no bad value
   run-good : (r : ℕ) → r < R → isBad R ((R - 1) * R + r) ≡ false
@@ -94,7 +91,7 @@ module _ (R : ℕ) (some : 2 < R) where
       let more : (R / 2 + 1) * R ≤ (R - 1) * R = mul-le-mul-right R half in
       let w = (R - 1) * R + r in
       let past : R * (R / 2) + R ≤ w = omega (arith, mul-comm R (R / 2)) in
-      and-false (leb (R * (R / 2 - 1)) w) (ltb w (R * (R / 2) + R)) (le-ltb w (R * (R / 2) + R) past)
+      and-false (leb (R * (R / 2 - 1)) w) (le-ltb w (R * (R / 2) + R) past)
 
   pub none-bad : (s : List Sample) → Worded R s → firstBad R (fewest R s) ≡ length (fewest R s)
   none-bad s w = good-none R (fewest R s) (each-fewest R (omega arith) (λ (v : ℕ). isBad R v ≡ false) run-good s (worded-good R s w))

@@ -1,24 +1,23 @@
 -- The fields of a tuple that a reader of one type reads, by their places in the file. Assumes nothing.
 use mathlib.Core.Path.{_≡_, refl, sym, ap, _∙_}
 use mathlib.Core.Bool.{Bool, true}
-use mathlib.Core.List.{List, [], _∷_, _++_}
-use mathlib.Core.Option.{some, none}
+use mathlib.Core.List.{List}
 use Prim.Native.Nat.{ℕ, _+_, _-_, _≤_}
 use native.Mathlib.Omega.{arith}
 use borrow.Author.Tests.{eqb-true, leb-true}
 use lib.Dec.{eqb, leb}
 use lib.ListN.{length, take, drop, length-drop}
 use lib.Seq.{length-take-le}
-use Rattle.layout.specs.Fields.{Field, s, c, size}
 use Rattle.layout.specs.Types.{Shape, indexed, row, pairs, words, unlisted, kindOf, lineOf, shapeOf, Length, exactly, upward, fitting}
 use Rattle.layout.proofs.Tables.{lengthFrom, lengths-from}
 use Rattle.layout.proofs.Verdicts.{both-left}
 use Rattle.turning.specs.Rows.{valuesOf}
 use Rattle.turning.proofs.Contents.{valuesAt, values-at}
 use Rattle.frame.specs.Files.{isMsb}
-use Rattle.frame.proofs.Frames.{both-true}
+use Rattle.rules.proofs.Bools.{both-true}
 use Rattle.frame.proofs.Places.{Whole}
 use Rattle.content.specs.Items.{rowIn, itemBy, itemOf}
+use Rattle.content.proofs.Fine.{row-size}
 use Rattle.content.proofs.Places.{length-body, values-place}
 use Rattle.intake.specs.Tallies.{Here, Fits, innerVerdict}
 use Rattle.intake.proofs.Judges.{head-fits, own-parts}
@@ -33,20 +32,6 @@ IsRow (row fs x) = Unit {0}
 IsRow pairs = ⊥
 IsRow words = ⊥
 IsRow unlisted = ⊥
-
-size-append : (fs gs : List Field) → size (fs ++ gs) ≡ size fs + size gs
-size-append [] gs = omega arith
-size-append (f ∷ fs) gs = rw (size-append fs gs) (omega arith)
-
-row-size : (h : Shape) → IsRow h → (n : ℕ) → fitting (lengthFrom h) n ≡ true → size (rowBy h (n - 10)) + 10 ≡ n
-row-size indexed z n e = absurd z
-row-size (row fs none) z n e = omega (arith, eqb-true n (size fs + 14) e, size-append fs (s 4 ∷ []))
-row-size (row fs (some least)) z n e =
-    let h = leb-true (size fs + 14 + least) n (both-true (leb (size fs + 14 + least) n) _ e .0) in
-    omega (arith, size-append fs (c (n - 10 - (size fs + 4)) ∷ s 4 ∷ []), h)
-row-size pairs z n e = absurd z
-row-size words z n e = absurd z
-row-size unlisted z n e = absurd z
 
 -- ---- a tuple of the type asked for
 module _ (k : ℕ) {f : List ℕ} {p : ℕ} {o : Bool} {n i : ℕ} (r : Readable (only k) f p o n i) where
@@ -77,14 +62,15 @@ module _ (k : ℕ) {f : List ℕ} {p : ℕ} {o : Bool} {n i : ℕ} (r : Readable
   at-least m step e = leb-true m n (both-true (leb m n) _ (ap (λ (l : Length). fitting l n) (sym e) ∙ fits) .0)
 
   module _ (z : IsRow (shapeOf k)) where
-    rowed : size (rowBy (shapeOf k) (n - 10)) + 10 ≡ n
-    rowed = row-size (shapeOf k) z n fits
+    -- n is more than the frame
+    data-long : n - 10 + 10 ≡ n
+    data-long = omega (arith, whole-there .long)
 
-    by-row : (q : Shape) → IsRow q → size (rowBy q (n - 10)) + 10 ≡ n → valuesBy (itemBy q (isMsb f) (tupleThere f p)) ≡ valuesOf (isMsb f) (rowBy q (n - 10)) (drop (p + 6) f)
+    by-row : (q : Shape) → IsRow q → fitting (lengthFrom q) (n - 10 + 10) ≡ true → valuesBy (itemBy q (isMsb f) (tupleThere f p)) ≡ valuesOf (isMsb f) (rowBy q (n - 10)) (drop (p + 6) f)
     by-row indexed a e = absurd a
     by-row (row fs x) a e =
         ap (λ (m : ℕ). valuesOf (isMsb f) (rowIn fs x m) (tupleThere f p .body)) (length-body (isMsb f) f p n whole-there)
-        ∙ values-place (isMsb f) f p n whole-there (rowIn fs x (n - 10)) (omega (arith, e))
+        ∙ values-place (isMsb f) f p n whole-there (rowIn fs x (n - 10)) (omega (arith, row-size fs x (n - 10) e, data-long))
         ∙ sym (values-at (isMsb f) (rowIn fs x (n - 10)) f p 6)
     by-row pairs a e = absurd a
     by-row words a e = absurd a
@@ -95,7 +81,7 @@ module _ (k : ℕ) {f : List ℕ} {p : ℕ} {o : Bool} {n i : ℕ} (r : Readable
     unfolding itemOf
     values-there =
         ap (λ (j : ℕ). valuesBy (itemBy (shapeOf j) (isMsb f) (tupleThere f p))) (h .kind ∙ same-type)
-        ∙ by-row (shapeOf k) z rowed
+        ∙ by-row (shapeOf k) z (ap (fitting (lengthFrom (shapeOf k))) data-long ∙ fits)
         ∙ ap (λ (b : Bool). valuesOf b (rowOf k n) (drop (p + 6) f)) (sym (r .msb))
 
     -- each read at its place

@@ -16,7 +16,7 @@ use Rattle.frame.specs.declared.Step.the-variants as step
 use Rattle.frame.specs.Frames.{allowed}
 use Rattle.frame.specs.Files.{isMsb}
 use Rattle.frame.specs.Steps.{stepForward}
-use Rattle.frame.proofs.Frames.{both-true}
+use Rattle.rules.proofs.Bools.{both-true}
 use Rattle.frame.proofs.Places.{whole-framing}
 use Rattle.frame.proofs.Walks.{Stands, forward-stands}
 use Rattle.frame.proofs.Ways.{said, unsaid}
