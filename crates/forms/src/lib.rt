@@ -212,6 +212,7 @@ fn write_sampled(
     ensures { λ _. ⌜ now (out .exit) ≡ sets (now (out .entry)) to (formBytes msb (tupAt msb (drop at (now (file .entry))))) ⌝ }
 {
     let tail = whole - intake::TAIL;
+    let end = to + (bytes - intake::TAIL);
     let line = Kind::PingU.line();
     open_form(file, at, msb, line, out, to, bytes, types::PING_U);
     samples::turn::spread_words(
@@ -219,15 +220,9 @@ fn write_sampled(
         msb,
         out,
         to + intake::PAIRS,
+        end,
     );
-    close_form(
-        file,
-        at + tail,
-        msb,
-        out,
-        to + (bytes - intake::TAIL),
-        bytes,
-    );
+    close_form(file, at + tail, msb, out, end, bytes);
 }
 
 // Writes the form of a C-32 ping, by its number of samples, and says how many bytes it has.

@@ -1,8 +1,10 @@
 -- Where the code's check stands: a tally and the columns of the declarations, and the course that they stand for. Assumes nothing.
 use mathlib.Core.Path.{_≡_}
-use Prim.Native.Nat.{ℕ, _+_, _*_, _≤_, _<_}
+use Prim.Native.Nat.{ℕ, _+_, _-_, _*_, _≤_, _<_}
 use mathlib.Core.Bool.{Bool, true, false, cond, not, _&&_, _||_}
 use mathlib.Core.List.{List, [], _∷_, _++_}
+use mathlib.Core.Option.{some}
+use mathlib.Core.Option
 use lib.Dec.{ltb, leb, eqb}
 use lib.ListN.{length, take, drop, getD, set}
 use Rattle.order.specs.Order.{numOf}
@@ -24,7 +26,8 @@ use Rattle.intake.specs.declared.Asked.the-variants.{Parents, Refused}
 use Rattle.intake.specs.declared.Tally.{Tally}
 use Rattle.intake.specs.declared.Turned.{Turned}
 use Rattle.intake.specs.declared.Turned.the-variants.{On, Done}
-use Rattle.intake.specs.Check.{Course, Turn, stop, go, turn, checkFile}
+use Rattle.intake.specs.Check.{Course, begin, Turn, stop, go, turn, checkFrom, checkFile}
+use Rattle.intake.specs.Asking.{courseTo}
 
 -- the columns: the sounders' identifiers, numbers of channels and places; the channels' identifiers, parents and places
 pub record Columns : Type 0 where
@@ -197,6 +200,23 @@ pub record TurnedTo (o : Bool) (f : List ℕ) (w : Tally) (c : Columns) (r : Tur
   pub turns : turnOf r d ≡ turn o f (courseOf w c)
   pub stands : StandsOn f r
   pub sized : Sized d
+
+-- ---- what the turns from the mark hand back: the tally that stands at a place p, with what is still to come of the check,
+pub record StoodAt (o : Bool) (f : List ℕ) (p : ℕ) (w : Tally) (c : Columns) : Type 0 where
+  pub there : w .at ≡ p
+  pub standing : Standing f w
+  pub sized : Sized c
+  pub found : courseTo (length f) o f p begin ≡ some (courseOf w c)
+  pub same : checkFrom (length f) o f begin ≡ checkFrom (length f - w .count) o f (courseOf w c)
+
+-- or the check's answer, where no turn starts at that place
+pub record EndedBefore (o : Bool) (f : List ℕ) (p : ℕ) (a : Answer) : Type 0 where
+  pub answer : a ≡ checkFrom (length f) o f begin
+  pub missed : courseTo (length f) o f p begin ≡ Option.none
+
+abbrev pub RunTo : Bool → List ℕ → ℕ → Turned → Columns → Type 0
+RunTo o f p (On w) c = StoodAt o f p w c
+RunTo o f p (Done a) c = EndedBefore o f p a
 
 -- ---- asking where a tally stands, over the columns
 -- the type code there is a listed ping's, and the channel that it names

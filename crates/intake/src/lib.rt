@@ -16,7 +16,7 @@ ghost use Rattle.order.specs.Order.{numOf};
 ghost use Rattle.frame.specs.Frames.{tupAt};
 ghost use Rattle.frame.specs.Files.{limit};
 ghost use Rattle.links.specs.Tables.{nameVerdict};
-ghost use Rattle.intake.specs.Tallies.{Here, Fits, headVerdict, linkVerdict, innerVerdict, ownVerdict, turnVerdict, tallyBegin, tallyPast, Standing, Ended, endAnswer, columns, Sized, TurnedTo, AskIn, askColumns, AcceptedFile};
+ghost use Rattle.intake.specs.Tallies.{Here, Fits, headVerdict, linkVerdict, innerVerdict, ownVerdict, turnVerdict, tallyBegin, tallyPast, Standing, Ended, endAnswer, columns, Sized, TurnedTo, RunTo, AskIn, askColumns, AcceptedFile};
 ghost use Rattle.intake.specs.Check.{Checked};
 ghost use Rattle.intake.specs.Asking.{AskedFor, askAccepted};
 
@@ -59,19 +59,19 @@ pub enum Asked {
 }
 
 // Where the check stands: its place, the tuples counted, the sounders and the channels declared, the classes seen.
-pub struct Tally {
-    pub at: usize,
-    pub count: usize,
-    pub sounders: usize,
-    pub channels: usize,
-    pub position: bool,
-    pub sounder: bool,
-    pub channel: bool,
-    pub ping: bool,
+struct Tally {
+    at: usize,
+    count: usize,
+    sounders: usize,
+    channels: usize,
+    position: bool,
+    sounder: bool,
+    channel: bool,
+    ping: bool,
 }
 
 // A turn takes the tally past a tuple, or ends the check.
-pub enum Turned {
+enum Turned {
     On(Tally),
     Done(Answer),
 }
@@ -224,7 +224,7 @@ fn either(a: bool, b: bool) -> bool
 
 impl Tally {
     // Behind the mark.
-    pub fn begin() -> Tally
+    fn begin() -> Tally
         ensures { λ r. ⌜ r ≡ tallyBegin ⌝ }
     {
         Tally {
@@ -345,7 +345,7 @@ fn end(
 }
 
 // One turn: the tuple where the tally stands is judged, its declaration is kept, and the tally passes it.
-pub fn turn(
+fn turn(
     file: &[u8],
     msb: bool,
     w: Tally,
@@ -391,6 +391,48 @@ pub fn turn(
     }
 }
 
+// Turns, one by one, until the tally stands at a place or the check ends.
+fn run(
+    file: &[u8],
+    msb: bool,
+    until: usize,
+    docs: &mut [u32; SOUNDERS],
+    says: &mut [u16; SOUNDERS],
+    sounder_places: &mut [usize; SOUNDERS],
+    ids: &mut [u16; CHANNELS],
+    parents: &mut [u32; CHANNELS],
+    channel_places: &mut [usize; CHANNELS],
+) -> Turned
+    requires { ⌜ 4 ≤ length (now file) ⌝ }
+    requires { ⌜ length (now file) ≤ limit ⌝ }
+    requires { ⌜ Sized (columns (now docs) (now says) (now «sounder_places») (now ids) (now parents) (now «channel_places»)) ⌝ }
+    ensures { λ r. ⌜ RunTo msb (now (file .entry)) until r
+        (columns (now (docs .exit)) (now (says .exit)) (now («sounder_places» .exit)) (now (ids .exit)) (now (parents .exit)) (now («channel_places» .exit))) ⌝ }
+{
+    let mut w = Tally::begin();
+    while w.at != until {
+        match turn(
+            file,
+            msb,
+            w,
+            docs,
+            says,
+            sounder_places,
+            ids,
+            parents,
+            channel_places,
+        ) {
+            Turned::On(next) => {
+                w = next;
+            }
+            Turned::Done(answer) => {
+                return Turned::Done(answer);
+            }
+        }
+    }
+    Turned::On(w)
+}
+
 // The check of a file: 1, 2; tuple by tuple as `judge` orders them; 15, 16, 17. It accepts with the tuples counted.
 pub fn check(file: &[u8]) -> Answer
     ensures { λ r. ⌜ Checked (now (file .entry)) r ⌝ }
@@ -408,26 +450,19 @@ pub fn check(file: &[u8]) -> Answer
     let mut ids = [0u16; CHANNELS];
     let mut parents = [0u32; CHANNELS];
     let mut channel_places = [0usize; CHANNELS];
-    let mut w = Tally::begin();
-    loop {
-        match turn(
-            file,
-            msb,
-            w,
-            &mut docs,
-            &mut says,
-            &mut sounder_places,
-            &mut ids,
-            &mut parents,
-            &mut channel_places,
-        ) {
-            Turned::On(next) => {
-                w = next;
-            }
-            Turned::Done(answer) => {
-                return answer;
-            }
-        }
+    match run(
+        file,
+        msb,
+        file.len(),
+        &mut docs,
+        &mut says,
+        &mut sounder_places,
+        &mut ids,
+        &mut parents,
+        &mut channel_places,
+    ) {
+        Turned::On(_) => layout::refuse(codes::NO_END, file.len()),
+        Turned::Done(answer) => answer,
     }
 }
 
@@ -488,42 +523,32 @@ fn ask_accepted(file: &[u8], place: usize, tuples: usize) -> Asked
     let mut ids = [0u16; CHANNELS];
     let mut parents = [0u32; CHANNELS];
     let mut channel_places = [0usize; CHANNELS];
-    let mut w = Tally::begin();
-    loop {
-        if w.at == place {
-            return ask_here(
-                file,
-                msb,
-                w,
-                tuples,
-                &docs,
-                &sounder_places,
-                &ids,
-                &parents,
-                &channel_places,
-            );
-        }
-        match turn(
+    match run(
+        file,
+        msb,
+        place,
+        &mut docs,
+        &mut says,
+        &mut sounder_places,
+        &mut ids,
+        &mut parents,
+        &mut channel_places,
+    ) {
+        Turned::On(w) => ask_here(
             file,
             msb,
             w,
-            &mut docs,
-            &mut says,
-            &mut sounder_places,
-            &mut ids,
-            &mut parents,
-            &mut channel_places,
-        ) {
-            Turned::On(next) => {
-                w = next;
-            }
-            Turned::Done(_) => {
-                return Asked::Refused {
-                    code: codes::UNFIT,
-                    place,
-                };
-            }
-        }
+            tuples,
+            &docs,
+            &sounder_places,
+            &ids,
+            &parents,
+            &channel_places,
+        ),
+        Turned::Done(_) => Asked::Refused {
+            code: codes::UNFIT,
+            place,
+        },
     }
 }
 

@@ -8,7 +8,7 @@ ghost use Prim.Native.Nat.{_<_};
 ghost use mathlib.Core.List.{[]};
 ghost use lib.ListN.{getD};
 ghost use Rattle.layout.specs.Types.{inClass, kindOf, placeIn, lineOf, fitting};
-ghost use Rattle.layout.specs.Codes.{rowCodes};
+ghost use Rattle.layout.specs.Codes.{leasts, steps, rowCodes};
 
 // What intake says: the tuples counted and the bytes written, or the code and the place of the first broken rule.
 pub enum Answer {
@@ -152,6 +152,50 @@ pub fn kind_of(code: u16) -> Kind
     }
 }
 
+// What the tables say of a line, by a constant place each, as in `row`: its least length,
+fn least(line: usize) -> usize
+    requires { ⌜ line < 13 ⌝ }
+    ensures { λ r. ⌜ r ≡ getD leasts line 0 ⌝ }
+{
+    match line {
+        0 => LEASTS[0],
+        1 => LEASTS[1],
+        2 => LEASTS[2],
+        3 => LEASTS[3],
+        4 => LEASTS[4],
+        5 => LEASTS[5],
+        6 => LEASTS[6],
+        7 => LEASTS[7],
+        8 => LEASTS[8],
+        9 => LEASTS[9],
+        10 => LEASTS[10],
+        11 => LEASTS[11],
+        _ => LEASTS[12],
+    }
+}
+
+// and its step.
+fn step(line: usize) -> usize
+    requires { ⌜ line < 13 ⌝ }
+    ensures { λ r. ⌜ r ≡ getD steps line 0 ⌝ }
+{
+    match line {
+        0 => STEPS[0],
+        1 => STEPS[1],
+        2 => STEPS[2],
+        3 => STEPS[3],
+        4 => STEPS[4],
+        5 => STEPS[5],
+        6 => STEPS[6],
+        7 => STEPS[7],
+        8 => STEPS[8],
+        9 => STEPS[9],
+        10 => STEPS[10],
+        11 => STEPS[11],
+        _ => STEPS[12],
+    }
+}
+
 impl Kind {
     // The line of a listed kind in the tables; LISTED for the others.
     pub fn line(self) -> usize
@@ -184,8 +228,8 @@ impl Kind {
         if LISTED <= line {
             return true;
         }
-        let least = LEASTS[line];
-        let step = STEPS[line];
+        let least = least(line);
+        let step = step(line);
         if step == 0 {
             return length == least;
         }
@@ -201,5 +245,20 @@ pub fn row(line: usize) -> [u8; ROW]
     requires { ⌜ line < 13 ⌝ }
     ensures { λ r. ⌜ r ≡ getD rowCodes line [] ⌝ }
 {
-    ROWS[line]
+    // by a constant place each: the compiler keeps no table, and ROWS[line] would build all of it at each call
+    match line {
+        0 => ROWS[0],
+        1 => ROWS[1],
+        2 => ROWS[2],
+        3 => ROWS[3],
+        4 => ROWS[4],
+        5 => ROWS[5],
+        6 => ROWS[6],
+        7 => ROWS[7],
+        8 => ROWS[8],
+        9 => ROWS[9],
+        10 => ROWS[10],
+        11 => ROWS[11],
+        _ => ROWS[12],
+    }
 }

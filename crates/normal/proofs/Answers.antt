@@ -1,5 +1,5 @@
--- The answers of the normaliser by what the survey finds, and the memory that they leave. Assumes nothing.
-use mathlib.Core.Path.{_≡_, refl, sym, ap, _∙_}
+-- The answers of the normaliser by what is measured, and the memory that they leave. Assumes nothing.
+use mathlib.Core.Path.{_≡_, sym, ap, _∙_}
 use mathlib.Core.Bool.{Bool, true, false, _&&_}
 use mathlib.Core.List.{List, _++_}
 use Prim.Native.Nat.{ℕ, _+_, _≤_, _<_}
@@ -17,11 +17,9 @@ use Rattle.layout.specs.Answers.{leftBy}
 use Rattle.frame.specs.Files.{limit, isMsb}
 use Rattle.frame.specs.Tuples.{tuplesOf}
 use Rattle.intake.specs.Check.{checkFile}
-use Rattle.normal.specs.declared.Survey.the-variants.{Taken}
-use Rattle.normal.specs.declared.Survey.the-variants as surveys
 use Rattle.normal.specs.Contents.{normalOf}
 use Rattle.normal.specs.Normaliser.{firstUnlisted, normalRules, behindCheck, normalAnswer, Normalised}
-use Rattle.normal.specs.Surveys.{surveyBy, surveyOf, Writable}
+use Rattle.normal.specs.Surveys.{Writable}
 
 -- ---- memory: a refusal leaves it, and what is written stands in front
 pub left-refused : (a : Answer) (c p : ℕ) (written out : List ℕ) → a ≡ Refused c p → out ≡ leftBy a written out
@@ -32,31 +30,19 @@ left-accepted a n m written out left e h w =
     let z : 0 + length written ≡ length written = omega arith in
     w ∙ sets-eq written out 0 (omega arith) ∙ ap (λ (k : ℕ). written ++ drop k out) z ∙ sym (ap (λ (x : Answer). leftBy x written out) e)
 
--- ---- what the survey finds
+-- ---- the check's refusals
+pub refused-of : (f out : List ℕ) (c p : ℕ) → Refused c p ≡ checkFile f → Normalised f out (Refused c p) out
+unfolding normalAnswer
+refused-of f out c p e =
+    let z : behindCheck f (length out) (checkFile f) ≡ Refused c p = ap (behindCheck f (length out)) (sym e) in
+    record { answer = sym z; memory = left-refused _ c p (normalOf f) out z }
+
+-- ---- an acceptance, and what is measured then
 pub record FoundOf (f : List ℕ) (n b u : ℕ) : Type 0 where
   pub written : ℕ
   pub accepted : checkFile f ≡ Accepted n written
   pub bytes : b ≡ length (normalOf f)
   pub unlisted : u ≡ firstUnlisted 4 (tuplesOf f)
-
-pub found-of : (f : List ℕ) (n b u : ℕ) → surveyOf f ≡ Taken n b u → FoundOf f n b u
-unfolding surveyOf
-found-of f n b u e = by-answer (checkFile f) refl e
-  where
-    by-answer : (a : Answer) → checkFile f ≡ a → surveyBy f a ≡ Taken n b u → FoundOf f n b u
-    by-answer (Refused c p) h q = absurd (let z : _≡_ {A = ℕ} 0 1 = cc in omega arith)
-    by-answer (Accepted i j) h q = record { written = j; accepted = h ∙ ap (λ (x : ℕ). Accepted x j) (cc q); bytes = sym (cc q); unlisted = sym (cc q) }
-
--- ---- the check's refusals
-pub refused-of : (f out : List ℕ) (c p : ℕ) → surveyOf f ≡ surveys.Refused c p → Normalised f out (Refused c p) out
-unfolding surveyOf normalAnswer
-refused-of f out c p e = by-answer (checkFile f) refl e
-  where
-    by-answer : (a : Answer) → checkFile f ≡ a → surveyBy f a ≡ surveys.Refused c p → Normalised f out (Refused c p) out
-    by-answer (Accepted i j) h q = absurd (let z : _≡_ {A = ℕ} 0 1 = cc in omega arith)
-    by-answer (Refused d r) h q =
-        let z : behindCheck f (length out) (checkFile f) ≡ Refused c p = ap (behindCheck f (length out)) h ∙ cc q in
-        record { answer = sym z; memory = left-refused _ c p (normalOf f) out z }
 
 -- ---- behind the check
 module _ (f out : List ℕ) (n b u : ℕ) (t : FoundOf f n b u) where
@@ -81,7 +67,7 @@ module _ (f out : List ℕ) (n b u : ℕ) (t : FoundOf f n b u) where
     found-no-room h r = refusing 19 0 (by-rule (pass (turns e) (pass (le-ltb limit (length (normalOf f)) (omega (arith, t .bytes))) (here (lt-ltb (length out) (length (normalOf f)) (omega (arith, t .bytes)))))))
 
     pub found-writable : b ≤ length out → Writable f (length out)
-    found-writable r = record { count = n; written = t .written; accepted = t .accepted; enough = omega (arith, t .bytes) }
+    found-writable r = record { accepts = record { count = n; written = t .written; answer = t .accepted }; enough = omega (arith, t .bytes) }
 
     pub found-written : b ≤ limit → b ≤ length out → (left : List ℕ) → left ≡ sets out 0 (normalOf f) → Normalised f out (Accepted n b) left
     found-written h r left w =

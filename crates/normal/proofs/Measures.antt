@@ -1,23 +1,25 @@
--- What the loop of the survey carries: what is still to come of the tuples, measured with what was measured, is the whole.
--- Assumes nothing.
-use mathlib.Core.Path.{_≡_, refl, sym, ap, ap₂, _∙_}
+-- What the loop that measures carries. Assumes nothing.
+use mathlib.Core.Path.{_≡_, refl, sym, ap, ap₂, subst, _∙_}
 use mathlib.Core.Bool.{Bool, true, false, cond}
-use mathlib.Core.List.{List, _∷_}
-use Prim.Native.Nat.{ℕ, suc, _+_, _≤_, _<_}
+use mathlib.Core.List.{List, [], _∷_}
+use Prim.Native.Nat.{ℕ, _+_, _-_, _*_, _≤_, _<_}
 use native.Mathlib.Omega.{arith}
 use borrow.Author.Tests.{ltb-false, lt-ltb, le-ltb}
 use lib.Dec.{ltb}
 use lib.ListN.{length, drop, length-append}
 use Rattle.layout.specs.Types.{shapeOf}
 use Rattle.frame.specs.Frames.{Tup, lengthOf, lenAt, tupAt}
-use Rattle.frame.specs.Tuples.{tuplesFrom}
+use Rattle.frame.specs.Files.{isMsb}
+use Rattle.frame.specs.Tuples.{tuplesFrom, tuplesOf}
 use Rattle.frame.proofs.Places.{framing-whole}
 use Rattle.content.specs.Forms.{formBytes}
 use Rattle.content.proofs.Places.{length-place}
 use Rattle.normal.specs.declared.Measure.{Measure}
 use Rattle.normal.specs.Normaliser.{isUnlisted, firstUnlisted}
-use Rattle.normal.specs.Surveys.{pieces, SoundAt, foundFirst, measureBegin, measurePast}
-use Rattle.normal.proofs.Pieces.{tuples-next, tuples-end}
+use Rattle.normal.specs.Contents.{normalOf}
+use Rattle.normal.specs.Surveys.{pieces, SoundAt, foundFirst, measureBegin, measurePast, measureOf, Few, Accepts}
+use Rattle.normal.proofs.Pieces.{normal-length}
+use Rattle.normal.proofs.Passing.{Lies, lies-first, lies-none, lies-accepted, accepted-4, accepted-small}
 
 -- the place found, or one that is found later
 abbrev found : ℕ → ℕ → ℕ → ℕ
@@ -36,20 +38,6 @@ module _ (first end at : ℕ) (b : Bool) where
 
   pub found-not : end ≤ first → b ≡ false → first ≡ foundFirst first end at b
   found-not h e = sym (by-here h e)
-
--- ---- at most k tuples are to come at a place
-pub record Measured (o : Bool) (f : List ℕ) (k at : ℕ) (m : Measure) : Type 0 where
-  pub bytes : m .bytes + length (pieces o (tuplesFrom k o (drop at f))) ≡ 4 + length (pieces o (tuplesFrom (length f) o (drop 4 f)))
-  pub unlisted : found (m .unlisted) (length f) (firstUnlisted at (tuplesFrom k o (drop at f))) ≡ firstUnlisted 4 (tuplesFrom (length f) o (drop 4 f))
-  pub within : m .unlisted ≤ length f
-
-pub measured-begin : (o : Bool) (f : List ℕ) → Measured o f (length f) 4 (measureBegin f)
-measured-begin o f =
-    record {
-      bytes = refl;
-      unlisted = ap (λ (b : Bool). cond b (length f) (firstUnlisted 4 (tuplesFrom (length f) o (drop 4 f)))) (le-ltb (length f) (length f) (omega arith));
-      within = omega arith;
-    }
 
 -- a place found before a tuple, at it or behind it
 found-past : (first end at later : ℕ) (b : Bool) → at < end → found (foundFirst first end at b) end later ≡ found first end (cond b at later)
@@ -76,33 +64,74 @@ first-next at t ts = by-test (isUnlisted (shapeOf (t .kind)))
     by-test true = refl
     by-test false = refl
 
--- past a sound tuple
-pub measured-past : (o : Bool) (f : List ℕ) (k at : ℕ) (m : Measure) → SoundAt o f at → Measured o f (suc k) at m → Measured o f k (at + lenAt o (drop at f)) (measurePast o f at m)
-measured-past o f k at m s g =
-    let t = tupAt o (drop at f) in
-    let ts = tuplesFrom k o (drop (at + lenAt o (drop at f)) f) in
-    let cut = tuples-next o f at k (s .here .framed) in
-    let w = framing-whole o f at (s .here .framed) in
-    let low : at < length f = omega (arith, w .long, w .fits) in
-    record {
-      bytes = omega (arith, length-append (formBytes o t) (pieces o ts), g .bytes, ap (λ (us : List Tup). length (pieces o us)) cut);
+-- ---- what the loop carries: the tuples to come, measured with what was measured, are the whole
+pub record Measuring (f : List ℕ) (o : Bool) (at : ℕ) (m : Measure) : Type 0 where
+  pub tuples : List Tup
+  pub lying : Lies o f at tuples
+  pub bytes : m .bytes + length (pieces o tuples) ≡ length (normalOf f)
+  pub unlisted : found (m .unlisted) (length f) (firstUnlisted at tuples) ≡ firstUnlisted 4 (tuplesOf f)
+  pub within : m .unlisted ≤ length f
+  pub few : Few f at m
+
+-- behind the mark
+pub measuring-begin : (f : List ℕ) (o : Bool) (m : Measure) → Accepts f → o ≡ isMsb f → m ≡ measureBegin f → Measuring f o 4 m
+unfolding tuplesOf
+measuring-begin f o m a e b =
+    let ts = tuplesFrom (length f) o (drop 4 f) in
+    subst (Measuring f o 4) (sym b)
+    (record {
+      tuples = ts;
+      lying = lies-accepted f o a e;
+      bytes = ap (λ (x : Bool). 4 + length (pieces x (tuplesFrom (length f) x (drop 4 f)))) e ∙ sym (normal-length f);
       unlisted =
-          found-past (m .unlisted) (length f) at (firstUnlisted (at + lenAt o (drop at f)) ts) (isUnlisted (shapeOf (t .kind))) low
-          ∙ ap (λ (n : ℕ). found (m .unlisted) (length f) (cond (isUnlisted (shapeOf (t .kind))) at (firstUnlisted (at + n) ts))) (sym (length-place o f at _ w))
-          ∙ sym (ap (found (m .unlisted) (length f)) (ap (firstUnlisted at) cut ∙ first-next at t ts))
-          ∙ g .unlisted;
-      within = found-within (m .unlisted) (length f) at (isUnlisted (shapeOf (t .kind))) low (g .within);
-    }
+          ap (λ (x : Bool). cond x (length f) (firstUnlisted 4 ts)) (le-ltb (length f) (length f) (omega arith))
+          ∙ ap (λ (x : Bool). firstUnlisted 4 (tuplesFrom (length f) x (drop 4 f))) e;
+      within = omega arith;
+      few = record { small = accepted-small f a; within = accepted-4 f a; bytes = omega arith };
+    })
 
--- at the end the whole is measured
-module _ (o : Bool) (f : List ℕ) (k at : ℕ) (m : Measure) (g : Measured o f k at m) (e : at ≡ length f) where
-  pub measured-bytes : m .bytes ≡ 4 + length (pieces o (tuplesFrom (length f) o (drop 4 f)))
-  measured-bytes = omega (arith, g .bytes, ap (λ (us : List Tup). length (pieces o us)) (tuples-end o f at k (omega arith)))
+module _ (f : List ℕ) (o : Bool) (at : ℕ) (m : Measure) (g : Measuring f o at m) where
+  -- before the end
+  module _ (h : at < length f) where
+    pub measuring-sound : SoundAt o f at
+    measuring-sound = lies-first o f at (g .tuples) (g .lying) h
 
-  pub measured-unlisted : m .unlisted ≡ firstUnlisted 4 (tuplesFrom (length f) o (drop 4 f))
+    pub measuring-past : (n : ℕ) (v : Measure) → n ≡ lenAt o (drop at f) → v ≡ measurePast o f at m → v .bytes ≤ 2 * (at + lenAt o (drop at f)) → Measuring f o (at + n) v
+    measuring-past n v a b c = rw (a, b) (by-tuples (g .tuples) (g .lying) (g .bytes) (g .unlisted))
+      where
+        by-tuples : (ts : List Tup) → Lies o f at ts → m .bytes + length (pieces o ts) ≡ length (normalOf f) → found (m .unlisted) (length f) (firstUnlisted at ts) ≡ firstUnlisted 4 (tuplesOf f)
+            → Measuring f o (at + lenAt o (drop at f)) (measurePast o f at m)
+        by-tuples [] l x y = absurd (omega arith)
+        by-tuples (t ∷ ts) l x y =
+            let w = framing-whole o f at (l .0 .here .framed) in
+            let u = isUnlisted (shapeOf (tupAt o (drop at f) .kind)) in
+            let later = firstUnlisted (at + lenAt o (drop at f)) ts in
+            record {
+              tuples = ts;
+              lying = l .2;
+              bytes = omega (arith, length-append (formBytes o t) (pieces o ts), ap (λ (z : Tup). length (formBytes o z)) (l .1));
+              unlisted =
+                  found-past (m .unlisted) (length f) at later u h
+                  ∙ ap (λ (k : ℕ). found (m .unlisted) (length f) (cond u at (firstUnlisted (at + k) ts))) (sym (length-place o f at _ w))
+                  ∙ ap (λ (z : Tup). found (m .unlisted) (length f) (cond (isUnlisted (shapeOf (z .kind))) at (firstUnlisted (at + lengthOf z) ts))) (l .1)
+                  ∙ ap (found (m .unlisted) (length f)) (sym (first-next at t ts))
+                  ∙ y;
+              within = found-within (m .unlisted) (length f) at u h (g .within);
+              few = record { small = g .few .small; within = omega (arith, w .fits); bytes = subst (λ (z : Measure). z .bytes ≤ 2 * (at + lenAt o (drop at f))) b c };
+            }
+
+    pub measuring-less : (n : ℕ) → n ≡ lenAt o (drop at f) → length f - (at + n) < length f - at
+    measuring-less n a = let w = framing-whole o f at (measuring-sound .here .framed) in omega (arith, w .long, w .fits)
+
+  -- at the end the whole is measured
+  pub measuring-done : length f ≤ at → m ≡ measureOf f
   unfolding firstUnlisted
-  measured-unlisted = by-test (ltb (m .unlisted) (length f)) refl ∙ sym (ap (λ (us : List Tup). found (m .unlisted) (length f) (firstUnlisted at us)) (tuples-end o f at k (omega arith))) ∙ g .unlisted
+  measuring-done h =
+      let none = lies-none o f at (g .tuples) (g .lying) h in
+      let bytes : m .bytes ≡ length (normalOf f) = omega (arith, g .bytes, ap (λ (ts : List Tup). length (pieces o ts)) none) in
+      let unlisted : m .unlisted ≡ firstUnlisted 4 (tuplesOf f) = by-test (ltb (m .unlisted) (length f)) refl ∙ sym (ap (λ (ts : List Tup). found (m .unlisted) (length f) (firstUnlisted at ts)) none) ∙ g .unlisted in
+      λ i. record { bytes = bytes i; unlisted = unlisted i }
     where
       by-test : (b : Bool) → ltb (m .unlisted) (length f) ≡ b → m .unlisted ≡ cond b (m .unlisted) at
       by-test true q = refl
-      by-test false q = omega (arith, ltb-false (m .unlisted) (length f) q, g .within)
+      by-test false q = omega (arith, ltb-false (m .unlisted) (length f) q, g .within, g .few .within)

@@ -1,9 +1,9 @@
 -- What a turn of the check tells of the tuple where it stands, if it goes on or accepts: the tuple is sound, and the turn has passed
 -- it. So the tuples of an accepted file are sound, one behind the other to its end. Assumes nothing.
-use mathlib.Core.Path.{_≡_, refl, sym, subst, _∙_}
+use mathlib.Core.Path.{_≡_, refl, sym, ap, subst, _∙_}
 use mathlib.Core.Bool.{Bool, true, false}
 use mathlib.Core.List.{List, [], _∷_}
-use Prim.Native.Nat.{ℕ, zero, suc, _+_, _≤_}
+use Prim.Native.Nat.{ℕ, zero, suc, _+_, _≤_, _<_}
 use native.Mathlib.Omega.{arith}
 use borrow.Author.Tests.{ltb-false}
 use lib.ListN.{length, drop}
@@ -15,14 +15,17 @@ use Rattle.layout.specs.declared.Verdict.the-variants.{Fine, Fault}
 use Rattle.layout.specs.Answers.{both}
 use Rattle.layout.proofs.Verdicts.{both-left, both-right, both-fine, judged-append}
 use Rattle.frame.specs.Frames.{Tup, lenAt, tupAt, framing}
+use Rattle.frame.specs.Files.{limit, isMsb}
 use Rattle.frame.specs.Tuples.{tuplesFrom}
+use Rattle.frame.proofs.Files.{marked-4}
 use Rattle.frame.proofs.Places.{framing-whole}
 use Rattle.content.specs.Items.{digest, headRules, innerRules}
-use Rattle.intake.specs.Check.{Course, endRules, ending, Turn, stop, go, past, onward, after, turn, checkFrom}
+use Rattle.intake.specs.Check.{Course, begin, endRules, ending, Turn, stop, go, past, onward, after, turn, checkFrom}
 use Rattle.intake.specs.Tallies.{ownVerdict}
 use Rattle.intake.proofs.Accepted.{isAccepted, refusal}
+use Rattle.intake.proofs.Seeks.{taken}
 use Rattle.intake.proofs.Turns.{emptied, judgement, turn-parts, Judged, judged-parts, settle, from-suc}
-use Rattle.normal.specs.Surveys.{SoundAt}
+use Rattle.normal.specs.Surveys.{SoundAt, Accepts}
 use Rattle.normal.proofs.Pieces.{tuples-next, tuples-end}
 
 -- a tuple whose parts are fine keeps its own rules
@@ -88,6 +91,16 @@ abbrev pub Lies : Bool → List ℕ → ℕ → List Tup → Type 0
 Lies o f at [] = at ≡ length f
 Lies o f at (t ∷ ts) = SoundAt o f at × (tupAt o (drop at f) ≡ t) × Lies o f (at + lenAt o (drop at f)) ts
 
+-- before the end the first of them stands at the place; at the end there is none
+module _ (o : Bool) (f : List ℕ) (at : ℕ) where
+  pub lies-first : (ts : List Tup) → Lies o f at ts → at < length f → SoundAt o f at
+  lies-first [] l h = absurd (omega arith)
+  lies-first (t ∷ ts) l h = l .0
+
+  pub lies-none : (ts : List Tup) → Lies o f at ts → length f ≤ at → ts ≡ []
+  lies-none [] l h = refl
+  lies-none (t ∷ ts) l h = let n = framing-whole o f at (l .0 .here .framed) in absurd (omega (arith, n .long, n .fits))
+
 -- the end is where they end
 pub lies : (o : Bool) (f : List ℕ) (k : ℕ) (w : Course) (n m : ℕ) → w .at ≤ length f → checkFrom k o f w ≡ Accepted n m → Lies o f (w .at) (tuplesFrom k o (drop (w .at) f))
 unfolding checkFrom
@@ -105,3 +118,16 @@ lies o f (suc k) w n m low e = by-turn (λ v h q. lies o f k v n m h q) (turn o 
         let fits = framing-whole o f (w .at) (s .0 .here .framed) .fits in
         subst (Lies o f (w .at)) (sym (tuples-next o f (w .at) k (s .0 .here .framed)))
         (s .0, refl, subst (λ (p : ℕ). Lies o f p (tuplesFrom k o (drop p f))) (s .1) (ih v (omega arith) q))
+
+-- those of an accepted file, behind its mark
+pub lies-accepted : (f : List ℕ) (o : Bool) → Accepts f → o ≡ isMsb f → Lies o f 4 (tuplesFrom (length f) o (drop 4 f))
+lies-accepted f o a e =
+    let t = taken f (a .count) (record { written = a .written; answer = a .answer }) in
+    lies o f (length f) begin (a .count) (t .written) (marked-4 f (t .mark)) (ap (λ (x : Bool). checkFrom (length f) x f begin) e ∙ t .rest)
+
+-- which keeps the limit and has its mark
+pub accepted-small : (f : List ℕ) → Accepts f → length f ≤ limit
+accepted-small f a = taken f (a .count) (record { written = a .written; answer = a .answer }) .small
+
+pub accepted-4 : (f : List ℕ) → Accepts f → 4 ≤ length f
+accepted-4 f a = marked-4 f (taken f (a .count) (record { written = a .written; answer = a .answer }) .mark)

@@ -10,20 +10,13 @@ use Rattle.order.proofs.Stores.{sets-append}
 use Rattle.frame.specs.Frames.{Tup, lenAt, tupAt}
 use Rattle.frame.specs.Files.{mark, isMsb}
 use Rattle.frame.specs.Tuples.{tuplesFrom, tuplesOf}
-use Rattle.frame.proofs.Files.{length-mark, marked-4}
+use Rattle.frame.proofs.Files.{length-mark}
 use Rattle.frame.proofs.Places.{framing-whole}
 use Rattle.content.specs.Forms.{formBytes}
-use Rattle.layout.specs.declared.Answer.the-variants.{Accepted}
-use Rattle.intake.specs.Check.{begin, checkFrom, checkFile}
-use Rattle.intake.proofs.Seeks.{taken}
 use Rattle.normal.specs.Contents.{normalOf}
 use Rattle.normal.specs.Surveys.{pieces, SoundAt, Writable}
 use Rattle.normal.proofs.Pieces.{normal-pieces, normal-length}
-use Rattle.normal.proofs.Passing.{Lies, lies}
-
--- an accepted file has its mark
-pub accepted-4 : (f : List ℕ) (n m : ℕ) → checkFile f ≡ Accepted n m → 4 ≤ length f
-accepted-4 f n m e = marked-4 f (taken f n (record { written = m; answer = e }) .mark)
+use Rattle.normal.proofs.Passing.{Lies, lies-first, lies-none, lies-accepted}
 
 -- the mark is stored in front
 pub marked-sets : (out xs : List ℕ) → sets (sets out 0 (mark false)) 4 xs ≡ sets out 0 (mark false ++ xs)
@@ -41,11 +34,9 @@ pub record Writing (f out₀ : List ℕ) (o : Bool) (at to : ℕ) (out : List �
 pub writing-begin : (f out out₀ : List ℕ) (o : Bool) → out₀ ≡ sets out 0 (mark false) → Writable f (length out) → o ≡ isMsb f → Writing f out₀ o 4 4 out₀
 unfolding tuplesOf
 writing-begin f out out₀ o m w e =
-    let t = taken f (w .count) (record { written = w .written; answer = w .accepted }) in
-    let rest : checkFrom (length f) o f begin ≡ _ = ap (λ (x : Bool). checkFrom (length f) x f begin) e ∙ t .rest in
     record {
       tuples = tuplesFrom (length f) o (drop 4 f);
-      lying = lies o f (length f) begin (w .count) (t .written) (marked-4 f (t .mark)) rest;
+      lying = lies-accepted f o (w .accepts) e;
       same = ap (λ (x : Bool). sets out₀ 4 (pieces x (tuplesFrom (length f) x (drop 4 f)))) e;
       room = rw e (omega (arith, normal-length f, w .enough, ap length m, length-sets out 0 (mark false)));
     }
@@ -56,11 +47,7 @@ module _ (f out₀ : List ℕ) (o : Bool) (at to : ℕ) (out : List ℕ) (w : Wr
 
   -- at the end of the file
   pub writing-done : length f ≤ at → out ≡ sets out₀ 4 (pieces (isMsb f) (tuplesOf f))
-  writing-done h = by-tuples (w .tuples) (w .lying) (w .same)
-    where
-      by-tuples : (ts : List Tup) → Lies o f at ts → sets out to (pieces o ts) ≡ sets out₀ 4 (pieces (isMsb f) (tuplesOf f)) → out ≡ sets out₀ 4 (pieces (isMsb f) (tuplesOf f))
-      by-tuples [] l e = e
-      by-tuples (t ∷ ts) l e = let n = framing-whole o f at (l .0 .here .framed) in absurd (omega (arith, n .long, n .fits))
+  writing-done h = sym (ap (λ (ts : List Tup). sets out to (pieces o ts)) (lies-none o f at (w .tuples) (w .lying) h)) ∙ w .same
 
   -- before it
   module _ (h : at < length f) where
@@ -68,11 +55,7 @@ module _ (f out₀ : List ℕ) (o : Bool) (at to : ℕ) (out : List ℕ) (w : Wr
     form = formBytes o (tupAt o (drop at f))
 
     pub writing-sound : SoundAt o f at
-    writing-sound = by-tuples (w .tuples) (w .lying)
-      where
-        by-tuples : (ts : List Tup) → Lies o f at ts → SoundAt o f at
-        by-tuples [] l = absurd (omega arith)
-        by-tuples (t ∷ ts) l = l .0
+    writing-sound = lies-first o f at (w .tuples) (w .lying) h
 
     pub writing-room : to + length (formBytes o (tupAt o (drop at f))) ≤ length out
     writing-room = by-tuples (w .tuples) (w .lying) (w .room)

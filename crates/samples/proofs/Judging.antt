@@ -6,13 +6,13 @@ use Prim.Native.Nat.{ℕ, suc, _+_, _-_, _≤_, _<_}
 use native.Mathlib.Numerals.{add-one}
 use native.Mathlib.Omega.{arith}
 use mir.Val.{boolByte}
-use lib.Dec.{ltb, leb·suc-suc, lit<}
+use lib.Dec.{leb, ltb, leb·suc-suc, lit<}
 use lib.ListN.{length}
-use borrow.Author.Tests.{lt-ltb, lt-leb}
-use Rattle.samples.specs.Words.{Sample, pairUp}
+use borrow.Author.Tests.{lt-ltb, lt-leb, leb-true, leb-false}
+use Rattle.samples.specs.Words.{Sample, allWords, pairUp}
 use Rattle.samples.specs.Runs.{radix, isRun, isBad, values, firstBad}
 use Rattle.samples.specs.Judging.{firstDrop}
-use Rattle.samples.proofs.Words.{wordAt, wordsFrom, from-cons, from-end}
+use Rattle.samples.proofs.Words.{wordAt, wordsFrom, from-all, from-cons, from-end}
 use Rattle.samples.proofs.Runs.{by-bool}
 use Rattle.samples.proofs.Values.{values-run, values-value, bad-here, bad-later}
 use Rattle.samples.proofs.Rising.{drop-later, drop-here, pairs-next, pairs-end}
@@ -45,11 +45,18 @@ bad-cons R w ws =
     (λ e. rw (bad-here R w ws e, e) (lt-ltb 0 (suc (length ws)) (omega arith)))
     (λ e. rw e (one-more _ _ (length ws) (bad-later R w ws e)))
 
-pub drops-here : (n : ℕ) (x : Sample) (s : List Sample) → x .0 < n → anyDrop n (x ∷ s) ≡ true
+drops-here : (n : ℕ) (x : Sample) (s : List Sample) → x .0 < n → anyDrop n (x ∷ s) ≡ true
 drops-here n x s h = rw (drop-here n x s (lt-leb n (x .0) h)) (lt-ltb 0 (suc (length s)) (omega arith))
 
-pub drops-later : (n : ℕ) (x : Sample) (s : List Sample) → n ≤ x .0 → anyDrop n (x ∷ s) ≡ anyDrop (x .0 + 1) s
+drops-later : (n : ℕ) (x : Sample) (s : List Sample) → n ≤ x .0 → anyDrop n (x ∷ s) ≡ anyDrop (x .0 + 1) s
 drops-later n x s h = one-more _ _ (length s) (drop-later n x s h)
+
+-- behind a number n
+drops-cons : (n : ℕ) (x : Sample) (s : List Sample) → anyDrop (n + 1) (x ∷ s) ≡ (leb (x .0) n || anyDrop (x .0 + 1) s)
+drops-cons n x s =
+    by-bool (leb (x .0) n)
+    (λ e. rw e (drops-here (n + 1) x s (omega (arith, leb-true (x .0) n e))))
+    (λ e. rw e (drops-later (n + 1) x s (omega (arith, leb-false (x .0) n e))))
 
 -- ---- words: the word w at p, and those from p + 4 on
 module _ (o : Bool) (part : List ℕ) (p w : ℕ) (h : 4 ≤ length part - p) (e : w ≡ wordAt 4 o part p) where
@@ -74,18 +81,28 @@ module _ (o : Bool) (part : List ℕ) (p : ℕ) (h : length part - p < 4) where
   unfolding firstBad
   bad-end b = rw (from-end 4 o part p (lit< tt) (omega arith)) (or-false b)
 
--- ---- pairs: the number x at p, where n is the least that may stand there, and the pairs from p + 8 on
-module _ (o : Bool) (part : List ℕ) (p n : ℕ) where
-  module _ (x : ℕ) (h : 8 ≤ length part - p) (e : x ≡ wordAt 4 o part p) where
-    pub next-pair : pairUp (wordsFrom 4 o part p) ≡ (x, wordAt 4 o part (p + 4)) ∷ pairUp (wordsFrom 4 o part (p + 8))
-    next-pair = pairs-next o part p (omega arith) ∙ ap (λ (y : ℕ). (y, wordAt 4 o part (p + 4)) ∷ pairUp (wordsFrom 4 o part (p + 8))) (sym e)
+-- ---- pairs: the number x at p, and the pairs from p + 8 on
+module _ (o : Bool) (part : List ℕ) (p x : ℕ) (h : 8 ≤ length part - p) (e : x ≡ wordAt 4 o part p) where
+  pub next-pair : pairUp (wordsFrom 4 o part p) ≡ (x, wordAt 4 o part (p + 4)) ∷ pairUp (wordsFrom 4 o part (p + 8))
+  next-pair = pairs-next o part p (omega arith) ∙ ap (λ (y : ℕ). (y, wordAt 4 o part (p + 4)) ∷ pairUp (wordsFrom 4 o part (p + 8))) (sym e)
 
-    pub drop-found : x < n → anyDrop n (pairUp (wordsFrom 4 o part p)) ≡ true
-    drop-found l = ap (anyDrop n) next-pair ∙ drops-here n _ _ l
+  -- any number may be the first
+  pub drop-first : anyDrop (x + 1) (pairUp (wordsFrom 4 o part (p + 8))) ≡ anyDrop 0 (pairUp (wordsFrom 4 o part p))
+  drop-first = sym (ap (anyDrop 0) next-pair ∙ drops-later 0 _ _ (omega arith))
 
-    pub drop-turn : n ≤ x → anyDrop (x + 1) (pairUp (wordsFrom 4 o part (p + 8))) ≡ anyDrop n (pairUp (wordsFrom 4 o part p))
-    drop-turn l = sym (ap (anyDrop n) next-pair ∙ drops-later n _ _ l)
+  -- a later one is above the number n before it
+  pub drop-turn : (b : Bool) (n : ℕ)
+      → ((b || leb x n) || anyDrop (x + 1) (pairUp (wordsFrom 4 o part (p + 8)))) ≡ (b || anyDrop (n + 1) (pairUp (wordsFrom 4 o part p)))
+  drop-turn b n = rw (next-pair, drops-cons, or-assoc)
 
-  pub drop-end : length part - p < 8 → anyDrop n (pairUp (wordsFrom 4 o part p)) ≡ false
+pub drop-all : (o : Bool) (part : List ℕ) → anyDrop 0 (pairUp (wordsFrom 4 o part 0)) ≡ anyDrop 0 (pairUp (allWords 4 o part))
+drop-all o part = ap (λ (ws : List ℕ). anyDrop 0 (pairUp ws)) (from-all 4 o part)
+
+-- no pair is left
+module _ (o : Bool) (part : List ℕ) (p n : ℕ) (h : length part < p + 8) where
+  pub drop-none : anyDrop n (pairUp (wordsFrom 4 o part p)) ≡ false
   unfolding firstDrop
-  drop-end h = rw (pairs-end o part p (omega arith))
+  drop-none = rw (pairs-end o part p h)
+
+  pub drop-end : (b : Bool) → (b || anyDrop n (pairUp (wordsFrom 4 o part p))) ≡ b
+  drop-end b = rw drop-none (or-false b)

@@ -1,4 +1,5 @@
 // A ping's samples from bytes to bytes, in LSB order: U-32 pairs as they stand, C-32 words as pairs.
+use crate::FULL_RUN;
 use crate::PAIR;
 use crate::WORD;
 ghost use mathlib.Core.Path.{_≡_};
@@ -31,25 +32,24 @@ fn put_pair(out: &mut [u8], at: usize, number: u32, value: u32)
     order::store4(out, at + WORD, false, value);
 }
 
-// Writes the samples of a C-32 ping's words as pairs in LSB order, one at a time: a run passes its samples, a value is the next
-// sample's.
-pub fn spread_words(part: &[u8], msb: bool, out: &mut [u8], to: usize)
+// Writes the samples of a C-32 ping's words as pairs in LSB order, up to where the pairs end: a run passes its samples, a value is
+// the next sample's.
+pub fn spread_words(part: &[u8], msb: bool, out: &mut [u8], to: usize, end: usize)
     requires { ⌜ length (now part) ≤ 262108 ⌝ }
-    requires { ⌜ to + 8 * length (decode radix (allWords 4 msb (now part))) ≤ length (now out) ⌝ }
+    requires { ⌜ end ≡ to + 8 * length (decode radix (allWords 4 msb (now part))) ⌝ }
+    requires { ⌜ end ≤ length (now out) ⌝ }
     ensures { λ _. ⌜ now (out .exit) ≡ sets (now (out .entry)) to (unwords 4 false (unpair (decode radix (allWords 4 msb (now (part .entry)))))) ⌝ }
 {
     let mut number: u32 = 0;
     let mut at = to;
     let mut p: usize = 0;
-    while WORD <= part.len() - p {
+    // no branch on the kind of word: a run's pair is written over by the next value's, and behind the last value the loop ends
+    while at < end {
         let word = order::read4(part, p, msb);
-        if crate::is_run(word) {
-            number += crate::run_length(word);
-        } else {
-            put_pair(out, at, number, word);
-            at += PAIR;
-            number += 1;
-        }
+        let run = crate::is_run(word);
+        put_pair(out, at, number, word);
+        at += PAIR * (!run as usize);
+        number += (run as u32) * (word % FULL_RUN) + 1;
         p += WORD;
     }
 }

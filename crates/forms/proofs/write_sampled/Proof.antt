@@ -31,7 +31,7 @@ spread-words-requires : tie.Need-spread-words-requires
 spread-words-requires c κs =
     let s = c .before .before .before .before .before .before .before .before .before in
     let r = room s in
-    (spread-few (s .pre .0) (r .0), omega (arith, spread-count (s .pre .0) refl, s .pre .1 .1 .0))
+    (spread-few (s .pre .0) (r .0), (omega (arith, spread-count (s .pre .0) refl, s .pre .1 .1 .0), omega arith))
 
 close-form-requires : tie.Need-close-form-requires
 close-form-requires c κs =
@@ -53,6 +53,8 @@ write-sampled-spec =
     tie.close
     (tie.spec
     (λ c. search needs)
+    (λ c. search needs)
+    (λ c. search needs)
     (λ c κs. search needs)
     open-form-requires
     (λ c. search needs)
@@ -63,8 +65,6 @@ write-sampled-spec =
     (λ c. search needs)
     spread-words-requires
     (λ c. let r = room (c .before .before .before .before .before .before .before .before .before .before .before .before) in omega arith)
-    (λ c. search needs)
-    (λ c. search needs)
     close-form-requires
     (λ c. search needs)
     returns)

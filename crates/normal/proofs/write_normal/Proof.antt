@@ -8,7 +8,8 @@ use Rattle.frame.specs.Frames.{lenAt}
 use Rattle.frame.specs.Files.{mark}
 use Rattle.frame.proofs.Places.{Whole, framing-whole}
 use Rattle.normal.proofs.Pieces.{normal-length}
-use Rattle.normal.proofs.Writing.{Writing, accepted-4, marked-out, writing-begin, writing-length, writing-done, writing-sound, writing-room, writing-again, writing-less}
+use Rattle.normal.proofs.Passing.{accepted-4}
+use Rattle.normal.proofs.Writing.{Writing, marked-out, writing-begin, writing-length, writing-done, writing-sound, writing-room, writing-again, writing-less}
 use Rattle.normal.proofs.write_normal.Statement.{statement}
 use Rattle.normal.proofs.write_normal.Tie as tie
 
@@ -64,7 +65,7 @@ write-normal-spec =
     Inv-loop
     μ-loop
     store4-requires
-    (λ c κs. let w = c .before .before .before .before .before .before .pre in accepted-4 _ _ _ (w .accepted))
+    (λ c κs. let w = c .before .before .before .before .before .before .pre in accepted-4 _ (w .accepts))
     loop-holds
     (λ c κs. omega (arith, there c .long, there c .fits))
     (λ c κs. omega (arith, there (c .before) .long, there (c .before) .fits))

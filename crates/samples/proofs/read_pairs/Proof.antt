@@ -33,7 +33,7 @@ next : (c : tie.After-read4 Inv-loop μ-loop) →
     let l = head .loop in
     Handing (pairUp (allWords 4 (a .msb) (a .part .now))) ((c .read4 .result, wordAt 4 (a .msb) (a .part .now) (l .p + 4)) ∷ pairUp (wordsFrom 4 (a .msb) (a .part .now) (l .p + 8)))
     (a .numbers .now) (a .values .now) (l .numbers) (l .values) (l .entry)
-next c = handing-as (next-pair _ _ _ 0 _ (c .before .loop-test .taken) (c .read4 .ensures)) (c .before .before .loop .inv .2)
+next c = handing-as (next-pair _ _ _ _ (c .before .loop-test .taken) (c .read4 .ensures)) (c .before .before .loop .inv .2)
 
 slice-write-numbers : tie.Need-slice-write-numbers Inv-loop μ-loop
 slice-write-numbers c = entry-numbers (next c)

@@ -9,36 +9,33 @@ use Rattle.layout.specs.Codes.{leasts, steps, lengthBy}
 use Rattle.layout.proofs.Tables.{Said, tabled, fixed, short, long, any}
 use Rattle.layout.proofs.Kind.fits.Statement.{statement}
 use Rattle.layout.proofs.Kind.fits.Tie as tie
-use Rattle.layout.proofs.Kind.fits.Reads as reads
-use Rattle.layout.proofs.Kind.fits.Lts as lts
-use Rattle.layout.proofs.Kind.line.Reads as line-reads
 
 returns : tie.Need-returns
 returns c = any (c .before .before .args .self) (omega (arith, c .before .line .ensures)) (c .before .before .args .length)
 
 -- the lengths that were looked up are the kind's
-looked : (c : tie.Else1) → lengthBy (getD leasts (c .before .line .result) 0) (getD steps (c .before .line .result) 0) ≡ lineOf (c .before .before .args .self) .length
+looked : (c : tie.After-step) → lengthBy (c .before .least .result) (c .step .result) ≡ lineOf (c .before .before .before .before .args .self) .length
 looked c =
-    let e = c .before .line .ensures in
-    let h : placeIn (c .before .before .args .self) < 13 = omega arith in
-    ap (λ (i : ℕ). lengthBy (getD leasts i 0) (getD steps i 0)) e ∙ ap (λ (x : Said). x .lengths) (tabled (c .before .before .args .self) h)
+    let k = c .before .before .before .before .args .self in
+    let e = c .before .before .before .line .ensures in
+    let h : placeIn k < 13 = omega (arith, c .before .before .if1 .left) in
+    let l : c .before .least .result ≡ getD leasts (placeIn k) 0 = c .before .least .ensures ∙ ap (λ (i : ℕ). getD leasts i 0) e in
+    let s : c .step .result ≡ getD steps (placeIn k) 0 = c .step .ensures ∙ ap (λ (i : ℕ). getD steps i 0) e in
+    (λ i. lengthBy (l i) (s i)) ∙ ap (λ (x : Said). x .lengths) (tabled k h)
 
 returns-2 : tie.Need-returns-2
-unfolding leasts steps
 returns-2 c =
-    let n = c .before .before .before .args .length in
+    let n = c .before .before .before .before .before .args .length in
     fixed _ _ n (c .if2 .taken) ∙ ap (λ (l : Length). fitting l n) (looked (c .before))
 
 returns-3 : tie.Need-returns-3
-unfolding leasts steps
 returns-3 c =
-    let n = c .before .before .before .before .args .length in
+    let n = c .before .before .before .before .before .before .args .length in
     short _ _ n (c .before .if2 .left) (c .if3 .taken) ∙ ap (λ (l : Length). fitting l n) (looked (c .before .before))
 
 returns-4 : tie.Need-returns-4
-unfolding leasts steps
 returns-4 c =
-    let n = c .before .before .before .before .args .length in
+    let n = c .before .before .before .before .before .before .args .length in
     long _ _ n (c .before .if2 .left) (c .if3 .left) ∙ ap (λ (l : Length). fitting l n) (looked (c .before .before))
 
 pub fits-spec : {M : Type 1} → statement M
@@ -47,10 +44,8 @@ fits-spec =
     (tie.spec
     (λ c κs. search needs)
     returns
-    (λ c. search needs)
-    (λ c. search needs)
-    (λ c. search needs)
-    (λ c. search needs)
+    (λ c κs. search needs)
+    (λ c κs. search needs)
     returns-2
     returns-3
     (λ c. search needs)

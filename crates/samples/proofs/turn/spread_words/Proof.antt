@@ -1,90 +1,76 @@
 -- `samples::turn::spread_words` meets its contract: the samples of the words from here on are still to be written (`Spreading`).
 -- Assumes nothing.
-use mathlib.Core.Path.{refl, sym, ap, _∙_}
-use mathlib.Core.Bool.{false}
-use mathlib.Core.Logic.{⊎-elim}
-use mathlib.Core.List.{_∷_}
-use Prim.Native.Nat.{_+_, _-_, _*_, _≤_}
+use mathlib.Core.Path.{refl, sym, ap}
+use mathlib.Core.Bool.{false, not}
+use Prim.Native.Nat.{_+_, _-_, _*_, _%_, _≤_, _<_}
 use native.Mathlib.Omega.{arith}
 use borrow.Author.Needs.{needs}
-use lib.Dec.{lit<}
+use mir.Val.{boolByte}
 use lib.ListN.{length}
 use Rattle.samples.specs.Words.{allWords}
 use Rattle.samples.specs.Runs.{radix, decodeFrom, decode}
-use Rattle.samples.proofs.Words.{wordsFrom, from-all, from-end}
-use Rattle.samples.proofs.Runs.{decode-run, decode-value, run-short}
-use Rattle.samples.proofs.Judging.{next}
-use Rattle.samples.proofs.Turning.{Spreading, spreading-as, spreading-one, spreading-end}
+use Rattle.samples.proofs.Words.{wordsFrom, from-all}
+use Rattle.samples.proofs.Judging.{counts-one, next}
+use Rattle.samples.proofs.Turning.{Spreading, spreading-as, spreading-word, spreading-end, passes-few, word-left}
 use Rattle.samples.proofs.turn.spread_words.Statement.{statement}
 use Rattle.samples.proofs.turn.spread_words.Tie as tie
 
 -- a word passes at most 65,536 samples, so that the sample's number stays below 2^32
 abbrev Inv-loop : tie.InvT-loop
-Inv-loop part msb out₀ to number₀ at₀ p₀ out number at p =
+Inv-loop part msb out₀ to end number₀ at₀ p₀ out number at p =
     (p ≤ length part) × (4 * number ≤ 65536 * p)
-    × Spreading false (decode radix (allWords 4 msb part)) (decodeFrom radix number (wordsFrom 4 msb part p)) out₀ to out at
+    × Spreading false (decode radix (allWords 4 msb part)) (decodeFrom radix number (wordsFrom 4 msb part p)) out₀ to end out at
 
 abbrev μ-loop : tie.MeasureT-loop
-μ-loop part msb out₀ to number₀ at₀ p₀ out number at p = length part - p
+μ-loop part msb out₀ to end number₀ at₀ p₀ out number at p = length part - p
 
 loop-holds : tie.Need-loop-holds Inv-loop μ-loop
 loop-holds c =
-    let a = c .before .before .args in (
+    let s = c .before .before in
+    let a = s .args in (
       omega arith,
       omega arith,
-      spreading-as (ap (decodeFrom radix 0) (sym (from-all 4 (a .msb) (a .part .now)))) (record { long = refl; room = c .before .before .pre .1; bytes = refl }),
+      spreading-as (ap (decodeFrom radix 0) (sym (from-all 4 (a .msb) (a .part .now)))) (record { long = refl; ends = sym (s .pre .1 .0); bytes = refl }),
     )
 
--- the sample that a value gives is the next to be written
-value : (c : tie.Else1 Inv-loop μ-loop) →
-    let read = c .before .before in
-    let head = read .before .before in
-    let a = head .before .before .before .args in
-    let l = head .loop in
-    Spreading false (decode radix (allWords 4 (a .msb) (a .part .now))) ((l .number, read .read4 .result) ∷ decodeFrom radix (l .number + 1) (wordsFrom 4 (a .msb) (a .part .now) (l .p + 4)))
-    (a .out .now) (a .to) (l .out) (l .at)
-value c =
-    let run = c .before in
-    let read = run .before in
-    let head = read .before .before in
-    let step = next _ _ _ _ (read .before .loop-test .taken) (read .read4 .ensures) in
-    spreading-as (ap (decodeFrom radix (head .loop .number)) step ∙ decode-value radix (lit< tt) _ _ _ (sym (run .is-run .ensures) ∙ c .if1 .left)) (head .loop .inv .2)
+-- before the end a word is left, and room for its pair
+left : (c : tie.In-loop Inv-loop μ-loop) →
+    let a = c .before .before .before .before .args in
+    let l = c .before .loop in
+    (4 ≤ length (a .part .now) - l .p) × (l .at + 8 ≤ a .end) × (a .end ≤ length (l .out))
+left c =
+    let s = c .before .before .before .before in
+    let l = c .before .loop in
+    let h = l .inv .2 in (
+      word-left (s .args .msb) (s .args .part .now) (l .p) (l .number) (omega (arith, c .loop-test .taken, h .ends)),
+      omega (arith, c .loop-test .taken, h .ends),
+      omega (arith, s .pre .1 .1, h .long),
+    )
 
-add-number : tie.Need-add-number Inv-loop μ-loop
-add-number c = omega (arith, c .run-length .ensures, run-short radix (lit< tt) (c .before .before .before .read4 .result))
-
-put-pair-requires : tie.Need-put-pair-requires Inv-loop μ-loop
-put-pair-requires c κs = let v = value (c .before) in omega (arith, v .room, v .long)
+-- a run passes at most 65,536 samples; behind its word the number is still below 2^32
+few : (c : tie.After-slice-known2 Inv-loop μ-loop) → boolByte (c .before .before .before .before .is-run .result) * (c .before .before .before .before .before .read4 .result % 65536) < 65536
+few c = passes-few (c .before .before .before .before .is-run .result) (c .before .before .before .before .before .read4 .result)
 
 add-at : tie.Need-add-at Inv-loop μ-loop
-add-at c = let v = value (c .before .before .before .before) in omega (arith, v .room, v .long)
+add-at c = omega (arith, counts-one (not (c .before .before .before .before .is-run .result)), left (c .before .before .before .before .before .before) .1, c .before .before .before .before .before .before .before .before .before .before .fits .end)
+
+add-number-2 : tie.Need-add-number-2 Inv-loop μ-loop
+add-number-2 c = omega (arith, few c, left (c .before .before .before .before .before .before) .0, c .before .before .before .before .before .before .before .loop .inv .1, c .before .before .before .before .before .before .before .before .before .before .pre .0)
 
 loop-again : tie.Need-loop-again Inv-loop μ-loop
 loop-again c =
-    let run = c .before in
+    let put = c .before .before in
+    let run = put .before .before in
     let read = run .before in
-    let l = read .before .before .loop in
-    let word = read .read4 .result in
-    let step = next _ _ _ _ (read .before .loop-test .taken) (read .read4 .ensures) in
-    ⊎-elim
-    (λ w.
-    let d = ap (decodeFrom radix (l .number)) step ∙ decode-run radix (lit< tt) _ word _ (sym (run .is-run .ensures) ∙ w .0 .taken) in (
-      omega arith,
-      omega (arith, w .3, w .1 .ensures, run-short radix (lit< tt) word),
-      rw (w .2, w .3, w .4, w .1 .ensures) (spreading-as d (l .inv .2)),
-    ))
-    (λ w. (
-      omega arith,
-      omega (arith, w .6),
-      rw (w .5, w .6, w .7) (spreading-one _ _ (w .2 .ensures) (w .2 .kept .0) (value (record { before = run; if1 = w .0 }))),
-    ))
-    (c .if1 .came)
-
-returns : tie.Need-returns Inv-loop μ-loop
-unfolding decodeFrom
-returns c =
-    let l = c .before .loop in
-    spreading-end (spreading-as (ap (decodeFrom radix (l .number)) (from-end 4 _ _ _ (lit< tt) (omega (arith, c .loop-test .left)))) (l .inv .2))
+    let test = read .before in
+    let l = test .before .loop in
+    let h = left test in
+    let w = read .read4 .result in (
+      omega (arith, h .0),
+      omega (arith, few c, l .inv .1),
+      spreading-word (l .number) w (put .put-pair .ensures) (put .put-pair .kept .0) _ (run .is-run .result) (run .is-run .ensures) (test .loop-test .taken)
+          (spreading-as (ap (decodeFrom radix (l .number)) (next _ _ _ _ (h .0) (read .read4 .ensures))) (l .inv .2)),
+    )
 
 pub spread-words-spec : {M : Type 1} → statement M
 spread-words-spec =
@@ -93,16 +79,18 @@ spread-words-spec =
     Inv-loop
     μ-loop
     loop-holds
+    (λ c κs. omega (arith, left c .0))
+    (λ c κs. search needs)
+    (λ c κs. let h = left (c .before .before .before) in omega (arith, h .1, h .2))
     (λ c. search needs)
-    (λ c κs. search needs)
-    (λ c κs. search needs)
-    (λ c κs. search needs)
-    add-number
-    put-pair-requires
+    (λ c. omega (arith, counts-one (not (c .before .before .before .before .is-run .result))))
     add-at
-    (λ c. omega arith)
     (λ c. search needs)
-    (λ c. search needs)
+    (λ c. omega (arith, few c))
+    (λ c. omega (arith, few c))
+    add-number-2
+    (λ c. omega (arith, left (c .before .before .before .before .before .before) .0, c .before .before .before .before .before .before .before .before .before .before .pre .0))
+    (λ c. omega (arith, left (c .before .before .before .before .before .before) .0))
     loop-again
     (λ c. c .before .loop .inv .2 .long)
-    returns)
+    (λ c. spreading-end (c .loop-test .left) (c .before .loop .inv .2)))
