@@ -1,99 +1,167 @@
-/* Calls the probes for the comparison: an x86-64 program, as the archive is, whatever machine compares. Reads batches from
-   standard input and answers each on standard output. A batch: how many bytes are given, how many are lent and how many
-   numbers tell the calls; then all these. A call: the probe's number, how many arguments, which of them (a bit each) are
-   places in the bytes given and which in those lent, then the arguments. The answer: the lent bytes as the calls left them.
-   It makes system calls of its own, since no C header for x86-64 need be there. */
+/* Calls the archive's exports for the comparison: for x86-64 with the toolchain's C library, or for this machine with its own.
+   Reads batches from standard input and answers each on standard output, until the input ends. A batch: how many bytes are
+   given, how many are lent and how many numbers tell the calls; then all these. A call: the export's number in calls.list, how
+   many arguments, where in the bytes lent the code that it hands back goes, then the arguments. An argument: its kind, then the
+   number, or a slice's place, bytes and entries. The answer: the lent bytes as the calls left them.
+   With any argument each slice is a block of its own, so that a tool that watches the heap sees a step outside of it.
+   What it needs of the C library is declared here, since no C header for x86-64 need be there. */
 
 typedef unsigned long word;
 
-/* The most arguments of a probe; numbers of system calls and what they take. */
-enum { ARGUMENTS = 40, READ = 0, WRITE = 1, MAP = 9, EXIT = 60, READ_WRITE = 3, PRIVATE_ANONYMOUS = 0x22 };
+long read(int descriptor, void *bytes, word count);
+long write(int descriptor, const void *bytes, word count);
+void *malloc(word count);
+void free(void *block);
+void *memcpy(void *to, const void *from, word count);
 
-/* Room for two files of 16 MiB, their outputs and the calls. */
-static const word ROOM = 256ul << 20;
+/* The most words that an export takes, and the most slices of them; the kinds of argument. */
+enum { WORDS = 40, SLICES = 8 };
+enum { NUMBER, GIVEN, LENT };
 
-static long call_system(long number, long a, long b, long c, long d, long e, long f) {
-    long answer;
-    register long r10 __asm__("r10") = d;
-    register long r8 __asm__("r8") = e;
-    register long r9 __asm__("r9") = f;
-    __asm__ volatile("syscall"
-                     : "=a"(answer)
-                     : "a"(number), "D"(a), "S"(b), "d"(c), "r"(r10), "r"(r8), "r"(r9)
-                     : "rcx", "r11", "memory");
-    return answer;
+typedef unsigned char export(word, word, word, word, word, word, word, word, word, word, word, word, word, word, word, word, word,
+                             word, word, word, word, word, word, word, word, word, word, word, word, word, word, word, word, word,
+                             word, word, word, word, word, word);
+
+#define CALL(name, entries) export name;
+#include "calls.list"
+#undef CALL
+#define CALL(name, entries) name,
+static export *const exports[] = {
+#include "calls.list"
+};
+
+/* An export takes as many of the words as it has parameters: by the C convention the others do no harm. */
+static word call(export *e, const word *a) {
+    return e(a[0], a[1], a[2], a[3], a[4], a[5], a[6], a[7], a[8], a[9], a[10], a[11], a[12], a[13], a[14], a[15], a[16], a[17],
+             a[18], a[19], a[20], a[21], a[22], a[23], a[24], a[25], a[26], a[27], a[28], a[29], a[30], a[31], a[32], a[33],
+             a[34], a[35], a[36], a[37], a[38], a[39]);
 }
 
-static void stop(long status) {
-    for (;;) {
-        call_system(EXIT, status, 0, 0, 0, 0, 0);
+/* A batch's memory, and whether slices are blocks of their own. */
+struct batch {
+    char *given, *lent;
+    int apart;
+};
+
+/* A slice: where it lies in the batch's memory, and where the call finds it. */
+struct slice {
+    char *home, *at;
+    word bytes;
+};
+
+/* The words that a call is made with. */
+struct call {
+    word words[WORDS], count;
+    struct slice slices[SLICES];
+    word taken;
+};
+
+/* Takes a slice told by place, bytes and entries; 0 where there is no room for it. */
+static int take_slice(struct call *call, const struct batch *batch, const word *told) {
+    if (call->taken == SLICES || call->count + 2 > WORDS) {
+        return 0;
+    }
+    struct slice *slice = &call->slices[call->taken];
+    slice->home = (told[0] == GIVEN ? batch->given : batch->lent) + told[1];
+    slice->bytes = told[2];
+    slice->at = batch->apart ? malloc(slice->bytes) : slice->home;
+    if (!slice->at) {
+        return 0;
+    }
+    if (batch->apart) {
+        memcpy(slice->at, slice->home, slice->bytes);
+    }
+    call->taken++;
+    call->words[call->count++] = (word)slice->at;
+    call->words[call->count++] = told[3];
+    return 1;
+}
+
+/* Brings what a call left in blocks of their own back. */
+static void give_back(struct call *call, const struct batch *batch) {
+    for (word i = 0; batch->apart && i < call->taken; i++) {
+        struct slice *slice = &call->slices[i];
+        memcpy(slice->home, slice->at, slice->bytes);
+        free(slice->at);
     }
 }
 
-/* Moves all bytes or ends the program: at the end of the input, in order. */
-static void move_all(long number, long descriptor, char *bytes, word count) {
-    while (count > 0) {
-        long moved = call_system(number, descriptor, (long)bytes, (long)count, 0, 0, 0);
+/* Makes the call told at a place and gives the place behind it; 0 where it can't be made. */
+static const word *call_next(const word *told, const struct batch *batch) {
+    struct call made = {0};
+    word which = told[0], count = told[1], code = told[2];
+    told += 3;
+    if (which >= sizeof exports / sizeof *exports) {
+        return 0;
+    }
+    for (word i = 0; i < count; i++) {
+        if (told[0] != NUMBER) {
+            if (!take_slice(&made, batch, told)) {
+                return 0;
+            }
+            told += 4;
+        } else if (made.count < WORDS) {
+            made.words[made.count++] = told[1];
+            told += 2;
+        } else {
+            return 0;
+        }
+    }
+    word answered = call(exports[which], made.words);
+    give_back(&made, batch);
+    memcpy(batch->lent + code, &answered, sizeof answered);
+    return told;
+}
+
+/* Reads so many bytes, or fewer where the input ends before. */
+static word read_all(void *bytes, word count) {
+    word done = 0;
+    while (done < count) {
+        long moved = read(0, (char *)bytes + done, count - done);
         if (moved <= 0) {
-            stop(moved == 0 ? 0 : 1);
+            break;
+        }
+        done += (word)moved;
+    }
+    return done;
+}
+
+static int write_all(const char *bytes, word count) {
+    while (count > 0) {
+        long moved = write(1, bytes, count);
+        if (moved <= 0) {
+            return 0;
         }
         bytes += moved;
         count -= (word)moved;
     }
+    return 1;
 }
 
-typedef void probe(word, word, word, word, word, word, word, word, word, word, word, word, word, word, word, word, word, word,
-                   word, word, word, word, word, word, word, word, word, word, word, word, word, word, word, word, word, word,
-                   word, word, word, word);
-
-#define PROBE(name) probe probe_##name;
-#include "probes.list"
-#undef PROBE
-#define PROBE(name) probe_##name,
-static probe *const probes[] = {
-#include "probes.list"
-};
-
-/* A probe takes as many of the arguments as it has parameters: by the C convention the others do no harm. */
-static void call(probe *p, const word *a) {
-    p(a[0], a[1], a[2], a[3], a[4], a[5], a[6], a[7], a[8], a[9], a[10], a[11], a[12], a[13], a[14], a[15], a[16], a[17],
-      a[18], a[19], a[20], a[21], a[22], a[23], a[24], a[25], a[26], a[27], a[28], a[29], a[30], a[31], a[32], a[33], a[34],
-      a[35], a[36], a[37], a[38], a[39]);
+/* Reads a batch's bytes into its memory, makes its calls and answers; 0 where one of these fails. */
+static int run_batch(char *memory, const word *head, int apart) {
+    word given = head[0], lent = head[1], numbers = head[2];
+    word total = given + lent + numbers * sizeof(word);
+    if (read_all(memory, total) != total) {
+        return 0;
+    }
+    struct batch batch = {memory, memory + given, apart};
+    const word *told = (const word *)(memory + given + lent), *end = told + numbers;
+    while (told && told < end) {
+        told = call_next(told, &batch);
+    }
+    return told && write_all(batch.lent, lent);
 }
 
-/* Makes the call told at a place and gives the place behind it. */
-static const word *call_next(const word *told, const char *given, const char *lent) {
-    word arguments[ARGUMENTS] = {0};
-    word which = told[0], count = told[1];
-    if (which >= sizeof probes / sizeof *probes || count > ARGUMENTS) {
-        stop(1);
-    }
-    for (word i = 0; i < count; i++) {
-        word base = told[2] >> i & 1 ? (word)given : told[3] >> i & 1 ? (word)lent : 0;
-        arguments[i] = base + told[4 + i];
-    }
-    call(probes[which], arguments);
-    return told + 4 + count;
-}
-
-int main(void) {
-    long place = call_system(MAP, 0, (long)ROOM, READ_WRITE, PRIVATE_ANONYMOUS, -1, 0);
-    if (place < 0) {
-        stop(1);
-    }
-    char *memory = (char *)place;
-    for (;;) {
-        word head[3];
-        move_all(READ, 0, (char *)head, sizeof head);
-        word given = head[0], lent = head[1], bytes = 8 * head[2];
-        if (given > ROOM || lent > ROOM || bytes > ROOM || given + lent + bytes > ROOM) {
-            stop(1);
+int main(int arguments, char **told) {
+    word head[3], had;
+    (void)told;
+    while ((had = read_all(head, sizeof head)) == sizeof head) {
+        char *memory = malloc(head[0] + head[1] + head[2] * sizeof(word));
+        if (!memory || !run_batch(memory, head, arguments > 1)) {
+            return 1;
         }
-        move_all(READ, 0, memory, given + lent + bytes);
-        const word *told = (const word *)(memory + given + lent), *end = told + head[2];
-        while (told < end) {
-            told = call_next(told, memory, memory + given);
-        }
-        move_all(WRITE, 1, memory + given, lent);
+        free(memory);
     }
+    return had != 0;
 }

@@ -1,9 +1,11 @@
 //! What is compared of a file: the check, the walks, every reader at many
 //! places, and the normal form.
 
-use crate::batch::{probe, Arg, Batch, File, Numbers};
-use crate::records::{kinds, numbers, Field, Kind};
+use crate::batch::{four, Arg, Batch, File, FILL};
+use crate::exports::{Export, CALLS};
+use crate::records::{header_numbers, reply_numbers, Field, KINDS};
 use second::gen::{Case, Rng};
+use second::layout::{FILE_LIMIT, VALUE_LIMIT};
 use second::programs::normalise_tuple;
 use second::records::{Ping, PingKind};
 use second::samples::read_samples;
@@ -17,8 +19,15 @@ const SMALL: usize = 4096;
 /// The most bytes of a file whose tuples are normalised alone, too.
 const LARGE: usize = 1 << 20;
 
-/// Asking looks at about so many bytes of one file, or asks three times.
+/// Asking looks at about so many bytes of one file, or asks so many times.
 const ASKED_BYTES: usize = 1 << 19;
+const ASKED_LEAST: usize = 3;
+
+/// The place of a file's first tuple.
+const FIRST: u64 = 4;
+
+/// So far from a tuple's place of a longer file it is read, too.
+const BESIDE: [u64; 10] = [0, 1, 2, 3, 4, 6, 8, 12, 16, 20];
 
 /// Places past the end of a file.
 const PAST: u64 = 8;
@@ -35,182 +44,146 @@ const HUGE: [u64; 8] = [
 ];
 
 /// The most bytes of a normal form, and some more.
-const ROOM: usize = 16_777_216 + 64;
+const ROOM: usize = FILE_LIMIT as usize + 64;
 
-/// What lent entries hold before a call.
-const NUMBER: u32 = 0xA5A5_A5A5;
+/// A normal form is lent so many bytes more than needed; where there is none,
+/// up to so many.
+const SPARE: usize = 9;
+const REFUSED_LENGTHS: usize = 200;
+
+/// A tuple is damaged in its mark, head or first fields: so many bytes.
+const DAMAGED: usize = 48;
+
+/// The code of a place where no ping starts.
+const OTHER_TYPE: u64 = 9;
+
+/// The bytes of a sample number, and of a value.
+pub const WORD: usize = 4;
+
+/// What entries for samples hold before a call.
+const NUMBER: u32 = u32::from_ne_bytes([FILL; 4]);
 const VALUE: i32 = NUMBER as i32;
-
-pub struct Probes {
-    check: usize,
-    forward: usize,
-    backward: usize,
-    ask: usize,
-    samples: usize,
-    ping: usize,
-    normalise: usize,
-    normalise_tuple: usize,
-    pub kinds: Vec<Kind>,
-}
-
-impl Probes {
-    pub fn new() -> Probes {
-        Probes {
-            check: probe("check"),
-            forward: probe("forward"),
-            backward: probe("backward"),
-            ask: probe("ask"),
-            samples: probe("read_samples"),
-            ping: probe("read_ping"),
-            normalise: probe("normalise"),
-            normalise_tuple: probe("normalise_tuple"),
-            kinds: kinds(),
-        }
-    }
-}
 
 type Writer = fn(&[u8], &mut [u8]) -> Answer;
 
-fn step_numbers(step: Step) -> (u64, Numbers) {
+/// A step is told as an answer: 1 tuple and where it is, or 0 at the end.
+fn step_numbers(step: Step) -> Vec<u64> {
     match step {
         Step::Tuple { tuple, next } => {
-            let numbers = [0, tuple.place, tuple.length, tuple.code.into(), next];
-            (0, Numbers::of(&numbers))
+            let mut numbers = four(Answer::accepted(1, 0));
+            numbers.extend([tuple.place, tuple.length, tuple.code.into(), next]);
+            numbers
         }
-        Step::End => (0, Numbers::of(&[1])),
-        Step::Refused(answer) => {
-            let code = answer.code.into();
-            (code, Numbers::of(&[2, code, answer.place]))
-        }
+        Step::End => four(Answer::accepted(0, 0)),
+        Step::Refused(answer) => four(answer),
     }
 }
 
-fn ask_numbers(file: &[u8], place: u64) -> (u64, Numbers) {
-    match parents(file, place) {
-        Ok((answer, found)) => {
-            let mut numbers = Numbers::answer(answer);
-            numbers.push(found.channel.0.into());
-            numbers.push(found.channel_place);
-            numbers.push(found.sounder.0.into());
-            numbers.push(found.sounder_place);
-            (0, numbers)
-        }
-        Err(answer) => (answer.code.into(), Numbers::answer(answer)),
-    }
+fn ask_numbers(file: &[u8], place: u64) -> Vec<u64> {
+    reply_numbers(parents(file, place), |found| {
+        let (channel, sounder) = (found.channel.number(), found.sounder.number());
+        vec![channel, found.channel_place, sounder, found.sounder_place]
+    })
 }
 
 /// A ping's header, attribute, kind and number of values.
-pub fn ping_numbers(file: &[u8], place: u64) -> (u64, Numbers) {
-    numbers(Ping::read(file, place), |numbers, ping| {
-        let header = ping.header;
-        numbers.push(header.time_fraction.number());
-        numbers.push(header.time_cpu_ansi_c_standard_time.number());
-        numbers.push(header.software_channel_identifier.number());
-        numbers.push(header.transmitter_mode.number());
-        numbers.push(header.ping_number.number());
-        numbers.push(header.detected_bottom_range.number());
-        numbers.push(ping.tuple_attribute.number());
-        numbers.push(match ping.kind {
+pub fn ping_numbers(file: &[u8], place: u64) -> Vec<u64> {
+    reply_numbers(Ping::read(file, place), |ping| {
+        let mut numbers = header_numbers(&ping.header, ping.tuple_attribute);
+        let kind = match ping.kind {
             PingKind::U32 => 0,
             PingKind::C32 => 1,
-        });
-        numbers.push(ping.values.into());
+        };
+        numbers.extend([kind, ping.values.into()]);
+        numbers
     })
+}
+
+/// A call at a place of a file, the second program's numbers beside it.
+fn call_at(batch: &mut Batch, export: Export, file: &mut File, place: u64, numbers: &[u64]) {
+    let given = batch.file(file);
+    batch.call(export, &[given.into(), place.into()], numbers);
 }
 
 /// The check, both walks, fields and samples of each ping, the parents of the
 /// first and the last, and the normal form. Gives that, where there is one.
-pub fn compare_whole(
-    batch: &mut Batch,
-    probes: &Probes,
-    case: &Case,
-    scratch: &mut Vec<u8>,
-) -> io::Result<Option<Vec<u8>>> {
+pub fn compare_whole(batch: &mut Batch, case: &Case) -> io::Result<Option<Vec<u8>>> {
     let mut file = File::new(&case.bytes);
-    check_file(batch, probes, &mut file, case.expected);
-    let tuples = walk_both(batch, probes, &mut file)?;
+    check_file(batch, &mut file, case.expected);
+    let tuples = walk_both(batch, &mut file)?;
     let mut pings = Vec::new();
     for place in tuples {
-        if ping_at(batch, probes, &mut file, place) != 9 {
+        if ping_at(batch, &mut file, place) != OTHER_TYPE {
             let lent = (place as usize % 11, place as usize % 13);
-            samples_at(batch, probes, &mut file, place, lent);
+            samples_at(batch, &mut file, place, lent);
             pings.push(place);
         }
     }
     for place in pings.first().into_iter().chain(pings.last()) {
-        ask_at(batch, probes, &mut file, *place);
+        ask_at(batch, &mut file, *place);
     }
-    compare_normal(batch, probes.normalise, normalise, &mut file, scratch)
+    compare_normal(batch, CALLS.normalise, normalise, &mut file)
 }
 
 /// All comparisons of a file. Gives its normal form, where it has one.
-pub fn compare_file(
-    batch: &mut Batch,
-    probes: &Probes,
-    case: &Case,
-    rng: &mut Rng,
-    scratch: &mut Vec<u8>,
-) -> io::Result<Option<Vec<u8>>> {
+pub fn compare_file(batch: &mut Batch, case: &Case, rng: &mut Rng) -> io::Result<Option<Vec<u8>>> {
     let mut file = File::new(&case.bytes);
-    check_file(batch, probes, &mut file, case.expected);
-    let tuples = walk_both(batch, probes, &mut file)?;
+    check_file(batch, &mut file, case.expected);
+    let tuples = walk_both(batch, &mut file)?;
     let places = places(file.bytes, &tuples);
     for place in &places {
-        read_at(batch, probes, &mut file, *place);
+        read_at(batch, &mut file, *place);
         batch.rest()?;
     }
     for place in asked(&places, &tuples, &file) {
-        ask_at(batch, probes, &mut file, place);
+        ask_at(batch, &mut file, place);
         batch.rest()?;
     }
     for place in &tuples {
-        lend_samples(batch, probes, &mut file, *place)?;
+        lend_samples(batch, &mut file, *place)?;
     }
     if file.bytes.len() <= LARGE {
-        each_tuple(batch, probes, &mut file, &tuples, rng)?;
+        each_tuple(batch, &file, &tuples, rng)?;
     }
-    compare_normal(batch, probes.normalise, normalise, &mut file, scratch)
+    compare_normal(batch, CALLS.normalise, normalise, &mut file)
 }
 
 /// The check, held also to what the making of the case tells.
-fn check_file(batch: &mut Batch, probes: &Probes, file: &mut File, told: Option<(u32, u64)>) {
+fn check_file(batch: &mut Batch, file: &mut File, told: Option<(u32, u64)>) {
     let answer = check(file.bytes);
     if told.is_some_and(|told| told != (answer.code, answer.place)) {
         batch.differ("the making of the case tells another answer of the check");
     }
     let given = batch.file(file);
-    let numbers = Numbers::answer(answer);
-    batch.call(probes.check, answer.code.into(), &[given], &numbers);
+    batch.call(CALLS.check, &[given.into()], &four(answer));
 }
 
 /// Both walks all through. Gives the places of the tuples found forward.
-fn walk_both(batch: &mut Batch, probes: &Probes, file: &mut File) -> io::Result<Vec<u64>> {
+fn walk_both(batch: &mut Batch, file: &mut File) -> io::Result<Vec<u64>> {
     let mut tuples = Vec::new();
-    let mut at = 4;
-    while let Step::Tuple { next, .. } = step_at(batch, probes.forward, forward, file, at) {
+    let mut at = FIRST;
+    while let Step::Tuple { next, .. } = forward_at(batch, file, at) {
         tuples.push(at);
         at = next;
         batch.rest()?;
     }
     at = file.bytes.len() as u64;
-    while let Step::Tuple { next, .. } = step_at(batch, probes.backward, backward, file, at) {
+    while let Step::Tuple { next, .. } = backward_at(batch, file, at) {
         at = next;
         batch.rest()?;
     }
     Ok(tuples)
 }
 
-fn step_at(
-    batch: &mut Batch,
-    probe: usize,
-    step: fn(&[u8], u64) -> Step,
-    file: &mut File,
-    place: u64,
-) -> Step {
-    let step = step(file.bytes, place);
-    let (code, numbers) = step_numbers(step);
-    let given = batch.file(file);
-    batch.call(probe, code, &[given, Arg::Number(place)], &numbers);
+fn forward_at(batch: &mut Batch, file: &mut File, place: u64) -> Step {
+    let step = forward(file.bytes, place);
+    call_at(batch, CALLS.forward, file, place, &step_numbers(step));
+    step
+}
+
+fn backward_at(batch: &mut Batch, file: &mut File, place: u64) -> Step {
+    let step = backward(file.bytes, place);
+    call_at(batch, CALLS.backward, file, place, &step_numbers(step));
     step
 }
 
@@ -222,8 +195,8 @@ fn places(file: &[u8], tuples: &[u64]) -> Vec<u64> {
         places.extend(0..=end + PAST);
         return places;
     }
-    for at in tuples.iter().copied().chain([0, 4, end]) {
-        for beside in [0, 1, 2, 3, 4, 6, 8, 12, 16, 20] {
+    for at in tuples.iter().copied().chain([0, FIRST, end]) {
+        for beside in BESIDE {
             places.push(at + beside);
             places.push(at.saturating_sub(beside));
         }
@@ -240,77 +213,63 @@ fn asked(places: &[u64], tuples: &[u64], file: &File) -> Vec<u64> {
     if file.bytes.len() <= SMALL {
         return places.to_vec();
     }
-    let most = (ASKED_BYTES / file.bytes.len().max(1)).max(3);
+    let most = (ASKED_BYTES / file.bytes.len()).max(ASKED_LEAST);
     let mut asked = tuples.to_vec();
-    asked.extend([0, 4, 5, end, end + 1, u64::MAX]);
+    asked.extend([0, FIRST, FIRST + 1, end, end + 1, u64::MAX]);
     let apart = asked.len().div_ceil(most);
     asked.into_iter().rev().step_by(apart).collect()
 }
 
 /// Steps, samples, ping fields and every record reader at a place.
-fn read_at(batch: &mut Batch, probes: &Probes, file: &mut File, place: u64) {
-    step_at(batch, probes.forward, forward, file, place);
-    step_at(batch, probes.backward, backward, file, place);
+fn read_at(batch: &mut Batch, file: &mut File, place: u64) {
+    forward_at(batch, file, place);
+    backward_at(batch, file, place);
     let lent = (place as usize % 7, place as usize / 7 % 5);
-    samples_at(batch, probes, file, place, lent);
-    ping_at(batch, probes, file, place);
-    for kind in &probes.kinds {
-        let (code, numbers) = (kind.read)(file.bytes, place);
-        let given = batch.file(file);
-        batch.call(kind.reader, code, &[given, Arg::Number(place)], &numbers);
+    samples_at(batch, file, place, lent);
+    ping_at(batch, file, place);
+    for kind in KINDS.iter() {
+        let numbers = (kind.read)(file.bytes, place);
+        call_at(batch, kind.reader, file, place, &numbers);
     }
 }
 
 /// A ping's fields at a place; gives the code.
-pub fn ping_at(batch: &mut Batch, probes: &Probes, file: &mut File, place: u64) -> u64 {
-    let (code, numbers) = ping_numbers(file.bytes, place);
-    let given = batch.file(file);
-    batch.call(probes.ping, code, &[given, Arg::Number(place)], &numbers);
-    code
+pub fn ping_at(batch: &mut Batch, file: &mut File, place: u64) -> u64 {
+    let numbers = ping_numbers(file.bytes, place);
+    call_at(batch, CALLS.read_ping, file, place, &numbers);
+    numbers[0]
 }
 
-fn ask_at(batch: &mut Batch, probes: &Probes, file: &mut File, place: u64) {
-    let (code, numbers) = ask_numbers(file.bytes, place);
-    let given = batch.file(file);
-    batch.call(probes.ask, code, &[given, Arg::Number(place)], &numbers);
+fn ask_at(batch: &mut Batch, file: &mut File, place: u64) {
+    let numbers = ask_numbers(file.bytes, place);
+    call_at(batch, CALLS.ask, file, place, &numbers);
 }
 
 /// The samples at a place, into so many entries.
-fn samples_at(
-    batch: &mut Batch,
-    probes: &Probes,
-    file: &mut File,
-    place: u64,
-    lent: (usize, usize),
-) -> Answer {
+fn samples_at(batch: &mut Batch, file: &mut File, place: u64, lent: (usize, usize)) {
     let (mut numbers, mut values) = (vec![NUMBER; lent.0], vec![VALUE; lent.1]);
     let answer = read_samples(file.bytes, place, &mut numbers, &mut values);
     let given = batch.file(file);
-    let (of_numbers, of_values) = (batch.lend(4 * lent.0), batch.lend(4 * lent.1));
-    let slots = batch.expected(&of_numbers).chunks_exact_mut(4);
-    for (slot, number) in slots.zip(&numbers) {
-        slot.copy_from_slice(&number.to_le_bytes());
+    let of_numbers = lend_words(batch, numbers.into_iter());
+    let of_values = lend_words(batch, values.into_iter().map(|value| value as u32));
+    let arguments = [given.into(), place.into(), of_numbers, of_values];
+    batch.call(CALLS.read_samples, &arguments, &four(answer));
+}
+
+/// Lends entries of four bytes, which the second program left like this.
+fn lend_words(batch: &mut Batch, left: impl ExactSizeIterator<Item = u32>) -> Arg {
+    let lent = batch.lend(WORD * left.len());
+    let slots = batch.expected(&lent).chunks_exact_mut(WORD);
+    for (slot, word) in slots.zip(left) {
+        slot.copy_from_slice(&word.to_le_bytes());
     }
-    let slots = batch.expected(&of_values).chunks_exact_mut(4);
-    for (slot, value) in slots.zip(&values) {
-        slot.copy_from_slice(&value.to_le_bytes());
-    }
-    let arguments = [given, Arg::Number(place), of_numbers.of(4), of_values.of(4)];
-    let told = Numbers::answer(answer);
-    batch.call(probes.samples, answer.code.into(), &arguments, &told);
-    answer
+    lent.of(WORD).into()
 }
 
 /// The samples of a tuple into entries that just suffice, that are one short
 /// on either side, and more than needed.
-pub fn lend_samples(
-    batch: &mut Batch,
-    probes: &Probes,
-    file: &mut File,
-    place: u64,
-) -> io::Result<()> {
-    // No ping has more.
-    let most = 32_764;
+pub fn lend_samples(batch: &mut Batch, file: &mut File, place: u64) -> io::Result<()> {
+    let most = VALUE_LIMIT as usize;
     let mut room = (vec![0; most], vec![0; most]);
     let answer = read_samples(file.bytes, place, &mut room.0, &mut room.1);
     if !answer.is_accepted() {
@@ -319,50 +278,43 @@ pub fn lend_samples(
     let n = answer.length as usize;
     let short = n.saturating_sub(1);
     for lent in [(n, n), (short, n), (n, short), (n + 3, n + 5)] {
-        samples_at(batch, probes, file, place, lent);
+        samples_at(batch, file, place, lent);
         batch.rest()?;
     }
     Ok(())
 }
 
-/// A writer of normal forms, lent just enough, one byte less, and more.
+/// A writer of normal forms, lent just enough, one byte less, more and none.
+/// Gives the normal form, where there is one and it isn't long.
 fn compare_normal(
     batch: &mut Batch,
-    probe: usize,
+    export: Export,
     writer: Writer,
     file: &mut File,
-    scratch: &mut Vec<u8>,
 ) -> io::Result<Option<Vec<u8>>> {
-    scratch.resize(ROOM, 0);
-    let whole = writer(file.bytes, scratch);
+    batch.scratch.resize(ROOM, 0);
+    let whole = writer(file.bytes, &mut batch.scratch);
     let n = whole.length as usize;
+    let normal = (n > 0 && n < LARGE).then(|| batch.scratch[..n].to_vec());
     let lengths = if whole.is_accepted() {
-        vec![n, n - 1, n + 9, 0]
+        vec![n, n - 1, n + SPARE, 0]
     } else {
-        vec![file.bytes.len() % 200, 0]
+        vec![file.bytes.len() % REFUSED_LENGTHS, 0]
     };
     for length in lengths {
         let given = batch.file(file);
         let out = batch.lend(length);
         let answer = writer(file.bytes, batch.expected(&out));
-        let told = Numbers::answer(answer);
-        batch.call(probe, answer.code.into(), &[given, out], &told);
+        batch.call(export, &[given.into(), out.into()], &four(answer));
         batch.rest()?;
     }
-    let kept = n > 0 && n < 1 << 20;
-    Ok(kept.then(|| scratch[..n].to_vec()))
+    Ok(normal)
 }
 
 /// A mark and one tuple, for each tuple of a file: as it stands, damaged, cut
 /// short and with bytes behind it; and the file itself.
-fn each_tuple(
-    batch: &mut Batch,
-    probes: &Probes,
-    file: &mut File,
-    tuples: &[u64],
-    rng: &mut Rng,
-) -> io::Result<()> {
-    one_tuple(batch, probes, file.bytes)?;
+fn each_tuple(batch: &mut Batch, file: &File, tuples: &[u64], rng: &mut Rng) -> io::Result<()> {
+    one_tuple(batch, file.bytes)?;
     let Some(order) = Order::of(file.bytes) else {
         return Ok(());
     };
@@ -371,21 +323,21 @@ fn each_tuple(
             continue;
         };
         let alone = [&order.mark()[..], tuple.bytes(file.bytes)].concat();
-        one_tuple(batch, probes, &alone)?;
+        one_tuple(batch, &alone)?;
         for _ in 0..2 {
             let mut damaged = alone.clone();
-            let at = rng.index(damaged.len().min(48));
+            let at = rng.index(damaged.len().min(DAMAGED));
             damaged[at] ^= 1 << rng.below(8);
-            one_tuple(batch, probes, &damaged)?;
+            one_tuple(batch, &damaged)?;
         }
         let mut more = alone.clone();
         more.extend(rng.bytes(1));
-        one_tuple(batch, probes, &more)?;
+        one_tuple(batch, &more)?;
         let cut = rng.index(alone.len());
-        one_tuple(batch, probes, &alone[..cut])?;
+        one_tuple(batch, &alone[..cut])?;
         // The other mark: the tuple's numbers are turned.
         let turned = [&turned(order).mark()[..], tuple.bytes(file.bytes)].concat();
-        one_tuple(batch, probes, &turned)?;
+        one_tuple(batch, &turned)?;
     }
     Ok(())
 }
@@ -397,25 +349,8 @@ fn turned(order: Order) -> Order {
     }
 }
 
-fn one_tuple(batch: &mut Batch, probes: &Probes, bytes: &[u8]) -> io::Result<()> {
-    // A C-32 word becomes a pair, so this is enough.
-    let mut room = vec![0; 2 * bytes.len() + 64];
-    let whole = normalise_tuple(bytes, &mut room);
-    let n = whole.length as usize;
+fn one_tuple(batch: &mut Batch, bytes: &[u8]) -> io::Result<()> {
     let mut file = File::new(bytes);
-    let lengths: &[usize] = if whole.is_accepted() {
-        &[n, n - 1, n + 9]
-    } else {
-        &[bytes.len()]
-    };
-    for length in lengths {
-        let given = batch.file(&mut file);
-        let out = batch.lend(*length);
-        let answer = normalise_tuple(bytes, batch.expected(&out));
-        let told = Numbers::answer(answer);
-        let probe = probes.normalise_tuple;
-        batch.call(probe, answer.code.into(), &[given, out], &told);
-    }
-    batch.rest()?;
+    compare_normal(batch, CALLS.normalise_tuple, normalise_tuple, &mut file)?;
     Ok(())
 }

@@ -1,211 +1,117 @@
-//! Compares every public call of the proved library with the second program,
-//! on the cases of a seed: `compare SEED COUNT RUNNER..`, the last being the
-//! command that starts the runner. Ends with status 1 where two answers, or a
-//! byte of lent memory, differ, where a code from 1 to 22 was never given and
-//! where a call was never accepted.
+//! Compares every export of the archive with the second program, on the cases
+//! of a seed: `compare SEED CASES RUNNER..`, the last being the command that
+//! starts the runner. Ends with status 1 where a code handed back, an entry
+//! or a byte of lent memory differs, where the runner ends with a fault and,
+//! of cases enough, where something that must be met was not.
 
 mod batch;
+mod cases;
+mod exports;
 mod files;
-mod programs;
+mod lists;
 mod records;
+mod runner;
 mod tally;
 mod writers;
 
-use batch::{Batch, Runner};
-use files::{compare_file, compare_whole, Probes};
-use programs::compare_lines;
-use second::gen::{file_case, Rng};
+use batch::Batch;
+use cases::{compare_cases, complete, full_cases};
+use runner::Runner;
 use std::sync::atomic::{AtomicU64, Ordering};
 use std::time::Instant;
 use std::{env, io, process, thread};
 use tally::Tally;
-use writers::*;
 
-/// Record and ping writers are tried so many times a case.
-const WRITES: u64 = 8;
-
-/// The two programs are tried on so many texts a case.
-const TEXTS: u64 = 4;
-
-/// Behind each case that is compared in full come so many of which only the
-/// check, the walks, the pings and the normal form are.
-const LIGHT: u64 = 40;
-
-/// The numbers of the writers' cases lie apart from the generator's.
-const WRITERS: u64 = 0x5EC0_4D57_0817_E455;
-
+/// What the workers share: the cases that are compared in full are dealt out.
 struct Job<'a> {
     seed: u64,
-    count: u64,
-    next: &'a AtomicU64,
+    full: u64,
+    next: AtomicU64,
     command: &'a [String],
 }
 
+/// What a worker found, and the first difference.
+type Found = (Tally, Option<String>);
+
 /// One worker, with a runner of its own.
-fn work(job: &Job) -> io::Result<(Tally, Option<String>)> {
+fn work(job: &Job) -> io::Result<Found> {
     let mut batch = Batch::new(Runner::start(job.command)?);
-    let probes = Probes::new();
-    let mut scratch = Vec::new();
-    loop {
+    while batch.difference.is_none() {
         let nth = job.next.fetch_add(1, Ordering::Relaxed);
-        if nth >= job.count || batch.difference.is_some() {
+        if nth >= job.full {
             break;
         }
-        if let Err(error) = compare_cases(&mut batch, &probes, job, nth, &mut scratch) {
+        if let Err(error) = compare_cases(&mut batch, job.seed, nth, job.full) {
             batch.differ(&format!("the runner broke off: {error}"));
         }
     }
+    batch.finish();
     if batch.difference.is_some() {
         // the others stop too
-        job.next.store(job.count, Ordering::Relaxed);
+        job.next.store(job.full, Ordering::Relaxed);
     }
-    Ok((batch.tally, batch.difference))
+    Ok((batch.total, batch.difference))
 }
 
-/// A case in full, and the light ones behind it.
-fn compare_cases(
-    batch: &mut Batch,
-    probes: &Probes,
-    job: &Job,
-    nth: u64,
-    scratch: &mut Vec<u8>,
-) -> io::Result<()> {
-    full_case(batch, probes, job.seed, nth, scratch)?;
-    let first = job.count + LIGHT * nth;
-    for index in first..first + LIGHT {
-        light_case(batch, probes, job.seed, index, scratch)?;
-    }
-    batch.run()
-}
-
-/// The files of a case, and every writer.
-fn full_case(
-    batch: &mut Batch,
-    probes: &Probes,
-    seed: u64,
-    index: u64,
-    scratch: &mut Vec<u8>,
-) -> io::Result<()> {
-    let mut rng = Rng::of_case(seed ^ WRITERS, index);
-    let mut normal = Vec::new();
-    for case in file_case(seed, index) {
-        batch.start(
-            format!("seed {seed}, case {index}, {}", case.name),
-            &case.bytes,
-        );
-        normal.push(compare_file(batch, probes, &case, &mut rng, scratch)?);
-        batch.run()?;
-    }
-    compare_pair(batch, index, &normal);
-    batch.about = format!("seed {seed}, case {index}, writers");
-    for _ in 0..WRITES {
-        compare_records(batch, probes, &mut rng, scratch)?;
-        compare_pings(batch, probes, &mut rng, scratch)?;
-    }
-    batch.run()?;
-    batch.about = format!("seed {seed}, case {index}, texts");
-    for nth in TEXTS * index..TEXTS * (index + 1) {
-        compare_lines(batch, seed, nth)?;
-    }
-    batch.run()?;
-    batch.about = format!("seed {seed}, case {index}, long writers");
-    if index.is_multiple_of(16) {
-        compare_long_texts(batch, probes, &mut rng, scratch)?;
-        compare_limit_pings(batch, probes, index / 16, &mut rng, scratch)?;
-    }
-    batch.run()
-}
-
-/// The files of a case by few calls. The limit cases, which come again and
-/// again and are long, are left out.
-fn light_case(
-    batch: &mut Batch,
-    probes: &Probes,
-    seed: u64,
-    index: u64,
-    scratch: &mut Vec<u8>,
-) -> io::Result<()> {
-    if index % 16 == 13 {
-        return Ok(());
-    }
-    let mut normal = Vec::new();
-    for case in file_case(seed, index) {
-        batch.start(
-            format!("seed {seed}, case {index}, {}", case.name),
-            &case.bytes,
-        );
-        normal.push(compare_whole(batch, probes, &case, scratch)?);
-        batch.run()?;
-    }
-    compare_pair(batch, index, &normal);
-    Ok(())
-}
-
-/// The two files of a pair of equal content have one normal form; those of a
-/// pair of other contents haven't.
-fn compare_pair(batch: &mut Batch, index: u64, normal: &[Option<Vec<u8>>]) {
-    let [Some(one), Some(other)] = normal else {
-        if index % 16 >= 14 {
-            batch.differ("a file of a pair without a normal form");
-        }
-        return;
-    };
-    match index % 16 {
-        14 if one != other => batch.differ("files of equal content with other normal forms"),
-        15 if one == other => batch.differ("files of other contents with one normal form"),
-        _ => {}
-    }
-}
-
-fn main() -> io::Result<()> {
-    let arguments: Vec<String> = env::args().skip(1).collect();
-    let numbers = |at: usize| arguments.get(at).and_then(|word| word.parse().ok());
-    let (Some(seed), Some(count), Some(command)) = (numbers(0), numbers(1), arguments.get(2..))
-    else {
-        eprintln!("usage: compare SEED COUNT RUNNER..");
-        process::exit(2)
-    };
-    let began = Instant::now();
-    let job = Job {
-        seed,
-        count,
-        next: &AtomicU64::new(0),
-        command,
-    };
+/// As many workers as there are cores.
+fn work_all(job: &Job) -> io::Result<Vec<Found>> {
     let workers = thread::available_parallelism().map_or(1, usize::from);
-    let results = thread::scope(|scope| {
-        let workers: Vec<_> = (0..workers).map(|_| scope.spawn(|| work(&job))).collect();
-        let join = |worker: thread::ScopedJoinHandle<'_, _>| {
+    thread::scope(|scope| {
+        let workers: Vec<_> = (0..workers).map(|_| scope.spawn(|| work(job))).collect();
+        let ended = workers.into_iter().map(|worker| {
             let ended = worker.join();
             ended.unwrap_or_else(|_| Err(io::Error::other("a worker panicked")))
-        };
-        workers
-            .into_iter()
-            .map(join)
-            .collect::<io::Result<Vec<_>>>()
-    })?;
+        });
+        ended.collect()
+    })
+}
+
+/// Prints what was found; says whether it is as it must be.
+fn report(job: &Job, found: &[Found], seconds: u64) -> bool {
     let mut tally = Tally::default();
     let mut same = true;
-    for (part, difference) in &results {
+    for (part, difference) in found {
         tally.add(part);
         if let Some(difference) = difference {
             same = false;
             println!("compare: DIFFERENT: {difference}");
         }
     }
+    let verdict = if same { "the same" } else { "DIFFERENT" };
+    let (seed, told) = (job.seed, tally.tell());
+    println!("compare: seed {seed}, {verdict} ({seconds} s), {told}");
     let missing = tally.missing();
-    println!(
-        "compare: seed {seed}, {} files, {} bytes, {} calls, {} ({} s); calls: {}; codes: {}",
-        tally.files,
-        tally.bytes,
-        tally.calls(),
-        if same { "the same" } else { "DIFFERENT" },
-        began.elapsed().as_secs(),
-        tally.by_kind(),
-        tally.by_code(),
-    );
     for missing in &missing {
         println!("compare: {missing}");
     }
-    process::exit(i32::from(!same || !missing.is_empty()))
+    let enough = job.full >= complete();
+    if !enough && !missing.is_empty() {
+        println!("compare: that is no failure, for too few cases were asked for");
+    }
+    same && (missing.is_empty() || !enough)
+}
+
+fn main() -> io::Result<()> {
+    let arguments: Vec<String> = env::args().skip(1).collect();
+    let [seed, cases, command @ ..] = &arguments[..] else {
+        usage()
+    };
+    let (Ok(seed), Ok(cases)) = (seed.parse(), cases.parse()) else {
+        usage()
+    };
+    let job = Job {
+        seed,
+        full: full_cases(cases),
+        next: AtomicU64::new(0),
+        command,
+    };
+    let began = Instant::now();
+    let found = work_all(&job)?;
+    let good = report(&job, &found, began.elapsed().as_secs());
+    process::exit(i32::from(!good))
+}
+
+fn usage() -> ! {
+    eprintln!("usage: compare SEED CASES RUNNER..");
+    process::exit(2)
 }

@@ -1,10 +1,12 @@
 //! The listed types but the pings: a reader and a writer each.
 
-use crate::batch::{probe, Numbers};
+use crate::batch::four;
+use crate::exports::Export;
 use second::gen::Rng;
 use second::records::*;
 use second::TransceiverNumber;
 use second::{Answer, DocumentId, Order, Reply, SoftwareChannel};
+use std::sync::LazyLock;
 
 /// A field as a number: a signed one as its pattern.
 pub trait Field: Copy {
@@ -59,44 +61,63 @@ pub enum Chars {
 
 /// A listed type, its fields as numbers in order, the attribute last.
 pub struct Kind {
-    pub reader: usize,
-    pub writer: usize,
+    pub reader: Export,
+    pub writer: Export,
     pub chars: Chars,
-    /// What reading at a place gives, and its code.
-    pub read: fn(&[u8], u64) -> (u64, Numbers),
+    /// What reading at a place answers.
+    pub read: fn(&[u8], u64) -> Vec<u64>,
     pub draw: fn(&mut Rng) -> Vec<u64>,
     pub write: fn(&[u64], &[u8], Order, &mut [u8]) -> Answer,
 }
 
 /// A reader's numbers: the answer, and on acceptance the fields.
-pub fn numbers<T>(reply: Reply<T>, fields: impl Fn(&mut Numbers, T)) -> (u64, Numbers) {
+pub fn reply_numbers<T>(reply: Reply<T>, fields: impl Fn(T) -> Vec<u64>) -> Vec<u64> {
     match reply {
-        Ok((answer, record)) => {
-            let mut numbers = Numbers::answer(answer);
-            fields(&mut numbers, record);
-            (0, numbers)
-        }
-        Err(answer) => (answer.code.into(), Numbers::answer(answer)),
+        Ok((answer, record)) => [four(answer), fields(record)].concat(),
+        Err(answer) => four(answer),
     }
 }
 
 /// A part of a file as its place and length.
-fn push_part(numbers: &mut Numbers, file: &[u8], part: &[u8]) {
-    numbers.push((part.as_ptr() as usize - file.as_ptr() as usize) as u64);
-    numbers.push(part.len() as u64);
+fn part_numbers(file: &[u8], part: &[u8]) -> [u64; 2] {
+    let place = part.as_ptr() as usize - file.as_ptr() as usize;
+    [place, part.len()].map(|number| number as u64)
 }
+
+/// A ping's header: drawn, and with the attribute as numbers.
+macro_rules! header {
+    ($($field:ident)*) => {
+        pub fn draw_header(rng: &mut Rng) -> PingHeader {
+            PingHeader {
+                $($field: Field::draw(rng),)*
+            }
+        }
+
+        pub fn header_numbers(header: &PingHeader, attribute: i32) -> Vec<u64> {
+            vec![$(header.$field.number(),)* attribute.number()]
+        }
+    };
+}
+
+header!(
+    time_fraction time_cpu_ansi_c_standard_time software_channel_identifier transmitter_mode
+    ping_number detected_bottom_range
+);
 
 macro_rules! kind {
     ($name:literal, $type:ident, $chars:expr, [$($field:ident)*] $(, part $part:ident)? $(, own $own:ident)?) => {
         Kind {
-            reader: probe(concat!("read_", $name)),
-            writer: probe(concat!("write_", $name)),
+            reader: Export::named(concat!("read_", $name)),
+            writer: Export::named(concat!("write_", $name)),
             chars: $chars,
             read: |file, place| {
-                numbers($type::read(file, place), |numbers, record| {
-                    $(numbers.push(record.$field.number());)*
-                    numbers.push(record.tuple_attribute.number());
-                    $(push_part(numbers, file, record.$part);)?
+                reply_numbers($type::read(file, place), |record| {
+                    let fields = vec![
+                        $(record.$field.number(),)*
+                        record.tuple_attribute.number(),
+                    ];
+                    $(let fields = [&fields[..], &part_numbers(file, record.$part)].concat();)?
+                    fields
                 })
             },
             draw: |rng| {
@@ -126,7 +147,7 @@ fn draw_like<R, T: Field>(_: impl Fn(&R) -> T, rng: &mut Rng) -> u64 {
     T::draw(rng).number()
 }
 
-pub fn kinds() -> Vec<Kind> {
+pub static KINDS: LazyLock<Vec<Kind>> = LazyLock::new(|| {
     vec![
         kind!("signature", Signature, Chars::None, [
             hac_version acquisition_software_version acquisition_software_identifier
@@ -181,4 +202,4 @@ pub fn kinds() -> Vec<Kind> {
             time_fraction time_cpu_ansi_c_standard_time closing_mode
         ], part data),
     ]
-}
+});

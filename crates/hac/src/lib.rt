@@ -52,29 +52,29 @@ pub use pings::write_u32;
 // characters, before 19; an event's text by 9 where it is no multiple of four characters or none, 11 where the tuple would be over
 // 262,144 bytes, both at 0, before 19. T::new makes a record of its fields; T::CODE, T::LENGTH and a constant for each field's place
 // are the type's own. Promises: `TAt` and `TWritten`, crates/settings|voyage|marks/specs/T.antt.
-pub use marks::event::Event;
-pub use marks::event::EventRead;
-pub use marks::file_end::FileEnd;
-pub use marks::file_end::FileEndRead;
-pub use marks::run_end::RunEnd;
-pub use marks::run_end::RunEndRead;
-pub use marks::run_start::RunStart;
-pub use marks::run_start::RunStartRead;
-pub use settings::channel::Channel;
-pub use settings::channel::ChannelRead;
-pub use settings::signature::Signature;
-pub use settings::signature::SignatureRead;
-pub use settings::sounder::Sounder;
-pub use settings::sounder::SounderRead;
-pub use settings::threshold::Threshold;
-pub use settings::threshold::ThresholdRead;
+pub use attitude::Attitude;
+pub use attitude::AttitudeRead;
+pub use channel::Channel;
+pub use channel::ChannelRead;
+pub use event::Event;
+pub use event::EventRead;
+pub use file_end::FileEnd;
+pub use file_end::FileEndRead;
+pub use navigation::Navigation;
+pub use navigation::NavigationRead;
+pub use position::Position;
+pub use position::PositionRead;
+pub use run_end::RunEnd;
+pub use run_end::RunEndRead;
+pub use run_start::RunStart;
+pub use run_start::RunStartRead;
+pub use signature::Signature;
+pub use signature::SignatureRead;
+pub use sounder::Sounder;
+pub use sounder::SounderRead;
+pub use threshold::Threshold;
+pub use threshold::ThresholdRead;
 pub use tuples::Part;
-pub use voyage::attitude::Attitude;
-pub use voyage::attitude::AttitudeRead;
-pub use voyage::navigation::Navigation;
-pub use voyage::navigation::NavigationRead;
-pub use voyage::position::Position;
-pub use voyage::position::PositionRead;
 
 // normalise(file, out): the file's normal form. Refuses as the check does; then by 18 at the first unlisted tuple, index class apart, of
 // an MSB file; 20 where the normal form is over the limit of a file; 19. Accepts with the file's tuples and the bytes written.

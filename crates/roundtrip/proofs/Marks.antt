@@ -18,26 +18,26 @@ use Rattle.turning.specs.Rows.{Value, fit-end, fit-num, fit-txt}
 use Rattle.tuples.specs.declared.Part.{Part}
 use Rattle.tuples.specs.Readers.{textAt}
 use Rattle.tuples.specs.Writers.{plainBytes}
-use Rattle.marks.specs.declared.event.Event.{Event}
-use Rattle.marks.specs.declared.event.EventRead.{EventRead}
-use Rattle.marks.specs.declared.event.EventRead.the-variants as event
-use Rattle.marks.specs.Event.{eventOf, eventValues, EventAt, EventWritten}
-use Rattle.marks.specs.Event as events
-use Rattle.marks.specs.declared.run_start.RunStart.{RunStart}
-use Rattle.marks.specs.declared.run_start.RunStartRead.{RunStartRead}
-use Rattle.marks.specs.declared.run_start.RunStartRead.the-variants as runStart
-use Rattle.marks.specs.RunStart.{runStartOf, runStartValues, RunStartAt, RunStartWritten}
-use Rattle.marks.specs.RunStart as runStarts
-use Rattle.marks.specs.declared.run_end.RunEnd.{RunEnd}
-use Rattle.marks.specs.declared.run_end.RunEndRead.{RunEndRead}
-use Rattle.marks.specs.declared.run_end.RunEndRead.the-variants as runEnd
-use Rattle.marks.specs.RunEnd.{runEndOf, runEndValues, RunEndAt, RunEndWritten}
-use Rattle.marks.specs.RunEnd as runEnds
-use Rattle.marks.specs.declared.file_end.FileEnd.{FileEnd}
-use Rattle.marks.specs.declared.file_end.FileEndRead.{FileEndRead}
-use Rattle.marks.specs.declared.file_end.FileEndRead.the-variants as fileEnd
-use Rattle.marks.specs.FileEnd.{fileEndOf, fileEndValues, FileEndAt, FileEndWritten}
-use Rattle.marks.specs.FileEnd as fileEnds
+use Rattle.event.specs.declared.Event.{Event}
+use Rattle.event.specs.declared.EventRead.{EventRead}
+use Rattle.event.specs.declared.EventRead.the-variants as event
+use Rattle.event.specs.Event.{eventOf, eventValues, EventAt, EventWritten}
+use Rattle.event.specs.Event as events
+use Rattle.run_start.specs.declared.RunStart.{RunStart}
+use Rattle.run_start.specs.declared.RunStartRead.{RunStartRead}
+use Rattle.run_start.specs.declared.RunStartRead.the-variants as runStart
+use Rattle.run_start.specs.RunStart.{runStartOf, runStartValues, RunStartAt, RunStartWritten}
+use Rattle.run_start.specs.RunStart as runStarts
+use Rattle.run_end.specs.declared.RunEnd.{RunEnd}
+use Rattle.run_end.specs.declared.RunEndRead.{RunEndRead}
+use Rattle.run_end.specs.declared.RunEndRead.the-variants as runEnd
+use Rattle.run_end.specs.RunEnd.{runEndOf, runEndValues, RunEndAt, RunEndWritten}
+use Rattle.run_end.specs.RunEnd as runEnds
+use Rattle.file_end.specs.declared.FileEnd.{FileEnd}
+use Rattle.file_end.specs.declared.FileEndRead.{FileEndRead}
+use Rattle.file_end.specs.declared.FileEndRead.the-variants as fileEnd
+use Rattle.file_end.specs.FileEnd.{fileEndOf, fileEndValues, FileEndAt, FileEndWritten}
+use Rattle.file_end.specs.FileEnd as fileEnds
 use Rattle.roundtrip.specs.Held.{Holds, charactersAt, TextFits, Filled}
 use Rattle.roundtrip.specs.Marks.{EventTyped, RunStartTyped, RunEndTyped, FileEndTyped}
 use Rattle.roundtrip.proofs.Rows.{signed-pattern, pattern-below, filled, row-places, row-read}

@@ -15,26 +15,26 @@ use Rattle.turning.specs.Rows.{Value, fit-end, fit-num, fit-gap, fit-ident, fit
 use Rattle.tuples.specs.declared.Part.{Part}
 use Rattle.tuples.specs.Readers.{textAt}
 use Rattle.tuples.specs.Writers.{plainBytes}
-use Rattle.settings.specs.declared.signature.Signature.{Signature}
-use Rattle.settings.specs.declared.signature.SignatureRead.{SignatureRead}
-use Rattle.settings.specs.declared.signature.SignatureRead.the-variants as signature
-use Rattle.settings.specs.Signature.{signatureOf, signatureValues, SignatureAt, SignatureWritten}
-use Rattle.settings.specs.Signature as signatures
-use Rattle.settings.specs.declared.sounder.Sounder.{Sounder}
-use Rattle.settings.specs.declared.sounder.SounderRead.{SounderRead}
-use Rattle.settings.specs.declared.sounder.SounderRead.the-variants as sounder
-use Rattle.settings.specs.Sounder.{sounderOf, sounderValues, SounderAt, SounderWritten}
-use Rattle.settings.specs.Sounder as sounders
-use Rattle.settings.specs.declared.channel.Channel.{Channel}
-use Rattle.settings.specs.declared.channel.ChannelRead.{ChannelRead}
-use Rattle.settings.specs.declared.channel.ChannelRead.the-variants as channel
-use Rattle.settings.specs.Channel.{channelOf, channelValues, ChannelAt, ChannelWritten}
-use Rattle.settings.specs.Channel as channels
-use Rattle.settings.specs.declared.threshold.Threshold.{Threshold}
-use Rattle.settings.specs.declared.threshold.ThresholdRead.{ThresholdRead}
-use Rattle.settings.specs.declared.threshold.ThresholdRead.the-variants as threshold
-use Rattle.settings.specs.Threshold.{thresholdOf, thresholdValues, ThresholdAt, ThresholdWritten}
-use Rattle.settings.specs.Threshold as thresholds
+use Rattle.signature.specs.declared.Signature.{Signature}
+use Rattle.signature.specs.declared.SignatureRead.{SignatureRead}
+use Rattle.signature.specs.declared.SignatureRead.the-variants as signature
+use Rattle.signature.specs.Signature.{signatureOf, signatureValues, SignatureAt, SignatureWritten}
+use Rattle.signature.specs.Signature as signatures
+use Rattle.sounder.specs.declared.Sounder.{Sounder}
+use Rattle.sounder.specs.declared.SounderRead.{SounderRead}
+use Rattle.sounder.specs.declared.SounderRead.the-variants as sounder
+use Rattle.sounder.specs.Sounder.{sounderOf, sounderValues, SounderAt, SounderWritten}
+use Rattle.sounder.specs.Sounder as sounders
+use Rattle.channel.specs.declared.Channel.{Channel}
+use Rattle.channel.specs.declared.ChannelRead.{ChannelRead}
+use Rattle.channel.specs.declared.ChannelRead.the-variants as channel
+use Rattle.channel.specs.Channel.{channelOf, channelValues, ChannelAt, ChannelWritten}
+use Rattle.channel.specs.Channel as channels
+use Rattle.threshold.specs.declared.Threshold.{Threshold}
+use Rattle.threshold.specs.declared.ThresholdRead.{ThresholdRead}
+use Rattle.threshold.specs.declared.ThresholdRead.the-variants as threshold
+use Rattle.threshold.specs.Threshold.{thresholdOf, thresholdValues, ThresholdAt, ThresholdWritten}
+use Rattle.threshold.specs.Threshold as thresholds
 use Rattle.roundtrip.specs.Held.{Holds, charactersAt, Filled}
 use Rattle.roundtrip.specs.Settings.{SignatureTyped, SounderTyped, ChannelTyped, ThresholdTyped}
 use Rattle.roundtrip.proofs.Rows.{signed-pattern, pattern-below, filled, row-places, row-read}

@@ -11,21 +11,21 @@ use Rattle.layout.specs.Types.{classes, inClass, kindOf, lineOf}
 use Rattle.frame.specs.Frames.{allowed}
 use Rattle.turning.specs.Rows.{fit-end, fit-num, fit-gap}
 use Rattle.tuples.specs.Writers.{plainBytes}
-use Rattle.voyage.specs.declared.position.Position.{Position}
-use Rattle.voyage.specs.declared.position.PositionRead.{PositionRead}
-use Rattle.voyage.specs.declared.position.PositionRead.the-variants as position
-use Rattle.voyage.specs.Position.{positionOf, positionValues, PositionAt, PositionWritten}
-use Rattle.voyage.specs.Position as positions
-use Rattle.voyage.specs.declared.navigation.Navigation.{Navigation}
-use Rattle.voyage.specs.declared.navigation.NavigationRead.{NavigationRead}
-use Rattle.voyage.specs.declared.navigation.NavigationRead.the-variants as navigation
-use Rattle.voyage.specs.Navigation.{navigationOf, navigationValues, NavigationAt, NavigationWritten}
-use Rattle.voyage.specs.Navigation as navigations
-use Rattle.voyage.specs.declared.attitude.Attitude.{Attitude}
-use Rattle.voyage.specs.declared.attitude.AttitudeRead.{AttitudeRead}
-use Rattle.voyage.specs.declared.attitude.AttitudeRead.the-variants as attitude
-use Rattle.voyage.specs.Attitude.{attitudeOf, attitudeValues, AttitudeAt, AttitudeWritten}
-use Rattle.voyage.specs.Attitude as attitudes
+use Rattle.position.specs.declared.Position.{Position}
+use Rattle.position.specs.declared.PositionRead.{PositionRead}
+use Rattle.position.specs.declared.PositionRead.the-variants as position
+use Rattle.position.specs.Position.{positionOf, positionValues, PositionAt, PositionWritten}
+use Rattle.position.specs.Position as positions
+use Rattle.navigation.specs.declared.Navigation.{Navigation}
+use Rattle.navigation.specs.declared.NavigationRead.{NavigationRead}
+use Rattle.navigation.specs.declared.NavigationRead.the-variants as navigation
+use Rattle.navigation.specs.Navigation.{navigationOf, navigationValues, NavigationAt, NavigationWritten}
+use Rattle.navigation.specs.Navigation as navigations
+use Rattle.attitude.specs.declared.Attitude.{Attitude}
+use Rattle.attitude.specs.declared.AttitudeRead.{AttitudeRead}
+use Rattle.attitude.specs.declared.AttitudeRead.the-variants as attitude
+use Rattle.attitude.specs.Attitude.{attitudeOf, attitudeValues, AttitudeAt, AttitudeWritten}
+use Rattle.attitude.specs.Attitude as attitudes
 use Rattle.roundtrip.specs.Held.{Holds, Filled}
 use Rattle.roundtrip.specs.Voyage.{PositionTyped, NavigationTyped, AttitudeTyped}
 use Rattle.roundtrip.proofs.Rows.{signed-pattern, pattern-below, filled, row-read}

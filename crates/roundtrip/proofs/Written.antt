@@ -19,9 +19,9 @@ use Rattle.frame.specs.Frames.{lengthOf}
 use Rattle.rules.proofs.Bools.{both-true}
 use Rattle.content.specs.Forms.{plainTuple}
 use Rattle.tuples.specs.Writers.{Written, remarkRules}
-use Rattle.marks.specs.declared.event.Event.{Event}
-use Rattle.marks.specs.Event.{eventValues, EventWritten}
-use Rattle.marks.proofs.Texts.{text-length}
+use Rattle.event.specs.declared.Event.{Event}
+use Rattle.event.specs.Event.{eventValues, EventWritten}
+use Rattle.event.proofs.Texts.{text-length}
 use Rattle.roundtrip.specs.Held.{Holds, TextFits}
 
 abbrev pub accepts : Answer → Bool

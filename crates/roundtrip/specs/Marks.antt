@@ -1,9 +1,9 @@
 -- The records of event markers, runs and the end of file, each field in the range of its type, as every record of the
 -- program has it. Assumes nothing.
-use Rattle.marks.specs.declared.event.Event.{Event}
-use Rattle.marks.specs.declared.run_start.RunStart.{RunStart}
-use Rattle.marks.specs.declared.run_end.RunEnd.{RunEnd}
-use Rattle.marks.specs.declared.file_end.FileEnd.{FileEnd}
+use Rattle.event.specs.declared.Event.{Event}
+use Rattle.run_start.specs.declared.RunStart.{RunStart}
+use Rattle.run_end.specs.declared.RunEnd.{RunEnd}
+use Rattle.file_end.specs.declared.FileEnd.{FileEnd}
 use Rattle.roundtrip.specs.Held.{I32, U16, U32}
 
 -- an event marker of the program

@@ -1,9 +1,9 @@
 -- The records of signature, sounder, channel and threshold, each field in the range of its type, as every record of the
 -- program has it. Assumes nothing.
-use Rattle.settings.specs.declared.signature.Signature.{Signature}
-use Rattle.settings.specs.declared.sounder.Sounder.{Sounder}
-use Rattle.settings.specs.declared.channel.Channel.{Channel}
-use Rattle.settings.specs.declared.threshold.Threshold.{Threshold}
+use Rattle.signature.specs.declared.Signature.{Signature}
+use Rattle.sounder.specs.declared.Sounder.{Sounder}
+use Rattle.channel.specs.declared.Channel.{Channel}
+use Rattle.threshold.specs.declared.Threshold.{Threshold}
 use Rattle.roundtrip.specs.Held.{I16, I32, U16, U32}
 
 -- a signature of the program

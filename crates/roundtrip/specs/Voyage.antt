@@ -1,8 +1,8 @@
 -- The records of position, navigation and attitude, each field in the range of its type, as every record of the
 -- program has it. Assumes nothing.
-use Rattle.voyage.specs.declared.position.Position.{Position}
-use Rattle.voyage.specs.declared.navigation.Navigation.{Navigation}
-use Rattle.voyage.specs.declared.attitude.Attitude.{Attitude}
+use Rattle.position.specs.declared.Position.{Position}
+use Rattle.navigation.specs.declared.Navigation.{Navigation}
+use Rattle.attitude.specs.declared.Attitude.{Attitude}
 use Rattle.roundtrip.specs.Held.{I16, I32, U16, U32}
 
 -- a position of the program

@@ -2,3 +2,4 @@ pub mod Reading
 pub mod Fields
 pub mod Storing
 pub mod Writing
+pub mod Places

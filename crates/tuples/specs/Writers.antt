@@ -50,6 +50,12 @@ textRules t = (not (fitting (lengthsOf (t .kind)) (lengthOf t)) ⇒ Refused 9 0)
 abbrev pub endData : Value
 endData = text (0 ∷ 0 ∷ [])
 
+-- the numbers among values, in order
+abbrev pub numbersIn : List Value → List ℕ
+numbersIn [] = []
+numbersIn (number n ∷ vs) = n ∷ numbersIn vs
+numbersIn (text t ∷ vs) = numbersIn vs
+
 -- ---- what a writer of a row hands over: its numbers in order, a remark's characters, the characters behind the fields, the attribute
 abbrev pub handedValues : Shape → List ℕ → List ℕ → List ℕ → ℕ → List Value
 handedValues indexed ns t b a = []

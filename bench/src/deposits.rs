@@ -1,0 +1,174 @@
+//! The deposits that are timed: each just below the limit of a file.
+
+use hac::{
+    write_c32, write_u32, Channel, DocumentId, FileEnd, Navigation, Order, PingHeader, Position,
+    Refusal, Signature, SoftwareChannel, Sounder, Transceiver, FILE_LIMIT, REMARK, TUPLE_LIMIT,
+};
+
+/// The one sounder and the one channel of a deposit.
+const SOUNDER: DocumentId = DocumentId(7);
+const CHANNEL: SoftwareChannel = SoftwareChannel(3);
+
+/// Samples of a ping.
+const SAMPLES: u32 = 1000;
+
+/// Gaps between samples are shorter than these.
+const SHORT_GAP: u32 = 8;
+const LONG_GAP: u32 = 200_000;
+
+/// A deposit: what it is of, and its bytes.
+pub struct Deposit {
+    pub name: &'static str,
+    pub bytes: Vec<u8>,
+}
+
+/// Numbers that look like chance and are the same at every run.
+struct Chance(u32);
+
+impl Chance {
+    fn next(&mut self) -> u32 {
+        self.0 ^= self.0 << 13;
+        self.0 ^= self.0 >> 17;
+        self.0 ^= self.0 << 5;
+        self.0
+    }
+}
+
+/// A deposit while tuples are put to it.
+struct Draft {
+    order: Order,
+    bytes: Vec<u8>,
+    tuple: Vec<u8>,
+}
+
+impl Draft {
+    /// Mark, signature, sounder, channel, position and a ping, so that the
+    /// deposit is accepted whatever follows.
+    fn new(order: Order) -> Result<Draft, Refusal> {
+        let bytes = order.mark().to_vec();
+        let tuple = vec![0; TUPLE_LIMIT];
+        let mut draft = Draft {
+            order,
+            bytes,
+            tuple,
+        };
+        let remarks = [b' '; REMARK];
+        let signature = Signature::default();
+        draft.put(|tuple| signature.write(order, tuple))?;
+        let sounder = Sounder {
+            number_of_software_channels: 1,
+            echosounder_document_identifier: SOUNDER,
+            ..Sounder::default()
+        };
+        draft.put(|tuple| sounder.write(&remarks, order, tuple))?;
+        let channel = Channel {
+            software_channel_identifier: CHANNEL,
+            echosounder_document_identifier: SOUNDER,
+            transceiver_channel_number: Transceiver(1),
+            ..Channel::default()
+        };
+        draft.put(|tuple| channel.write(&remarks, order, tuple))?;
+        draft.put(|tuple| Position::default().write(order, tuple))?;
+        draft.put(|tuple| write_u32(&header(0), 0, &[0], &[5], order, tuple))?;
+        Ok(draft)
+    }
+
+    fn put(
+        &mut self,
+        write: impl FnOnce(&mut [u8]) -> Result<usize, Refusal>,
+    ) -> Result<(), Refusal> {
+        let length = write(&mut self.tuple)?;
+        self.bytes.extend_from_slice(&self.tuple[..length]);
+        Ok(())
+    }
+
+    /// Puts tuples until the next would leave no room for the end of file.
+    fn fill(
+        mut self,
+        mut write: impl FnMut(Order, u32, &mut [u8]) -> Result<usize, Refusal>,
+    ) -> Result<Vec<u8>, Refusal> {
+        let order = self.order;
+        let end = FileEnd::default();
+        let room = FILE_LIMIT - end.write(order, &mut self.tuple)?;
+        for count in 0.. {
+            let length = write(order, count, &mut self.tuple)?;
+            if self.bytes.len() + length > room {
+                break;
+            }
+            self.bytes.extend_from_slice(&self.tuple[..length]);
+        }
+        self.put(|tuple| end.write(order, tuple))?;
+        Ok(self.bytes)
+    }
+}
+
+fn header(ping_number: u32) -> PingHeader {
+    PingHeader {
+        time_cpu: ping_number,
+        software_channel_identifier: CHANNEL,
+        ping_number,
+        ..PingHeader::default()
+    }
+}
+
+fn navigation(order: Order, count: u32, tuple: &mut [u8]) -> Result<usize, Refusal> {
+    let told = Navigation {
+        time_cpu: count,
+        heading: 123,
+        ..Navigation::default()
+    };
+    told.write(order, tuple)
+}
+
+/// C-32 pings, each value behind a gap.
+fn compressed(gap: u32) -> Result<Vec<u8>, Refusal> {
+    let mut chance = Chance(12345);
+    Draft::new(Order::Lsb)?.fill(|order, count, tuple| {
+        let (mut numbers, mut values) = (Vec::new(), Vec::new());
+        let mut at = 0;
+        for _ in 0..SAMPLES {
+            at += 1 + chance.next() % gap;
+            numbers.push(at);
+            values.push((chance.next() >> 8) as i32);
+            at += 1;
+        }
+        write_c32(&header(count), 0, &numbers, &values, order, tuple)
+    })
+}
+
+fn pairs(order: Order) -> Result<Vec<u8>, Refusal> {
+    let mut chance = Chance(54321);
+    Draft::new(order)?.fill(|order, count, tuple| {
+        let numbers: Vec<u32> = (0..SAMPLES).map(|i| 3 * i).collect();
+        let values: Vec<i32> = numbers.iter().map(|_| chance.next() as i32).collect();
+        write_u32(&header(count), 0, &numbers, &values, order, tuple)
+    })
+}
+
+/// The small tuples again, the last one's backlink altered.
+fn refused_at_last(accepted: &[u8]) -> Vec<u8> {
+    let mut bytes = accepted.to_vec();
+    if let Some(last) = bytes.last_mut() {
+        *last ^= 1;
+    }
+    bytes
+}
+
+/// All of them.
+pub fn all() -> Result<Vec<Deposit>, Refusal> {
+    let small = Draft::new(Order::Lsb)?.fill(navigation)?;
+    let refused = refused_at_last(&small);
+    let named = [
+        ("28-byte tuples, LSB", small),
+        (
+            "28-byte tuples, MSB",
+            Draft::new(Order::Msb)?.fill(navigation)?,
+        ),
+        ("C-32 pings, short runs", compressed(SHORT_GAP)?),
+        ("C-32 pings, long runs", compressed(LONG_GAP)?),
+        ("U-32 pings, LSB", pairs(Order::Lsb)?),
+        ("U-32 pings, MSB", pairs(Order::Msb)?),
+        ("refused at the last tuple", refused),
+    ];
+    Ok(named.map(|(name, bytes)| Deposit { name, bytes }).into())
+}

@@ -1,0 +1,30 @@
+-- `archive::of_files::hac_forward` meets its contract. Assumes nothing.
+use mathlib.Core.Path.{refl}
+use borrow.Author.Needs.{needs}
+use Rattle.frame.specs.Steps.{SteppedForward}
+use Rattle.archive.specs.Numbers.{stepTold}
+use Rattle.archive.proofs.Saying.{alone-untold, alone-told, step-short}
+use Rattle.archive.proofs.of_files.hac_forward.Statement.{statement}
+use Rattle.archive.proofs.of_files.hac_forward.Tie as tie
+
+returns : tie.Need-returns
+returns c =
+    let a = c .before .before .before .args in
+    alone-untold 8 stepTold (SteppedForward (a .file .now) (a .place)) (a .answer .now) (c .if1 .taken)
+
+returns-2 : tie.Need-returns-2
+returns-2 c =
+    let a = c .before .before .before .before .before .before .before .before .args in
+    let s = c .before .before .before .forward .result in
+    alone-told 8 stepTold (SteppedForward (a .file .now) (a .place)) (a .answer .now) s (stepTold s) (c .before .before .tell-step .result) _ (c .before .before .before .before .before .if1 .left) (step-short s)
+    (c .before .before .before .forward .ensures) refl (c .before .before .tell-step .ensures .0) (c .before .before .tell-step .ensures .1)
+
+pub hac-forward-spec : {M : Type 1} → statement M
+hac-forward-spec =
+    tie.close
+    (tie.spec
+    returns
+    (λ c κs. search needs)
+    (λ c κs. search needs)
+    (λ c. search needs)
+    returns-2)

@@ -1,0 +1,170 @@
+// Pings: fields and samples read, and both kinds written.
+use super::FOUR;
+use super::tell_answer;
+use super::tell_record;
+use super::tell_refusal;
+use layout::SoftwareChannel;
+use layout::codes;
+use pings::PingHeader;
+use pings::PingKind;
+use pings::PingRead;
+ghost use mathlib.Core.Path.{_≡_};
+ghost use mathlib.Core.List.{List};
+ghost use Prim.Native.Nat.{ℕ, _≤_};
+ghost use lib.IntN.{ℤ};
+ghost use lib.ListN.{length};
+ghost use lib.Seq.{sets};
+ghost use Rattle.layout.specs.declared.Answer.{Answer};
+ghost use Rattle.pings.specs.declared.PingRead.the-variants.{Read};
+ghost use Rattle.pings.specs.Fields.{PingAt};
+ghost use Rattle.pings.specs.Readers.{SamplesRead};
+ghost use Rattle.pings.specs.Headers.{WrittenU, WrittenC};
+ghost use Rattle.archive.specs.Saying.{Said, SaidAlone};
+ghost use Rattle.archive.specs.Numbers.{four, kindTold, pingTold};
+
+// The kinds of ping as numbers.
+const U32: u32 = 0;
+
+const C32: u32 = 1;
+
+// The entries of a ping's fields; the last is the number of its values.
+const PING: usize = 13;
+
+const VALUES: usize = 12;
+
+fn kind_number(kind: PingKind) -> u32
+    ensures { λ r. ⌜ r ≡ kindTold kind ⌝ }
+{
+    match kind {
+        PingKind::U32 => U32,
+        PingKind::C32 => C32,
+    }
+}
+
+fn tell_ping(
+    answer: &mut [u64],
+    header: PingHeader,
+    attribute: i32,
+    kind: PingKind,
+    values: usize,
+) -> u8
+    requires { ⌜ 13 ≤ length (now answer) ⌝ }
+    ensures { λ r. ⌜ r ≡ 0 ⌝ }
+    ensures { λ _. ⌜ now (answer .exit) ≡ sets (now (answer .entry)) 0 (pingTold (Read header attribute kind values)) ⌝ }
+{
+    let numbers = [
+        header.time_fraction as u32,
+        header.time_cpu,
+        header.software_channel_identifier.0 as u32,
+        header.transmitter_mode as u32,
+        header.ping_number,
+        order::pattern4(header.detected_bottom_range),
+        order::pattern4(attribute),
+        kind_number(kind),
+    ];
+    let code = tell_record(answer, &numbers);
+    answer[VALUES] = values as u64;
+    code
+}
+
+#[no_mangle]
+pub extern "C" fn hac_read_ping(file: &[u8], place: usize, answer: &mut [u64]) -> u8
+    ensures { λ r. ⌜ SaidAlone 13 pingTold (PingAt (now (file .entry)) place) (now (answer .entry)) r (now (answer .exit)) ⌝ }
+{
+    if answer.len() < PING {
+        return codes::NO_ROOM;
+    }
+    match pings::read_ping(file, place) {
+        PingRead::Read {
+            header,
+            attribute,
+            kind,
+            values,
+        } => tell_ping(answer, header, attribute, kind, values),
+        PingRead::Refused { code, place } => tell_refusal(answer, code, place),
+    }
+}
+
+#[no_mangle]
+pub extern "C" fn hac_read_samples(
+    file: &[u8],
+    place: usize,
+    numbers: &mut [u32],
+    values: &mut [i32],
+    answer: &mut [u64],
+) -> u8
+    ensures { λ r. ⌜ Said 4 four (λ (a : Answer) (m : List ℕ × List ℤ). SamplesRead (now (file .entry)) place (now (numbers .entry)) (now (values .entry)) a (m .0) (m .1)) (now (answer .entry)) (now (numbers .entry), now (values .entry)) r (now (answer .exit)) (now (numbers .exit), now (values .exit)) ⌝ }
+{
+    if answer.len() < FOUR {
+        return codes::NO_ROOM;
+    }
+    tell_answer(answer, pings::read_samples(file, place, numbers, values))
+}
+
+#[no_mangle]
+pub extern "C" fn hac_write_u32(
+    time_fraction: u16,
+    time_cpu: u32,
+    software_channel_identifier: u16,
+    transmitter_mode: u16,
+    ping_number: u32,
+    detected_bottom_range: i32,
+    tuple_attribute: i32,
+    numbers: &[u32],
+    values: &[i32],
+    msb: bool,
+    out: &mut [u8],
+    answer: &mut [u64],
+) -> u8
+    ensures { λ r. ⌜ Said 4 four (WrittenU msb (record { «time_fraction» = «time_fraction»; «time_cpu» = «time_cpu»; «software_channel_identifier» = record { 0 = «software_channel_identifier» }; «transmitter_mode» = «transmitter_mode»; «ping_number» = «ping_number»; «detected_bottom_range» = «detected_bottom_range» }) «tuple_attribute» (now (numbers .entry)) (now (values .entry)) (now (out .entry))) (now (answer .entry)) (now (out .entry)) r (now (answer .exit)) (now (out .exit)) ⌝ }
+{
+    if answer.len() < FOUR {
+        return codes::NO_ROOM;
+    }
+    let header = PingHeader {
+        time_fraction,
+        time_cpu,
+        software_channel_identifier: SoftwareChannel(software_channel_identifier),
+        transmitter_mode,
+        ping_number,
+        detected_bottom_range,
+    };
+    tell_answer(
+        answer,
+        pings::write_u32(header, tuple_attribute, numbers, values, msb, out),
+    )
+}
+
+#[no_mangle]
+pub extern "C" fn hac_write_c32(
+    time_fraction: u16,
+    time_cpu: u32,
+    software_channel_identifier: u16,
+    transmitter_mode: u16,
+    ping_number: u32,
+    detected_bottom_range: i32,
+    tuple_attribute: i32,
+    numbers: &[u32],
+    values: &[i32],
+    msb: bool,
+    out: &mut [u8],
+    answer: &mut [u64],
+) -> u8
+    ensures { λ r. ⌜ Said 4 four (WrittenC msb (record { «time_fraction» = «time_fraction»; «time_cpu» = «time_cpu»; «software_channel_identifier» = record { 0 = «software_channel_identifier» }; «transmitter_mode» = «transmitter_mode»; «ping_number» = «ping_number»; «detected_bottom_range» = «detected_bottom_range» }) «tuple_attribute» (now (numbers .entry)) (now (values .entry)) (now (out .entry))) (now (answer .entry)) (now (out .entry)) r (now (answer .exit)) (now (out .exit)) ⌝ }
+{
+    if answer.len() < FOUR {
+        return codes::NO_ROOM;
+    }
+    let header = PingHeader {
+        time_fraction,
+        time_cpu,
+        software_channel_identifier: SoftwareChannel(software_channel_identifier),
+        transmitter_mode,
+        ping_number,
+        detected_bottom_range,
+    };
+    tell_answer(
+        answer,
+        pings::write_c32(header, tuple_attribute, numbers, values, msb, out),
+    )
+}

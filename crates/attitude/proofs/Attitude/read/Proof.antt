@@ -1,0 +1,45 @@
+-- `attitude::Attitude::read` meets its contract: the reader's refusal, or the fields of the tuple that was opened. Assumes nothing.
+use mathlib.Core.Path.{refl, sym, ap, _∙_}
+use native.Mathlib.Omega.{arith}
+use borrow.Author.Needs.{needs}
+use Rattle.layout.specs.declared.Answer.{Answer}
+use Rattle.layout.specs.Types.{classes, inClass, kindOf, lineOf}
+use Rattle.tuples.specs.Readers.{readValues}
+use Rattle.tuples.proofs.Fields.{in-file, exact, values-there}
+use Rattle.attitude.specs.declared.AttitudeRead.the-variants.{Read}
+use Rattle.attitude.specs.Attitude.{attitudeOf, answered}
+use Rattle.attitude.proofs.Attitude.read.Statement.{statement}
+use Rattle.attitude.proofs.Attitude.read.Tie as tie
+
+at-requires : tie.Need-at-requires
+unfolding kindOf inClass classes lineOf
+at-requires c κs =
+    let r = rw (c .before .msb .given .1) at (c .before .before .before .open-tuple .ensures) in
+    omega (arith, in-file 40 r, exact 40 r 36 refl)
+
+returns : tie.Need-returns
+returns c =
+    let a = c .before .before .before .before .before .args in
+    let e = rw (c .before .code .given .1) at (c .before .before .before .open-tuple .ensures) in
+    record { answer = e; outcome = ap (λ (x : Answer). answered x (attitudeOf (readValues (a .file .now) (a .place)))) e }
+
+returns-2 : tie.Need-returns-2
+unfolding kindOf inClass classes lineOf
+returns-2 c =
+    let a = c .before .before .before .before .before .before .args in
+    let r = rw (c .before .before .msb .given .1) at (c .before .before .before .before .open-tuple .ensures) in
+    record {
+      answer = r .answer;
+      outcome = ap Read (c .at .ensures ∙ ap attitudeOf (sym (values-there 40 r tt))) ∙ ap (λ (x : Answer). answered x (attitudeOf (readValues (a .file .now) (a .place)))) (r .answer);
+    }
+
+pub read-spec : {M : Type 1} → statement M
+read-spec =
+    tie.close
+    (tie.spec
+    (λ c κs. search needs)
+    (λ c. search needs)
+    (λ c. search needs)
+    at-requires
+    returns
+    returns-2)

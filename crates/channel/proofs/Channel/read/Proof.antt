@@ -1,0 +1,55 @@
+-- `channel::Channel::read` meets its contract: the reader's refusal, or the fields of the tuple that was opened, and the place of
+-- its remarks. Assumes nothing.
+use mathlib.Core.Path.{refl, sym, ap, _∙_}
+use Prim.Native.Nat.{_+_}
+use native.Mathlib.Omega.{arith}
+use borrow.Author.Needs.{needs}
+use Rattle.layout.specs.declared.Answer.{Answer}
+use Rattle.layout.specs.Types.{classes, inClass, kindOf, lineOf}
+use Rattle.tuples.specs.Readers.{readValues}
+use Rattle.tuples.proofs.Fields.{in-file, exact, values-there}
+use Rattle.channel.specs.declared.ChannelRead.the-variants.{Read}
+use Rattle.channel.specs.Channel.{channelOf, answered}
+use Rattle.channel.proofs.Channel.read.Statement.{statement}
+use Rattle.channel.proofs.Channel.read.Tie as tie
+
+at-requires : tie.Need-at-requires
+unfolding kindOf inClass classes lineOf
+at-requires c κs =
+    let r = rw (c .before .msb .given .1) at (c .before .before .before .open-tuple .ensures) in
+    omega (arith, in-file 1000 r, exact 1000 r 108 refl)
+
+returns : tie.Need-returns
+returns c =
+    let a = c .before .before .before .before .before .args in
+    let e = rw (c .before .code .given .1) at (c .before .before .before .open-tuple .ensures) in
+    record { answer = e; outcome = ap (λ (x : Answer). answered x (channelOf (readValues (a .file .now) (a .place))) (record { place = a .place + 68; length = 30 })) e }
+
+returns-2 : tie.Need-returns-2
+unfolding kindOf inClass classes lineOf
+returns-2 c =
+    let a = c .before .before .before .before .before .before .args in
+    let r = rw (c .before .before .msb .given .1) at (c .before .before .before .before .open-tuple .ensures) in
+    record {
+      answer = r .answer;
+      outcome = (λ i. Read ((c .at .ensures ∙ ap channelOf (sym (values-there 1000 r tt))) i) (record { place = a .place + 68; length = 30 })) ∙ ap (λ (x : Answer). answered x (channelOf (readValues (a .file .now) (a .place))) (record { place = a .place + 68; length = 30 })) (r .answer);
+    }
+
+-- the remarks stand in the file
+add-t9 : tie.Need-add-t9
+unfolding kindOf inClass classes lineOf
+add-t9 c =
+    let r = rw (c .before .before .msb .given .1) at (c .before .before .before .before .open-tuple .ensures) in
+    omega (arith, in-file 1000 r, exact 1000 r 108 refl)
+
+pub read-spec : {M : Type 1} → statement M
+read-spec =
+    tie.close
+    (tie.spec
+    (λ c κs. search needs)
+    (λ c. search needs)
+    (λ c. search needs)
+    at-requires
+    add-t9
+    returns
+    returns-2)

@@ -1,4 +1,0 @@
-pub mod Event
-pub mod RunStart
-pub mod RunEnd
-pub mod FileEnd

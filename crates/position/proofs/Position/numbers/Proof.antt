@@ -1,0 +1,34 @@
+-- `position::Position::numbers` meets its contract: the fields in order, the signed ones by their patterns. Assumes nothing.
+use mathlib.Core.Path.{ap, _∙_}
+use mathlib.Core.List.{[], _∷_}
+use borrow.Author.Needs.{needs}
+use mir.Syntax.{w16, w32}
+use mir.Facts.{toZ-ofZ}
+use Rattle.order.specs.Order.{patternOf}
+use Rattle.position.proofs.Position.numbers.Statement.{statement}
+use Rattle.position.proofs.Position.numbers.Tie as tie
+
+returns : tie.Need-returns
+returns c =
+    let r = c .before .before .before .before .before .before .before .before .before .args .self in
+    λ i.
+    (c .before .before .before .before .before .before .before .pattern2 .ensures ∙ ap (patternOf 2) (toZ-ofZ {w = w16} {z = r .«time_fraction»} (record { sfits = c .before .before .before .before .before .before .before .before .struct-told .given .0 .1 }))) i
+    ∷ r .«time_cpu»
+    ∷ r .«gps_time»
+    ∷ r .«positioning_system»
+    ∷ (c .before .before .before .before .pattern4 .ensures ∙ ap (patternOf 4) (toZ-ofZ {w = w32} {z = r .latitude} (record { sfits = c .before .before .before .before .before .struct-told2 .given .1 .1 .1 .1 .0 .1 }))) i
+    ∷ (c .before .before .pattern42 .ensures ∙ ap (patternOf 4) (toZ-ofZ {w = w32} {z = r .longitude} (record { sfits = c .before .before .before .struct-told3 .given .1 .1 .1 .1 .1 .0 .1 }))) i
+    ∷ (c .pattern43 .ensures ∙ ap (patternOf 4) (toZ-ofZ {w = w32} {z = r .«tuple_attribute»} (record { sfits = c .before .struct-told4 .given .1 .1 .1 .1 .1 .1 .0 .1 }))) i
+    ∷ []
+
+pub numbers-spec : {M : Type 1} → statement M
+numbers-spec =
+    tie.close
+    (tie.spec
+    (λ c κs. search needs)
+    (λ c. search needs)
+    (λ c. search needs)
+    (λ c κs. search needs)
+    (λ c κs. search needs)
+    (λ c κs. search needs)
+    returns)

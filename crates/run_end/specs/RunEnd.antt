@@ -1,0 +1,53 @@
+-- End of run, type 65517: TR Table 16. Assumes nothing.
+use mathlib.Core.Path.{_≡_, sym, _∙_}
+use Prim.Native.Nat.{ℕ}
+use mathlib.Core.Bool.{Bool}
+use mathlib.Core.List.{List, [], _∷_}
+use Rattle.order.specs.Order.{signedOf, patternOf}
+use Rattle.layout.specs.declared.Answer.{Answer}
+use Rattle.layout.specs.declared.Answer.the-variants.{Accepted}
+use Rattle.layout.specs.declared.Answer.the-variants as answer
+use Rattle.turning.specs.Rows.{Value, number}
+use Rattle.content.specs.Items.{numberAt}
+use Rattle.tuples.specs.Readers.{only, readAnswer, readValues}
+use Rattle.tuples.specs.Writers.{Written, plainBytes}
+use Rattle.run_end.specs.declared.RunEnd.{RunEnd}
+use Rattle.run_end.specs.declared.RunEndRead.{RunEndRead}
+use Rattle.run_end.specs.declared.RunEndRead.the-variants.{Read, Refused}
+
+-- the values of the row under the fields' names
+abbrev pub runEndOf : List Value → RunEnd
+runEndOf vs =
+    record {
+      «time_fraction» = numberAt vs 0;
+      «time_cpu» = numberAt vs 1;
+      «tuple_attribute» = signedOf 4 (numberAt vs 2);
+    }
+
+-- and the fields as the values of the row
+abbrev pub runEndValues : RunEnd → List Value
+runEndValues r =
+    number (r .«time_fraction»)
+    ∷ number (r .«time_cpu»)
+    ∷ number (patternOf 4 (r .«tuple_attribute»))
+    ∷ []
+
+-- ---- reading: 01's answer in each case, and the promise, which settles the outcome
+abbrev pub answerOf : RunEndRead → Answer
+answerOf (Read r) = Accepted 1 0
+answerOf (Refused c p) = answer.Refused c p
+
+abbrev pub answered : Answer → RunEnd → RunEndRead
+answered (Accepted n m) r = Read r
+answered (answer.Refused c p) r = Refused c p
+
+pub record RunEndAt (f : List ℕ) (p : ℕ) (r : RunEndRead) : Type 0 where
+  pub answer : answerOf r ≡ readAnswer (only 65517) f p
+  pub outcome : r ≡ answered (readAnswer (only 65517) f p) (runEndOf (readValues f p))
+
+pub run-end-settled : {f : List ℕ} {p : ℕ} {r t : RunEndRead} → RunEndAt f p r → RunEndAt f p t → r ≡ t
+run-end-settled a b = a .outcome ∙ sym (b .outcome)
+
+-- ---- writing
+abbrev pub RunEndWritten : Bool → RunEnd → List ℕ → Answer → List ℕ → Type 0
+RunEndWritten o r out a left = Written [] (plainBytes o 65517 (runEndValues r)) out a left

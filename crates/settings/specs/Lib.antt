@@ -1,4 +1,0 @@
-pub mod Signature
-pub mod Sounder
-pub mod Channel
-pub mod Threshold

@@ -1,3 +1,0 @@
-pub mod Position
-pub mod Navigation
-pub mod Attitude

@@ -1,0 +1,117 @@
+//! What a refused call says.
+
+use std::error::Error;
+use std::fmt;
+
+/// The codes, each with document 01's words.
+macro_rules! codes {
+    ($($number:literal $code:ident $words:literal)*) => {
+        /// The rule that was broken. Document 01 has them in a table.
+        #[derive(Clone, Copy, Debug, PartialEq, Eq, PartialOrd, Ord, Hash)]
+        pub enum Code {
+            $(#[doc = concat!(stringify!($number), ": ", $words, ".")] $code = $number,)*
+        }
+
+        impl Code {
+            /// Every code, in the order of their numbers.
+            pub const ALL: &'static [Code] = &[$(Code::$code),*];
+
+            /// The code of a number; none of 0 and of numbers that stand for no rule.
+            pub const fn of(number: u8) -> Option<Code> {
+                match number {
+                    $($number => Some(Code::$code),)*
+                    _ => None,
+                }
+            }
+
+            /// When the code is given.
+            pub const fn words(self) -> &'static str {
+                match self {
+                    $(Code::$code => $words,)*
+                }
+            }
+        }
+    };
+}
+
+codes! {
+    1 OverLimit "file over the limit"
+    2 NoMark "under 4 bytes, or neither mark"
+    3 CutShort "fewer than 16 bytes left (but not 0), or the tuple passes the end"
+    4 NoEnd "0 bytes left and no end of file tuple seen"
+    5 BadLength "length not allowed"
+    6 BadBacklink "backlink disagrees"
+    7 MisplacedSignature "first is no signature, or a later one is"
+    8 UnknownIdentifier "identifier isn't 44204"
+    9 Unfit "length unfit for a listed type"
+    10 BrokenSamples "samples break a rule"
+    11 Overfull "ping over 32,764 values, or writer's tuple over 262,144"
+    12 DeclaredTwice "identifier declared twice"
+    13 NoParent "parent not declared earlier"
+    14 TooMany "17th sounder or 65th channel"
+    15 BehindEnd "bytes after end of file"
+    16 ClassAbsent "a required class is absent"
+    17 WrongCount "sounder's channel count wrong"
+    18 Unturnable "unlisted, non-index type in an MSB file"
+    19 NoRoom "lent output too short"
+    20 NormalOverLimit "normal form over 16,777,216"
+    21 NoWord "C-32 writer: value in -65536..-1 or outside the limits"
+    22 NoSamples "writer: U-32 ping without samples"
+}
+
+impl Code {
+    /// Document 01's number.
+    pub const fn number(self) -> u8 {
+        self as u8
+    }
+}
+
+impl fmt::Display for Code {
+    fn fmt(&self, to: &mut fmt::Formatter<'_>) -> fmt::Result {
+        write!(to, "{}: {}", self.number(), self.words())
+    }
+}
+
+/// A refusal: the first rule broken, and where.
+#[derive(Clone, Copy, Debug, PartialEq, Eq)]
+pub struct Refusal {
+    /// The rule.
+    pub code: Code,
+    /// The byte offset that document 01 gives with the code; a ping writer's 10
+    /// and 21 have a place in the list of samples.
+    pub place: usize,
+}
+
+impl fmt::Display for Refusal {
+    fn fmt(&self, to: &mut fmt::Formatter<'_>) -> fmt::Result {
+        write!(to, "{}, at {}", self.code, self.place)
+    }
+}
+
+impl Error for Refusal {}
+
+#[cfg(test)]
+mod tests {
+    use super::*;
+
+    #[test]
+    fn numbers_run_from_1_to_22() {
+        let numbers: Vec<u8> = Code::ALL.iter().map(|code| code.number()).collect();
+        assert_eq!(numbers, (1..=22).collect::<Vec<u8>>());
+        for &code in Code::ALL {
+            assert_eq!(Code::of(code.number()), Some(code));
+        }
+        assert_eq!(Code::of(0), None);
+        assert_eq!(Code::of(23), None);
+    }
+
+    #[test]
+    fn a_refusal_in_words() {
+        let refusal = Refusal {
+            code: Code::NoParent,
+            place: 4711,
+        };
+        let words = "13: parent not declared earlier, at 4711";
+        assert_eq!(refusal.to_string(), words);
+    }
+}

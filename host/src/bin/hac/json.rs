@@ -1,0 +1,98 @@
+//! Objects of JSON, each on one line.
+
+use crate::shown::is_hidden;
+use std::ffi::OsStr;
+use std::fmt::{self, Display, Write};
+use std::os::unix::ffi::OsStrExt;
+
+/// An object: its members so far.
+#[derive(Default)]
+pub struct Object(String);
+
+/// What JSON writes as a number.
+pub trait Number: Display {}
+
+impl Number for u8 {}
+impl Number for u16 {}
+impl Number for u32 {}
+impl Number for i32 {}
+impl Number for usize {}
+
+impl Object {
+    fn member(mut self, key: &str, value: impl Display) -> Object {
+        let comma = if self.0.is_empty() { "" } else { "," };
+        write!(self.0, "{comma}{}:{value}", Text(key)).expect("a string takes all");
+        self
+    }
+
+    pub fn number(self, key: &str, value: impl Number) -> Object {
+        self.member(key, value)
+    }
+
+    pub fn text(self, key: &str, value: &str) -> Object {
+        self.member(key, Text(value))
+    }
+
+    pub fn object(self, key: &str, value: Object) -> Object {
+        self.member(key, value)
+    }
+
+    /// The name of a file. One that is no UTF-8 is told as near as can be, and
+    /// exactly beside it, in hexadecimal.
+    pub fn name(self, key: &str, name: &OsStr) -> Object {
+        match name.to_str() {
+            Some(name) => self.text(key, name),
+            None => {
+                let digits: String = name.as_bytes().iter().map(|b| format!("{b:02x}")).collect();
+                self.text(key, &name.to_string_lossy())
+                    .text(&format!("{key}_bytes"), &digits)
+            }
+        }
+    }
+}
+
+impl Display for Object {
+    fn fmt(&self, to: &mut fmt::Formatter<'_>) -> fmt::Result {
+        write!(to, "{{{}}}", self.0)
+    }
+}
+
+/// A string, escaped so that it can't steer a terminal either.
+struct Text<'a>(&'a str);
+
+impl Display for Text<'_> {
+    fn fmt(&self, to: &mut fmt::Formatter<'_>) -> fmt::Result {
+        to.write_char('"')?;
+        for c in self.0.chars() {
+            match c {
+                '"' | '\\' => write!(to, "\\{c}")?,
+                c if is_hidden(c) => {
+                    for unit in c.encode_utf16(&mut [0; 2]) {
+                        write!(to, "\\u{unit:04x}")?;
+                    }
+                }
+                c => to.write_char(c)?,
+            }
+        }
+        to.write_char('"')
+    }
+}
+
+#[cfg(test)]
+mod tests {
+    use super::*;
+
+    #[test]
+    fn objects() {
+        assert_eq!(Object::default().to_string(), "{}");
+        let inner = Object::default().number("13", 2_usize);
+        let object = Object::default()
+            .text("a\"b\\", "\u{1b}[2J\n\u{202e}\u{e9}")
+            .number("n", -5)
+            .object("o", inner)
+            .name("file", OsStr::from_bytes(b"x\xff"));
+        let line = "{\"a\\\"b\\\\\":\"\\u001b[2J\\u000a\\u202e\u{e9}\",\"n\":-5,\"o\":{\"13\":2},\
+                    \"file\":\"x\u{fffd}\",\"file_bytes\":\"78ff\"}";
+        assert_eq!(object.to_string(), line);
+    }
+}

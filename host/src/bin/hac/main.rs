@@ -1,0 +1,78 @@
+//! The command `hac`: HAC recordings checked, walked, linked, read and brought to
+//! their normal form, by the proved library.
+
+#![forbid(unsafe_code)]
+
+mod arguments;
+mod check;
+mod files;
+mod input;
+mod json;
+mod normal;
+mod one;
+mod output;
+mod parents;
+mod progress;
+mod samples;
+mod shown;
+mod summary;
+mod verdict;
+mod walk;
+mod whole;
+
+use arguments::{Arguments, Command};
+use output::{say, Broken, Output};
+use std::env;
+use std::process::ExitCode;
+use verdict::Status;
+
+const HELP: &str = "\
+HAC fisheries recordings: checked, walked and brought to their normal form.
+
+  hac check FILE..          is each file accepted? A folder stands for all files
+                            in it and below.
+  hac normal FILE -o OUT    writes a file's normal form to OUT, whole or not at all
+  hac walk FILE [--back]    a file's tuples: place, type, name, length
+  hac parents FILE PLACE    the channel and the sounder of the ping at a place
+  hac samples FILE PLACE    the samples of the ping at a place: number, value
+
+  --json       one object a line
+  --help       this page
+  --version    the program's version
+  --           no options behind it
+  -            as FILE: standard input
+
+Exit status: 0 accepted, 1 refused, 2 not a file or bad use; of many files 2 if
+any couldn't be read, else 1 if any was refused.";
+
+const VERSION: &str = concat!("hac ", env!("CARGO_PKG_VERSION"));
+
+fn run(command: Command, output: &mut Output) -> Result<(), Broken> {
+    match command {
+        Command::Help => output.line(HELP)?,
+        Command::Version => output.line(VERSION)?,
+        Command::Check { inputs } => check::run(inputs, output)?,
+        Command::One { input, task } => one::run(&input, &task, output)?,
+    }
+    output.flush()
+}
+
+/// Runs a command, and tells how the program ends.
+fn finish(Arguments { command, json }: Arguments) -> Status {
+    let mut output = Output::new(json);
+    match run(command, &mut output) {
+        Ok(()) => output.status(),
+        Err(broken) => broken.ends(output.status()),
+    }
+}
+
+fn main() -> ExitCode {
+    let status = match Arguments::parse(env::args_os().skip(1)) {
+        Ok(arguments) => finish(arguments),
+        Err(fault) => {
+            say(format_args!("{fault}; hac --help says more"));
+            Status::Unread
+        }
+    };
+    ExitCode::from(status as u8)
+}

@@ -1,0 +1,66 @@
+//! How many files came out how.
+
+use crate::json::Object;
+use crate::output::{Broken, Output};
+use crate::verdict::Verdict;
+use hac::Code;
+use std::collections::BTreeMap;
+
+#[derive(Default)]
+pub struct Summary {
+    accepted: usize,
+    unread: usize,
+    /// The refused ones, by code.
+    codes: BTreeMap<Code, usize>,
+}
+
+impl Summary {
+    pub fn count(&mut self, verdict: &Verdict) {
+        match verdict {
+            Verdict::Accepted(_) => self.accepted += 1,
+            Verdict::Refused(refusal) => *self.codes.entry(refusal.code).or_default() += 1,
+            Verdict::Unread(_) => self.unread += 1,
+        }
+    }
+
+    fn refused(&self) -> usize {
+        self.codes.values().sum()
+    }
+
+    fn files(&self) -> usize {
+        self.accepted + self.refused() + self.unread
+    }
+
+    pub fn tell(&self, output: &mut Output) -> Result<(), Broken> {
+        output.tell(
+            format_args!(
+                "files {}, accepted {}, refused {}, not read {}",
+                self.files(),
+                self.accepted,
+                self.refused(),
+                self.unread
+            ),
+            || Object::default().object("summary", self.object()),
+        )?;
+        if output.json {
+            return Ok(());
+        }
+        for (code, count) in &self.codes {
+            output.line(format_args!("{count:>8}  {code}"))?;
+        }
+        Ok(())
+    }
+
+    fn object(&self) -> Object {
+        let codes = self.codes.iter();
+        let codes = codes.fold(Object::default(), |codes, (code, count)| {
+            codes.number(&code.number().to_string(), *count)
+        });
+        Object::default()
+            .number("files", self.files())
+            .number("accepted", self.accepted)
+            .number("refused", self.refused())
+            .number("unread", self.unread)
+            .object("codes", codes)
+    }
+}

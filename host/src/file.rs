@@ -1,0 +1,76 @@
+//! A whole file: its limits, its byte order, its check, and a ping's parents.
+
+use crate::answer::Refusal;
+use crate::call::{self, TUPLES};
+use crate::field::{DocumentId, Field, Fields, SoftwareChannel};
+
+/// The most bytes of a file, and of a normal form.
+pub const FILE_LIMIT: usize = 16_777_216;
+
+/// The most bytes of a tuple.
+pub const TUPLE_LIMIT: usize = 262_144;
+
+/// The most values of a ping.
+pub const VALUE_LIMIT: usize = 32_764;
+
+/// The place of a file's first tuple, behind the mark.
+pub const FIRST_PLACE: usize = 4;
+
+/// The byte order of a file.
+#[derive(Clone, Copy, Debug, PartialEq, Eq)]
+pub enum Order {
+    /// Least significant byte first.
+    Lsb,
+    /// Most significant byte first.
+    Msb,
+}
+
+impl Order {
+    /// The four bytes that a file of this order begins with.
+    pub const fn mark(self) -> [u8; FIRST_PLACE] {
+        match self {
+            Order::Lsb => [0xAC, 0, 0, 0],
+            Order::Msb => [0, 0, 0, 0xAC],
+        }
+    }
+
+    pub(crate) fn is_msb(self) -> bool {
+        self == Order::Msb
+    }
+}
+
+/// Checks a whole file and counts its tuples. Refuses by 1, 2; tuple by tuple 4,
+/// 3, 5, 3, 6, 7, 9, 8, 12, 14, 13, 11, 10; behind the end of file 15, 16, 17.
+pub fn check(file: &[u8]) -> Result<usize, Refusal> {
+    let answer = call::hac_check(file)?;
+    Ok(Field::of_entry(answer[TUPLES]))
+}
+
+/// The channel and the sounder of a ping.
+#[derive(Clone, Copy, Debug, PartialEq, Eq)]
+pub struct Parents {
+    /// The channel that the ping names.
+    pub channel: SoftwareChannel,
+    /// Where the channel's tuple starts.
+    pub channel_place: usize,
+    /// The sounder that the channel names.
+    pub sounder: DocumentId,
+    /// Where the sounder's tuple starts.
+    pub sounder_place: usize,
+    /// How many tuples the file has.
+    pub tuples: usize,
+}
+
+/// The parents of the ping at a place. Refuses as [`check`] does; then by 9 where
+/// no listed ping starts.
+pub fn ask(file: &[u8], place: usize) -> Result<Parents, Refusal> {
+    let answer = call::hac_ask(file, place)?;
+    let mut fields = Fields::of(&answer);
+    Ok(Parents {
+        channel: fields.next(),
+        channel_place: fields.next(),
+        sounder: fields.next(),
+        sounder_place: fields.next(),
+        tuples: Field::of_entry(answer[TUPLES]),
+    })
+}

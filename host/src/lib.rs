@@ -1,0 +1,64 @@
+//! HAC fisheries recordings: checked, walked both ways, linked, read, written
+//! and brought to one normal form, by the proved library.
+//!
+//! A file is a slice of bytes and may hold anything; a place is a byte offset
+//! in it. Every call accepts, or gives a [`Refusal`]: the first rule broken, in
+//! document 01's order. A refused call leaves lent memory as it was; an accepted
+//! one leaves what stands past what it wrote.
+//!
+//! ```
+//! use hac::{Navigation, Order};
+//!
+//! let told = Navigation {
+//!     time_fraction: 5000,
+//!     time_cpu: 60,
+//!     navigation_system: 1,
+//!     heading: -905,
+//!     navigation_speed: 5144,
+//!     tuple_attribute: 0,
+//! };
+//! let mut file = [0; hac::FIRST_PLACE + 28];
+//! let (mark, tuple) = file.split_at_mut(hac::FIRST_PLACE);
+//! mark.copy_from_slice(&Order::Msb.mark());
+//! told.write(Order::Msb, tuple)?;
+//! assert_eq!(Navigation::read(&file, hac::FIRST_PLACE)?, told);
+//!
+//! // One tuple is no acceptable file: its first is no signature.
+//! let refusal = hac::check(&file).unwrap_err();
+//! assert_eq!(refusal.to_string(), "7: first is no signature, or a later one is, at 4");
+//! # Ok::<(), hac::Refusal>(())
+//! ```
+
+// Unsafe code stands in `call` alone; `ffi` declares what it calls.
+#![deny(unsafe_code)]
+#![warn(missing_docs)]
+
+#[macro_use]
+mod table;
+
+mod answer;
+#[allow(unsafe_code)]
+mod call;
+mod ffi;
+mod field;
+mod file;
+#[cfg(test)]
+mod header;
+mod normal;
+mod ping;
+mod record;
+pub mod types;
+mod walk;
+
+pub use answer::{Code, Refusal};
+pub use field::{DocumentId, SoftwareChannel, Transceiver};
+pub use file::{ask, check, Order, Parents, FILE_LIMIT, FIRST_PLACE, TUPLE_LIMIT, VALUE_LIMIT};
+pub use normal::{normal_form, normalise, normalise_tuple, Normal};
+pub use ping::{
+    read_ping, read_samples, samples, write_c32, write_u32, Ping, PingHeader, PingKind, Samples,
+};
+pub use record::{
+    Attitude, Channel, Event, FileEnd, Navigation, Position, RunEnd, RunStart, Signature, Sounder,
+    Threshold, REMARK,
+};
+pub use walk::{Step, Tuple, Tuples, Walk};

@@ -1,0 +1,51 @@
+//! The normal form of a file, and of one tuple.
+
+use crate::answer::Refusal;
+use crate::call::{self, HEAD, LENGTH, TUPLES};
+use crate::field::Field;
+use crate::file::FILE_LIMIT;
+
+/// A normal form that was written.
+#[derive(Clone, Copy, Debug, PartialEq, Eq)]
+pub struct Normal {
+    /// How many tuples the file handed in has.
+    pub tuples: usize,
+    /// How many bytes were written.
+    pub length: usize,
+}
+
+impl Normal {
+    fn of(answer: [u64; HEAD]) -> Normal {
+        Normal {
+            tuples: Field::of_entry(answer[TUPLES]),
+            length: Field::of_entry(answer[LENGTH]),
+        }
+    }
+}
+
+/// Writes a file's normal form into lent memory. Refuses as [`crate::check`]
+/// does; then by 18, 20, 19.
+pub fn normalise(file: &[u8], out: &mut [u8]) -> Result<Normal, Refusal> {
+    call::hac_normalise(file, out).map(Normal::of)
+}
+
+/// Writes the normal form of a mark and one tuple into lent memory: the mark
+/// alone for a tuple of the index class. Refuses by 1, 2; 3, 5, 3, 6, 9, 8, 11,
+/// 10 at 4; 15 for bytes behind the tuple; 18; 19.
+pub fn normalise_tuple(file: &[u8], out: &mut [u8]) -> Result<Normal, Refusal> {
+    call::hac_normalise_tuple(file, out).map(Normal::of)
+}
+
+/// A normal form is less than so many times as long as its file: at the most a
+/// C-32 ping's word of four bytes becomes a pair of eight.
+const GROWTH: usize = 2;
+
+/// A file's normal form, in new memory that is just enough for it. Refuses as
+/// [`normalise`] does, but never by 19.
+pub fn normal_form(file: &[u8]) -> Result<Vec<u8>, Refusal> {
+    let mut out = vec![0; file.len().saturating_mul(GROWTH).min(FILE_LIMIT)];
+    let normal = normalise(file, &mut out)?;
+    out.truncate(normal.length);
+    out.shrink_to_fit();
+    Ok(out)
+}

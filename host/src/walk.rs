@@ -1,0 +1,124 @@
+//! The walk: a state that a step takes and hands back, and iterators over it.
+
+use crate::answer::Refusal;
+use crate::call::{self, TUPLES};
+use crate::field::Fields;
+use crate::file::FIRST_PLACE;
+use std::iter::FusedIterator;
+
+/// Where a walk stands: any place of any file.
+#[derive(Clone, Copy, Debug, PartialEq, Eq)]
+pub struct Walk {
+    /// The place.
+    pub at: usize,
+}
+
+/// A tuple that a step found.
+#[derive(Clone, Copy, Debug, PartialEq, Eq)]
+pub struct Tuple {
+    /// Where it starts.
+    pub place: usize,
+    /// Its whole length.
+    pub length: usize,
+    /// Its type code; [`crate::types`] has those of the listed types.
+    pub kind: u16,
+}
+
+/// What one step yields.
+#[derive(Clone, Copy, Debug, PartialEq, Eq)]
+pub enum Step {
+    /// A tuple, and the walk past it.
+    Tuple {
+        /// The tuple.
+        tuple: Tuple,
+        /// Where the walk goes on.
+        next: Walk,
+    },
+    /// The end.
+    End,
+    /// A refusal at the step's place: 1, 2, 3, 5, 3, 6.
+    Refused(Refusal),
+}
+
+impl Walk {
+    /// Before a file's first tuple.
+    pub const START: Walk = Walk { at: FIRST_PLACE };
+
+    /// Behind a file's last tuple.
+    pub const fn end(file: &[u8]) -> Walk {
+        Walk { at: file.len() }
+    }
+
+    /// Steps over the tuple that starts here. The file's length is the end.
+    pub fn forward(self, file: &[u8]) -> Step {
+        step(call::hac_forward(file, self.at))
+    }
+
+    /// Steps back over the tuple that ends here. Place 4 is the end.
+    pub fn backward(self, file: &[u8]) -> Step {
+        step(call::hac_backward(file, self.at))
+    }
+
+    /// The tuples from here on. A refusal is the last item.
+    pub fn forwards(self, file: &[u8]) -> Tuples<'_> {
+        Tuples {
+            file,
+            step: Walk::forward,
+            walk: Some(self),
+        }
+    }
+
+    /// The tuples before here, the nearest first. A refusal is the last item.
+    pub fn backwards(self, file: &[u8]) -> Tuples<'_> {
+        Tuples {
+            file,
+            step: Walk::backward,
+            walk: Some(self),
+        }
+    }
+}
+
+fn step<const ENTRIES: usize>(answer: call::Answer<ENTRIES>) -> Step {
+    let answer = match answer {
+        Ok(answer) => answer,
+        Err(refusal) => return Step::Refused(refusal),
+    };
+    if answer[TUPLES] == 0 {
+        return Step::End;
+    }
+    let mut fields = Fields::of(&answer);
+    Step::Tuple {
+        tuple: Tuple {
+            place: fields.next(),
+            length: fields.next(),
+            kind: fields.next(),
+        },
+        next: Walk { at: fields.next() },
+    }
+}
+
+/// The tuples of a walk; made by [`Walk::forwards`] and [`Walk::backwards`].
+#[derive(Clone, Debug)]
+pub struct Tuples<'a> {
+    file: &'a [u8],
+    step: fn(Walk, &[u8]) -> Step,
+    /// None where the walk has ended.
+    walk: Option<Walk>,
+}
+
+impl Iterator for Tuples<'_> {
+    type Item = Result<Tuple, Refusal>;
+
+    fn next(&mut self) -> Option<Self::Item> {
+        match (self.step)(self.walk.take()?, self.file) {
+            Step::Tuple { tuple, next } => {
+                self.walk = Some(next);
+                Some(Ok(tuple))
+            }
+            Step::End => None,
+            Step::Refused(refusal) => Some(Err(refusal)),
+        }
+    }
+}
+
+impl FusedIterator for Tuples<'_> {}

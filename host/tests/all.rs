@@ -1,0 +1,19 @@
+//! The library, the header and the program, on the samples, the vectors and
+//! copies of them that are damaged by rule. Known answers come from document 01
+//! and from the samples' lines.
+
+mod arguments;
+mod check;
+mod damage;
+mod face;
+mod json;
+mod known;
+mod many;
+mod names;
+mod normal;
+mod pings;
+mod progress;
+mod records;
+mod room;
+mod streams;
+mod walk;

@@ -1,0 +1,109 @@
+//! Good and bad use.
+
+use crate::known::Known;
+use crate::room::{hac, run, Room};
+
+#[test]
+fn help_and_version() {
+    for arguments in [
+        &["--help"][..],
+        &["walk", "--help"],
+        &["--json", "check", "--help"],
+    ] {
+        let ran = run(&mut hac(arguments));
+        assert_eq!((ran.status, ran.err.as_str()), (0, ""));
+        for command in ["check", "normal", "walk", "parents", "samples"] {
+            assert!(ran.out.contains(&format!("hac {command} ")), "{command}");
+        }
+    }
+    let ran = run(&mut hac(["--version"]));
+    let version = concat!("hac ", env!("CARGO_PKG_VERSION"), "\n");
+    assert_eq!((ran.status, ran.out.as_str()), (0, version));
+}
+
+/// Bad use: status 2, one line on standard error, and nothing is done.
+#[test]
+fn bad_use() {
+    let room = Room::new();
+    let known = Known::sample("cruise-lsb");
+    let file = known.path.to_str().expect("a plain name");
+    let out = room.at("out.hac");
+    let out = out.to_str().expect("a plain name");
+    let uses: [&[&str]; 22] = [
+        &[],
+        &["judge"],
+        &["judge", file],
+        &["check"],
+        &["check", "-", "-"],
+        &["check", "--fast", file],
+        &["check", "--back", file],
+        &["check", "-o", out, file],
+        &["walk"],
+        &["walk", file, file],
+        &["walk", "-x"],
+        &["normal", file],
+        &["normal", file, "-o"],
+        &["normal", file, "-o", out, "-o", out],
+        &["normal", "-o", out],
+        &["normal", file, file, "-o", out],
+        &["normal", file, "-o", "-"],
+        &["parents", file],
+        &["parents", file, "here"],
+        &["samples", file, "-1"],
+        &["samples", file, "4", "4"],
+        &["samples", file, "18446744073709551616"],
+    ];
+    for arguments in uses {
+        let ran = run(hac(arguments).current_dir(room.path()));
+        assert_eq!((ran.status, ran.out.as_str()), (2, ""), "{arguments:?}");
+        assert!(ran.err.starts_with("hac: ") && ran.err.lines().count() == 1);
+        assert_eq!(room.names(), Vec::<String>::new());
+    }
+}
+
+/// What is no file is said, with status 2.
+#[test]
+fn no_files() {
+    let room = Room::new();
+    let folder = room.path().to_str().expect("a plain name");
+    let none = room.at("none.hac");
+    let none = none.to_str().expect("a plain name");
+    let uses: [&[&str]; 7] = [
+        &["check", none],
+        &["walk", folder],
+        &["walk", none],
+        &["parents", none, "4"],
+        &["samples", folder, "4"],
+        &["normal", none, "-o", "out.hac"],
+        &["normal", folder, "-o", "out.hac"],
+    ];
+    for arguments in uses {
+        let ran = run(hac(arguments).current_dir(room.path()));
+        assert_eq!((ran.status, ran.out.as_str()), (2, ""), "{arguments:?}");
+        let start = format!("hac: {}: ", arguments[1]);
+        assert!(ran.err.starts_with(&start) && ran.err.lines().count() == 1);
+        assert_eq!(room.names(), Vec::<String>::new());
+    }
+}
+
+/// Options stand anywhere; behind `--` are none.
+#[test]
+fn options_anywhere() {
+    let room = Room::new();
+    let known = Known::sample("cruise-lsb");
+    let file = known.path.to_str().expect("a plain name");
+    let plain = run(&mut hac(["walk", "--back", "--json", file]));
+    for arguments in [
+        ["--json", "--back", "walk", file],
+        ["walk", file, "--json", "--back"],
+    ] {
+        let ran = run(&mut hac(arguments));
+        assert_eq!((ran.status, &ran.out), (0, &plain.out));
+    }
+    room.put("--json", &known.bytes);
+    let ran = run(hac(["check", "--", "--json"]).current_dir(room.path()));
+    assert_eq!(
+        ran.out,
+        format!("--json: accepted, {} tuples\n", known.tuples.len())
+    );
+}

@@ -1,0 +1,196 @@
+//! Copies of a sample that break one rule each: for every code that a file can be
+//! refused by, document 01 tells which it is and where.
+
+use crate::known::{Known, Tuple};
+use hac::Order;
+
+/// A damaged file, and the refusal that 01 gives it.
+pub struct Damaged {
+    pub name: &'static str,
+    pub bytes: Vec<u8>,
+    pub code: u8,
+    pub place: usize,
+}
+
+/// A file that is being put together.
+pub struct Draft {
+    pub tuples: Vec<Vec<u8>>,
+    order: Order,
+}
+
+impl Draft {
+    pub fn of(known: &Known) -> Draft {
+        Draft {
+            tuples: known
+                .tuples
+                .iter()
+                .map(|tuple| tuple.bytes.clone())
+                .collect(),
+            order: known.order,
+        }
+    }
+
+    pub fn bytes(&self) -> Vec<u8> {
+        [&self.order.mark()[..], &self.tuples.concat()].concat()
+    }
+
+    /// Where the n-th tuple starts.
+    fn place(&self, nth: usize) -> usize {
+        hac::FIRST_PLACE + self.tuples[..nth].iter().map(Vec::len).sum::<usize>()
+    }
+
+    /// The first tuple of a type in LSB order.
+    fn find(&self, kind: u16) -> usize {
+        let is = |tuple: &Vec<u8>| tuple[4..6] == kind.to_le_bytes();
+        self.tuples.iter().position(is).expect("such a tuple")
+    }
+
+    /// Breaks a rule of the n-th tuple.
+    fn broken(
+        mut self,
+        name: &'static str,
+        code: u8,
+        nth: usize,
+        with: fn(&mut Vec<u8>),
+    ) -> Damaged {
+        with(&mut self.tuples[nth]);
+        let place = self.place(nth);
+        self.refused(name, code, place)
+    }
+
+    fn refused(self, name: &'static str, code: u8, place: usize) -> Damaged {
+        Damaged {
+            name,
+            bytes: self.bytes(),
+            code,
+            place,
+        }
+    }
+}
+
+/// Types of the sample's tuples.
+const NAVIGATION: u16 = 30;
+const SOUNDER: u16 = 100;
+const CHANNEL: u16 = 1000;
+const PING_C: u16 = 10010;
+
+/// 01's limits: sounders and channels of a file, values of a ping.
+const SOUNDERS: usize = 16;
+const CHANNELS: usize = 64;
+
+/// A C-32 ping of some values, all 1, with the header of another in LSB order.
+pub fn long_ping(like: &Tuple, values: usize) -> Vec<u8> {
+    let length = 36 + 4 * values as u32;
+    let mut tuple = (length - 10).to_le_bytes().to_vec();
+    tuple.extend(&like.bytes[4..24]);
+    tuple.extend((values as u32).to_le_bytes());
+    tuple.extend([1, 0, 0, 0].repeat(values));
+    tuple.extend([0; 4]);
+    tuple.extend(length.to_le_bytes());
+    tuple
+}
+
+/// More than one tuple of a kind that declares something: the n-th copy has
+/// identifiers of its own, and a sounder no channels.
+fn declarations(like: &[u8], identifier: usize, count: usize) -> Vec<Vec<u8>> {
+    let copies = (0..count).map(|nth| {
+        let mut copy = like.to_vec();
+        copy[identifier..identifier + 2].copy_from_slice(&(7000 + nth as u16).to_le_bytes());
+        copy
+    });
+    copies.collect()
+}
+
+/// Damage to the frame of the file and of its tuples.
+fn frames(known: &Known) -> Vec<Damaged> {
+    let draft = || Draft::of(known);
+    let whole = |name, bytes: Vec<u8>, code, place| Damaged {
+        name,
+        bytes,
+        code,
+        place,
+    };
+    let length = known.bytes.len();
+    let last = known.tuples.last().expect("a tuple").place;
+    let mut too_long = known.bytes.clone();
+    too_long.resize(hac::FILE_LIMIT + 1, 0);
+    let mut behind = known.bytes.clone();
+    behind.push(0);
+    vec![
+        whole("01-over", too_long, 1, 0),
+        whole("02-empty", Vec::new(), 2, 0),
+        whole("02-mark", known.bytes[1..].to_vec(), 2, 0),
+        whole("03-passes", known.bytes[..length - 4].to_vec(), 3, last),
+        whole("03-few", known.bytes[..last + 15].to_vec(), 3, last),
+        whole("04-no-end", known.bytes[..last].to_vec(), 4, last),
+        draft().broken("05-size", 5, 3, |tuple| tuple[0] += 1),
+        draft().broken("06-backlink", 6, 3, |tuple| {
+            let last = tuple.len() - 1;
+            tuple[last] = 1;
+        }),
+        whole("15-behind", behind, 15, length),
+    ]
+}
+
+/// Damage to single tuples.
+fn tuples(known: &Known) -> Vec<Damaged> {
+    let draft = || Draft::of(known);
+    let find = |kind| draft().find(kind);
+    let mut headless = draft();
+    headless.tuples.remove(0);
+    let mut twice = draft();
+    twice.tuples.insert(2, known.tuples[0].bytes.clone());
+    let again = twice.place(2);
+    let mut overfull = draft();
+    overfull.tuples[find(PING_C)] = long_ping(known.first(PING_C), hac::VALUE_LIMIT + 1);
+    vec![
+        headless.refused("07-first", 7, hac::FIRST_PLACE),
+        twice.refused("07-later", 7, again),
+        draft().broken("08-identifier", 8, 0, |tuple| tuple[6] = 0xA9),
+        draft().broken("09-unfit", 9, find(NAVIGATION), |tuple| tuple[4] = 20),
+        draft().broken("10-count", 10, find(PING_C), |tuple| tuple[24] += 1),
+        overfull.broken("11-values", 11, find(PING_C), |_| ()),
+        draft().broken("13-channel", 13, find(PING_C), |tuple| tuple[12] = 99),
+        draft().broken("13-parent", 13, find(CHANNEL), |tuple| tuple[8] += 9),
+    ]
+}
+
+/// Damage to what the file declares.
+fn links(known: &Known) -> Vec<Damaged> {
+    let draft = || Draft::of(known);
+    let (sounder, channel) = (draft().find(SOUNDER), draft().find(CHANNEL));
+    let end = draft().tuples.len() - 1;
+    let mut same = draft();
+    same.tuples.insert(end, known.tuples[channel].bytes.clone());
+    let again = same.place(end);
+    let mut sounders = draft();
+    let more = declarations(&known.tuples[sounder].bytes, 8, SOUNDERS);
+    sounders.tuples.splice(end..end, more);
+    let one_too_many = SOUNDERS - known.of(SOUNDER).count();
+    let seventeenth = sounders.place(end + one_too_many);
+    let mut channels = draft();
+    let more = declarations(&known.tuples[channel].bytes, 6, CHANNELS);
+    channels.tuples.splice(end..end, more);
+    let one_too_many = CHANNELS - known.of(CHANNEL).count();
+    let sixty_fifth = channels.place(end + one_too_many);
+    let mut silent = draft();
+    silent
+        .tuples
+        .retain(|tuple| tuple[4..6] != [0x10, 0x27] && tuple[4..6] != [0x1A, 0x27]);
+    let length = silent.bytes().len();
+    vec![
+        same.refused("12-channel", 12, again),
+        sounders.refused("14-sounders", 14, seventeenth),
+        channels.refused("14-channels", 14, sixty_fifth),
+        silent.refused("16-no-ping", 16, length),
+        draft().broken("17-count", 17, sounder, |tuple| tuple[6] += 1),
+    ]
+}
+
+/// For each code that the check gives, at least one copy of a sample in LSB order.
+pub fn all(known: &Known) -> Vec<Damaged> {
+    let mut all = frames(known);
+    all.extend(tuples(known));
+    all.extend(links(known));
+    all
+}

@@ -1,0 +1,80 @@
+/* The header's own example, grown: checks a file, walks it, reads some fields and prints them. */
+#include "hac.h"
+
+#include <stdio.h>
+#include <stdlib.h>
+
+typedef unsigned long long number;
+
+static uint8_t file[HAC_FILE_LIMIT];
+static size_t length;
+
+/* The fields of each call that was accepted. */
+static uint64_t answer[HAC_READ_CHANNEL_ENTRIES];
+
+/* Ends the program where a call is refused. */
+static void accept(uint8_t code) {
+    if (code != HAC_ACCEPTED) {
+        printf("refused %d at %llu\n", (int)answer[HAC_CODE], (number)answer[HAC_PLACE]);
+        exit(1);
+    }
+}
+
+static void print_navigation(size_t place) {
+    accept(hac_read_navigation(file, length, place, answer, HAC_READ_NAVIGATION_ENTRIES));
+    printf("heading %d\n", (int)(int16_t)answer[HAC_NAVIGATION_HEADING]);
+}
+
+static void print_position(size_t place) {
+    accept(hac_read_position(file, length, place, answer, HAC_READ_POSITION_ENTRIES));
+    printf("position %ld %ld\n", (long)(int32_t)answer[HAC_POSITION_LATITUDE], (long)(int32_t)answer[HAC_POSITION_LONGITUDE]);
+}
+
+static void print_event(size_t place) {
+    accept(hac_read_event(file, length, place, answer, HAC_READ_EVENT_ENTRIES));
+    printf("event %.*s\n", (int)answer[HAC_EVENT_TEXT_LENGTH], (const char *)file + answer[HAC_EVENT_TEXT_PLACE]);
+}
+
+/* A ping's parents, and the sum of its samples. */
+static void print_ping(size_t place) {
+    static uint32_t numbers[HAC_VALUE_LIMIT];
+    static int32_t values[HAC_VALUE_LIMIT];
+    accept(hac_ask(file, length, place, answer, HAC_ASK_ENTRIES));
+    printf("ping of %llu of %llu", (number)answer[HAC_ASK_CHANNEL], (number)answer[HAC_ASK_SOUNDER]);
+    accept(hac_read_samples(file, length, place, numbers, HAC_VALUE_LIMIT, values, HAC_VALUE_LIMIT, answer,
+        HAC_READ_SAMPLES_ENTRIES));
+    long long sum = 0;
+    for (size_t i = 0; i < answer[HAC_LENGTH]; i++) {
+        sum += values[i];
+    }
+    printf(": %llu samples, sum %lld\n", (number)answer[HAC_LENGTH], sum);
+}
+
+static void print_tuple(size_t place, uint64_t type) {
+    switch (type) {
+    case HAC_TYPE_NAVIGATION: print_navigation(place); break;
+    case HAC_TYPE_POSITION: print_position(place); break;
+    case HAC_TYPE_EVENT: print_event(place); break;
+    case HAC_TYPE_PING_U:
+    case HAC_TYPE_PING_C: print_ping(place); break;
+    }
+}
+
+int main(int count, char **arguments) {
+    FILE *from = count == 2 ? fopen(arguments[1], "rb") : NULL;
+    if (from == NULL) {
+        return 2;
+    }
+    length = fread(file, 1, sizeof file, from);
+    fclose(from);
+    accept(hac_check(file, length, answer, HAC_CHECK_ENTRIES));
+    printf("%llu tuples\n", (number)answer[HAC_TUPLES]);
+    uint64_t step[HAC_FORWARD_ENTRIES];
+    for (size_t place = HAC_FIRST_PLACE;; place = (size_t)step[HAC_STEP_NEXT]) {
+        accept(hac_forward(file, length, place, step, HAC_FORWARD_ENTRIES));
+        if (step[HAC_TUPLES] == 0) {
+            return 0;
+        }
+        print_tuple(place, step[HAC_STEP_TYPE]);
+    }
+}

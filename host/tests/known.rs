@@ -1,0 +1,139 @@
+//! What is known of the samples and the vectors, from their lines alone: a tuple
+//! a line, the mark on the first.
+
+use hac::Order;
+use std::fs;
+use std::path::{Path, PathBuf};
+
+/// The four spellings of the cruise, and their normal form.
+pub const SPELLINGS: [&str; 4] = [
+    "cruise-lsb",
+    "cruise-lsb-cut",
+    "cruise-msb",
+    "cruise-msb-cut",
+];
+pub const NORMAL: &str = "cruise-normal";
+
+/// A place in the repository.
+pub fn repository(path: &str) -> PathBuf {
+    Path::new(env!("CARGO_MANIFEST_DIR")).join("..").join(path)
+}
+
+/// Lines of hexadecimal, decoded and joined.
+pub fn decode(lines: &str) -> Vec<u8> {
+    let digits: String = lines.split_whitespace().collect();
+    (0..digits.len())
+        .step_by(2)
+        .map(|at| u8::from_str_radix(&digits[at..at + 2], 16).expect("hexadecimal"))
+        .collect()
+}
+
+/// The bytes that a vector's lines stand for.
+pub fn vector(name: &str) -> Vec<u8> {
+    let path = repository("tests/vectors").join(name);
+    decode(&fs::read_to_string(path).expect("a vector"))
+}
+
+/// A tuple of a sample.
+#[derive(Clone)]
+pub struct Tuple {
+    pub order: Order,
+    pub place: usize,
+    pub bytes: Vec<u8>,
+}
+
+impl Tuple {
+    pub fn two(&self, at: usize) -> u16 {
+        let bytes = [self.bytes[at], self.bytes[at + 1]];
+        match self.order {
+            Order::Lsb => u16::from_le_bytes(bytes),
+            Order::Msb => u16::from_be_bytes(bytes),
+        }
+    }
+
+    pub fn four(&self, at: usize) -> u32 {
+        let bytes = self.bytes[at..at + 4].try_into().expect("four bytes");
+        match self.order {
+            Order::Lsb => u32::from_le_bytes(bytes),
+            Order::Msb => u32::from_be_bytes(bytes),
+        }
+    }
+
+    /// The type code, which stands behind the data size.
+    pub fn kind(&self) -> u16 {
+        self.two(4)
+    }
+
+    pub fn is_ping(&self) -> bool {
+        [10000, 10010].contains(&self.kind())
+    }
+}
+
+/// A sample: its bytes, and its tuples as its lines tell them.
+pub struct Known {
+    pub path: PathBuf,
+    pub bytes: Vec<u8>,
+    pub order: Order,
+    pub tuples: Vec<Tuple>,
+}
+
+impl Known {
+    pub fn sample(name: &str) -> Known {
+        let path = repository("samples").join(format!("{name}.hac"));
+        let bytes = fs::read(&path).expect("a sample");
+        let lines = fs::read_to_string(path.with_extension("hex")).expect("its lines");
+        let mut lines = lines.lines();
+        let order = match lines.next() {
+            Some("ac000000") => Order::Lsb,
+            Some("000000ac") => Order::Msb,
+            mark => panic!("no mark: {mark:?}"),
+        };
+        let mut place = hac::FIRST_PLACE;
+        let tuples = lines.map(|line| {
+            let bytes = decode(line);
+            let start = place;
+            place += bytes.len();
+            Tuple {
+                order,
+                place: start,
+                bytes,
+            }
+        });
+        Known {
+            tuples: tuples.collect(),
+            path,
+            bytes,
+            order,
+        }
+    }
+
+    /// The tuples of a type.
+    pub fn of(&self, kind: u16) -> impl Iterator<Item = &Tuple> {
+        self.tuples.iter().filter(move |tuple| tuple.kind() == kind)
+    }
+
+    /// The first tuple of a type.
+    pub fn first(&self, kind: u16) -> &Tuple {
+        self.of(kind).next().expect("a tuple of this type")
+    }
+
+    pub fn pings(&self) -> Vec<&Tuple> {
+        self.tuples.iter().filter(|tuple| tuple.is_ping()).collect()
+    }
+}
+
+/// The bytes of 01's examples E1, E3 and E4.
+pub fn e1() -> Vec<u8> {
+    decode("ac000000 0e000000ffffacac64006400acac01df0000000018000000")
+}
+
+pub fn e3() -> Vec<u8> {
+    decode("000000ac 00000012001e13880000003c0001fc7714180000000000000000001c")
+}
+
+pub fn e4() -> Vec<u8> {
+    decode(
+        "ac000000 260000001a2700003c0000000100000001000000ffffff7f02000000\
+         0100ffff6400000090eefeff0000000030000000",
+    )
+}

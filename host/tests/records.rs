@@ -1,0 +1,288 @@
+//! The eleven records, read and written, held to document 01's rows.
+
+use crate::known::{decode, e3, Known, Tuple, SPELLINGS};
+use hac::*;
+
+/// 01's rows: the widths behind the type, `s` signed, `c` characters, `z` a space,
+/// `i` the signature's identifier, `n` what the length leaves. Attribute and
+/// backlink end every row.
+const ROWS: [(u16, &str); 11] = [
+    (65535, "i2 2 2 4"),
+    (100, "2 4 2 2 s2 2 s2 2 2 s2 2 2 c30 z2"),
+    (
+        1000,
+        "2 4 4 2 2 2 z2 4 4 s2 s2 s2 s2 2 2 2 2 2 2 2 s2 s2 s2 4 4 c30 z2",
+    ),
+    (20, "s2 4 4 2 z2 s4 s4"),
+    (30, "2 4 2 s2 2 z2"),
+    (40, "2 4 2 2 s2 s2 s2 s2 s2 z2"),
+    (10100, "2 4 2 2 2 2 2 2 4 4 4"),
+    (10110, "2 4 n"),
+    (65516, "2 4"),
+    (65517, "2 4"),
+    (65534, "2 4 2 n"),
+];
+
+/// A tuple by its row: its numbers, its characters, and the tuple with its spaces 0.
+struct ByRow {
+    numbers: Vec<i64>,
+    characters: Vec<u8>,
+    plain: Vec<u8>,
+}
+
+fn by_row(tuple: &Tuple, row: &str) -> ByRow {
+    let mut told = ByRow {
+        numbers: Vec::new(),
+        characters: Vec::new(),
+        plain: tuple.bytes.clone(),
+    };
+    let attribute = tuple.bytes.len() - 8;
+    let mut at = 6;
+    for width in row.split(' ') {
+        let digits = width.trim_start_matches(|c: char| !c.is_ascii_digit());
+        let end = if width == "n" {
+            attribute
+        } else {
+            at + digits.parse::<usize>().expect("a width")
+        };
+        match width {
+            "2" => told.numbers.push(tuple.two(at).into()),
+            "4" => told.numbers.push(tuple.four(at).into()),
+            "s2" => told.numbers.push((tuple.two(at) as i16).into()),
+            "s4" => told.numbers.push((tuple.four(at) as i32).into()),
+            "z2" => told.plain[at..end].fill(0),
+            "c30" | "n" => told.characters = tuple.bytes[at..end].to_vec(),
+            "i2" => assert_eq!(tuple.two(at), 44204),
+            _ => panic!("no width: {width}"),
+        }
+        at = end;
+    }
+    assert_eq!(at, attribute);
+    told.numbers.push((tuple.four(attribute) as i32).into());
+    told
+}
+
+/// The numbers of a record, in the order of its fields.
+fn numbers(record: &impl std::fmt::Debug) -> Vec<i64> {
+    let text = format!("{record:?}");
+    let fields = text.split(": ").skip(1).map(|field| {
+        let value = field.split(", ").next().expect("a value");
+        let digits: String = value
+            .chars()
+            .filter(|c| c.is_ascii_digit() || *c == '-')
+            .collect();
+        digits.parse().expect("a number")
+    });
+    fields.collect()
+}
+
+/// What comes of reading a record and writing it again.
+struct Again {
+    numbers: Vec<i64>,
+    characters: Vec<u8>,
+    written: Vec<u8>,
+}
+
+/// Reads a record, by itself or with the characters beside it, and writes it into
+/// memory that is just enough, with them where they are written too.
+macro_rules! again {
+    ($record:ident, $file:ident, $tuple:ident) => {{
+        let record = $record::read($file, $tuple.place).expect("a record");
+        again!(record, &[], $tuple, |order, out| record.write(order, out))
+    }};
+    ($record:ident beside, $file:ident, $tuple:ident) => {{
+        let (record, beside) = $record::read($file, $tuple.place).expect("a record");
+        again!(record, beside, $tuple, |order, out| record
+            .write(order, out))
+    }};
+    ($record:ident beside written, $file:ident, $tuple:ident) => {{
+        let (record, beside) = $record::read($file, $tuple.place).expect("a record");
+        again!(record, beside, $tuple, |order, out| record
+            .write(beside, order, out))
+    }};
+    ($record:expr, $beside:expr, $tuple:ident, |$order:ident, $out:ident| $write:expr) => {{
+        let ($order, mut written) = ($tuple.order, vec![7; $tuple.bytes.len()]);
+        let $out = &mut written[..];
+        assert_eq!($write, Ok($tuple.bytes.len()));
+        Again {
+            numbers: numbers(&$record),
+            characters: $beside.to_vec(),
+            written,
+        }
+    }};
+}
+
+fn again(file: &[u8], tuple: &Tuple) -> Again {
+    match tuple.kind() {
+        65535 => again!(Signature, file, tuple),
+        100 => again!(Sounder beside written, file, tuple),
+        1000 => again!(Channel beside written, file, tuple),
+        20 => again!(Position, file, tuple),
+        30 => again!(Navigation, file, tuple),
+        40 => again!(Attitude, file, tuple),
+        10100 => again!(Threshold, file, tuple),
+        10110 => again!(Event beside written, file, tuple),
+        65516 => again!(RunStart, file, tuple),
+        65517 => again!(RunEnd, file, tuple),
+        65534 => again!(FileEnd beside, file, tuple),
+        kind => panic!("{kind} is no record's type"),
+    }
+}
+
+/// Each record of each spelling has the numbers and the characters of its row, and
+/// is written again as it stands there but for its spaces.
+#[test]
+fn all_records_of_all_spellings() {
+    for name in SPELLINGS {
+        let known = Known::sample(name);
+        for (kind, row) in ROWS {
+            assert!(known.of(kind).count() > 0, "{kind}");
+            for tuple in known.of(kind) {
+                let mut told = by_row(tuple, row);
+                let again = again(&known.bytes, tuple);
+                assert_eq!(again.numbers, told.numbers, "{kind}");
+                assert_eq!(again.characters, told.characters, "{kind}");
+                if kind == FileEnd::CODE {
+                    // its data are written as 0
+                    let data = tuple.bytes.len() - 10;
+                    told.plain[data..data + 2].fill(0);
+                }
+                assert_eq!(again.written, told.plain, "{kind}");
+            }
+        }
+    }
+}
+
+/// E3's record: heading -905.
+fn e3_record() -> Navigation {
+    Navigation {
+        time_fraction: 5000,
+        time_cpu: 60,
+        navigation_system: 1,
+        heading: -905,
+        navigation_speed: 5144,
+        tuple_attribute: 0,
+    }
+}
+
+#[test]
+fn example_3() {
+    let file = e3();
+    assert_eq!(Navigation::read(&file, FIRST_PLACE), Ok(e3_record()));
+    let mut out = [7; 32];
+    assert_eq!(e3_record().write(Order::Msb, &mut out), Ok(28));
+    assert_eq!(out[..28], file[FIRST_PLACE..]);
+    assert_eq!(out[28..], [7; 4]);
+}
+
+/// Extreme numbers of every width come back as they were.
+#[test]
+fn extremes() {
+    let position = Position {
+        time_fraction: i16::MIN,
+        time_cpu: u32::MAX,
+        gps_time: 0,
+        positioning_system: u16::MAX,
+        latitude: i32::MIN,
+        longitude: i32::MAX,
+        tuple_attribute: -1,
+    };
+    for order in [Order::Lsb, Order::Msb] {
+        let mut file = order.mark().to_vec();
+        file.resize(40, 0);
+        assert_eq!(position.write(order, &mut file[FIRST_PLACE..]), Ok(36));
+        assert_eq!(Position::read(&file, FIRST_PLACE), Ok(position));
+    }
+}
+
+/// Readers refuse as a forward step is refused, then by 9 for another type; a
+/// signature of another identifier by 8.
+#[test]
+fn refused_readers() {
+    let refused = |code, place| Refusal { code, place };
+    let Known { bytes, tuples, .. } = Known::sample("cruise-lsb");
+    for tuple in tuples
+        .iter()
+        .filter(|tuple| tuple.kind() != Navigation::CODE)
+    {
+        let answer = Navigation::read(&bytes, tuple.place);
+        assert_eq!(answer, Err(refused(Code::Unfit, tuple.place)));
+    }
+    let end = bytes.len();
+    assert_eq!(Event::read(&bytes, end), Err(refused(Code::CutShort, end)));
+    assert_eq!(Event::read(&[], 9), Err(refused(Code::NoMark, 9)));
+    let mut signature = bytes[..28].to_vec();
+    signature[FIRST_PLACE + 6] = 0;
+    let answer = Signature::read(&signature, FIRST_PLACE);
+    assert_eq!(answer, Err(refused(Code::UnknownIdentifier, FIRST_PLACE)));
+}
+
+/// Memory one byte short of the least tuple written here, and what stands in it.
+const SHORT: [u8; 27] = [7; 27];
+
+/// Remarks that don't fit are refused by 9, before memory that is too short by 19;
+/// nothing is written then.
+#[test]
+fn refused_remarks() {
+    let refused = |code| Err(Refusal { code, place: 0 });
+    let known = Known::sample("cruise-lsb");
+    let place = |kind| known.first(kind).place;
+    let (sounder, _) = Sounder::read(&known.bytes, place(100)).expect("a sounder");
+    let (channel, _) = Channel::read(&known.bytes, place(1000)).expect("a channel");
+    let mut out = SHORT;
+    for (length, code) in [
+        (0, Code::Unfit),
+        (REMARK - 1, Code::Unfit),
+        (REMARK + 1, Code::Unfit),
+        (REMARK, Code::NoRoom),
+    ] {
+        let remarks = vec![b' '; length];
+        let written = sounder.write(&remarks, Order::Lsb, &mut out);
+        assert_eq!(written, refused(code), "{length}");
+        let written = channel.write(&remarks, Order::Msb, &mut out);
+        assert_eq!(written, refused(code), "{length}");
+    }
+    let written = e3_record().write(Order::Lsb, &mut out);
+    assert_eq!(written, refused(Code::NoRoom));
+    assert_eq!(out, SHORT);
+}
+
+/// A text that doesn't fit is refused by 9, one that is too long by 11, both before
+/// memory that is too short by 19.
+#[test]
+fn refused_texts() {
+    let event = Event {
+        time_fraction: 1,
+        time_cpu: 2,
+        tuple_attribute: 3,
+    };
+    let mut out = SHORT;
+    for (length, code) in [
+        (0, Code::Unfit),
+        (5, Code::Unfit),
+        (TUPLE_LIMIT - 19, Code::Unfit),
+        (TUPLE_LIMIT - 16, Code::Overfull),
+        (8, Code::NoRoom),
+    ] {
+        let text = vec![b' '; length];
+        let written = event.write(&text, Order::Lsb, &mut out);
+        assert_eq!(written, Err(Refusal { code, place: 0 }), "{length}");
+    }
+    assert_eq!(out, SHORT);
+}
+
+/// The longest text that an event marker takes.
+#[test]
+fn the_longest_text() {
+    let event = Event {
+        time_fraction: 1,
+        time_cpu: 2,
+        tuple_attribute: 3,
+    };
+    let text: Vec<u8> = (0..TUPLE_LIMIT - 20).map(|nth| nth as u8).collect();
+    let mut file = decode("000000ac");
+    file.resize(FIRST_PLACE + TUPLE_LIMIT, 0);
+    let written = event.write(&text, Order::Msb, &mut file[FIRST_PLACE..]);
+    assert_eq!(written, Ok(TUPLE_LIMIT));
+    assert_eq!(Event::read(&file, FIRST_PLACE), Ok((event, &text[..])));
+}
