@@ -9,12 +9,20 @@ use hac::{
 const SOUNDER: DocumentId = DocumentId(7);
 const CHANNEL: SoftwareChannel = SoftwareChannel(3);
 
-/// Samples of a ping.
+/// Samples of a U-32 ping.
 const SAMPLES: u32 = 1000;
 
-/// Gaps between samples are shorter than these.
-const SHORT_GAP: u32 = 8;
-const LONG_GAP: u32 = 200_000;
+/// Words of a C-32 ping; where its number of samples and its words stand; the
+/// bytes of a word, behind the words, and of a tuple's frame.
+const WORDS: u32 = 2000;
+const COUNT_AT: usize = 24;
+const WORDS_AT: usize = 28;
+const WORD: usize = 4;
+const TAIL: usize = 8;
+const FRAME: usize = 10;
+
+/// The word of a run of 1.
+const SHORTEST_RUN: u32 = 0xFFFF_0000;
 
 /// A deposit: what it is of, and its bytes.
 pub struct Deposit {
@@ -120,19 +128,38 @@ fn navigation(order: Order, count: u32, tuple: &mut [u8]) -> Result<usize, Refus
     told.write(order, tuple)
 }
 
-/// C-32 pings, each value behind a gap.
-fn compressed(gap: u32) -> Result<Vec<u8>, Refusal> {
+/// A number in LSB order, put at a place.
+fn put(tuple: &mut [u8], at: usize, number: usize) {
+    tuple[at..at + WORD].copy_from_slice(&(number as u32).to_le_bytes());
+}
+
+/// C-32 pings in LSB order whose words are runs and values by chance: so many
+/// in sixteen are runs, each shorter than `longest`. Recorders cut silence as
+/// they like, so a run may follow a run.
+fn compressed(runs: u32, longest: u32) -> Result<Vec<u8>, Refusal> {
     let mut chance = Chance(12345);
     Draft::new(Order::Lsb)?.fill(|order, count, tuple| {
-        let (mut numbers, mut values) = (Vec::new(), Vec::new());
-        let mut at = 0;
-        for _ in 0..SAMPLES {
-            at += 1 + chance.next() % gap;
-            numbers.push(at);
-            values.push((chance.next() >> 8) as i32);
-            at += 1;
+        let silent = write_c32(&header(count), 0, &[], &[], order, tuple)?;
+        let tail = tuple[silent - TAIL..silent].to_vec();
+        let mut values = 0;
+        let mut at = WORDS_AT;
+        for _ in 0..WORDS {
+            let number = chance.next() >> 4;
+            let word = if chance.next() % 16 < runs {
+                SHORTEST_RUN + number % longest
+            } else {
+                values += 1;
+                number
+            };
+            put(tuple, at, word as usize);
+            at += WORD;
         }
-        write_c32(&header(count), 0, &numbers, &values, order, tuple)
+        let length = at + TAIL;
+        tuple[at..length].copy_from_slice(&tail);
+        put(tuple, 0, length - FRAME);
+        put(tuple, COUNT_AT, values);
+        put(tuple, length - WORD, length);
+        Ok(length)
     })
 }
 
@@ -164,8 +191,8 @@ pub fn all() -> Result<Vec<Deposit>, Refusal> {
             "28-byte tuples, MSB",
             Draft::new(Order::Msb)?.fill(navigation)?,
         ),
-        ("C-32 pings, short runs", compressed(SHORT_GAP)?),
-        ("C-32 pings, long runs", compressed(LONG_GAP)?),
+        ("C-32 pings, short runs", compressed(8, 8)?),
+        ("C-32 pings, long runs", compressed(15, 60_000)?),
         ("U-32 pings, LSB", pairs(Order::Lsb)?),
         ("U-32 pings, MSB", pairs(Order::Msb)?),
         ("refused at the last tuple", refused),
