@@ -51,7 +51,8 @@ pub use pings::write_u32;
 // end; 9 for another type; 9, 8. T::write(record, msb, out) refuses by 19 alone; with remarks by 9 at 0 where they are not thirty
 // characters, before 19; an event's text by 9 where it is no multiple of four characters or none, 11 where the tuple would be over
 // 262,144 bytes, both at 0, before 19. T::new makes a record of its fields; T::CODE, T::LENGTH and a constant for each field's place
-// are the type's own. Promises: `TAt` and `TWritten`, crates/settings|voyage|marks/specs/T.antt.
+// are the type's own. T::numbers(record) gives the row's numbers in its order, the attribute last, a signed one as its pattern.
+// Promises: `TAt` and `TWritten`, in the specs of the record's crate; `numbersIn`, crates/tuples/specs/Writers.antt.
 pub use attitude::Attitude;
 pub use attitude::AttitudeRead;
 pub use channel::Channel;
