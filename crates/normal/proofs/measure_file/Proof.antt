@@ -12,13 +12,13 @@ use Rattle.normal.proofs.measure_file.Statement.{statement}
 use Rattle.normal.proofs.measure_file.Tie as tie
 
 abbrev Inv-loop : tie.InvT-loop
-Inv-loop file msb m₀ at₀ m at = Measuring file msb at m
+Inv-loop file msb m₀ place₀ m place = Measuring file msb place m
 
 abbrev μ-loop : tie.MeasureT-loop
-μ-loop file msb m₀ at₀ m at = length file - at
+μ-loop file msb m₀ place₀ m place = length file - place
 
 -- the tuple where the loop stands
-there : (c : tie.In-loop Inv-loop μ-loop) → let o = c .before .before .before .is-msb .result in let f = c .before .before .before .before .before .args .file .now in let at = c .before .loop .at in Whole o f at (lenAt o (drop at f))
+there : (c : tie.In-loop Inv-loop μ-loop) → let o = c .before .before .before .is-msb .result in let f = c .before .before .before .before .before .args .file .now in let at = c .before .loop .place in Whole o f at (lenAt o (drop at f))
 there c = framing-whole _ _ _ (measuring-sound _ _ _ _ (c .before .loop .inv) (c .loop-test .taken) .here .framed)
 
 pub measure-file-spec : {M : Type 1} → statement M
