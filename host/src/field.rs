@@ -25,54 +25,32 @@ pub(crate) trait Field {
     fn of_entry(entry: u64) -> Self;
 }
 
-impl Field for u16 {
-    fn of_entry(entry: u64) -> u16 {
-        entry as u16
-    }
+/// Numbers: the lower bits of the entry. A `usize` is a number of tuples, a place
+/// or a length.
+macro_rules! numbers {
+    ($($number:ty)*) => {$(
+        impl Field for $number {
+            fn of_entry(entry: u64) -> $number {
+                entry as $number
+            }
+        }
+    )*};
 }
 
-impl Field for u32 {
-    fn of_entry(entry: u64) -> u32 {
-        entry as u32
-    }
+numbers!(u16 u32 i16 i32 usize);
+
+/// Identifiers: the number that they are.
+macro_rules! identifiers {
+    ($($identifier:ident)*) => {$(
+        impl Field for $identifier {
+            fn of_entry(entry: u64) -> $identifier {
+                $identifier(Field::of_entry(entry))
+            }
+        }
+    )*};
 }
 
-impl Field for i16 {
-    fn of_entry(entry: u64) -> i16 {
-        entry as i16
-    }
-}
-
-impl Field for i32 {
-    fn of_entry(entry: u64) -> i32 {
-        entry as i32
-    }
-}
-
-// A number of tuples, a place or a length.
-impl Field for usize {
-    fn of_entry(entry: u64) -> usize {
-        entry as usize
-    }
-}
-
-impl Field for DocumentId {
-    fn of_entry(entry: u64) -> DocumentId {
-        DocumentId(Field::of_entry(entry))
-    }
-}
-
-impl Field for SoftwareChannel {
-    fn of_entry(entry: u64) -> SoftwareChannel {
-        SoftwareChannel(Field::of_entry(entry))
-    }
-}
-
-impl Field for Transceiver {
-    fn of_entry(entry: u64) -> Transceiver {
-        Transceiver(Field::of_entry(entry))
-    }
-}
+identifiers!(DocumentId SoftwareChannel Transceiver);
 
 /// The fields of an answer, taken in their order.
 pub(crate) struct Fields<'a>(std::slice::Iter<'a, u64>);
