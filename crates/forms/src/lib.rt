@@ -1,4 +1,5 @@
 // Forms: the normal form of one tuple, measured and written.
+use layout::FIELDS;
 use layout::Kind;
 use layout::types;
 ghost use mathlib.Core.Path.{_≡_};
@@ -64,6 +65,31 @@ fn write_front(out: &mut [u8], to: usize, bytes: usize, code: u16)
     order::store2(out, to + TYPE, false, code);
 }
 
+// Writes the fields of a line of the tables. Each line names its row by a constant, and how many fields it has before its dots: so that
+// the compiler makes plain loads and stores of the loop over it.
+fn turn_line(file: &[u8], at: usize, msb: bool, line: usize, out: &mut [u8], to: usize)
+    requires { ⌜ line < 13 ⌝ }
+    requires { ⌜ at + size (lineFields line) ≤ length (now file) ⌝ }
+    requires { ⌜ to + size (lineFields line) ≤ length (now out) ⌝ }
+    ensures { λ _. ⌜ now (out .exit) ≡ sets (now (out .entry)) to (turned msb (lineFields line) (drop at (now (file .entry)))) ⌝ }
+{
+    match line {
+        0 => turning::turn(file, at, msb, &layout::row(0)[0..FIELDS[0]], out, to),
+        1 => turning::turn(file, at, msb, &layout::row(1)[0..FIELDS[1]], out, to),
+        2 => turning::turn(file, at, msb, &layout::row(2)[0..FIELDS[2]], out, to),
+        3 => turning::turn(file, at, msb, &layout::row(3)[0..FIELDS[3]], out, to),
+        4 => turning::turn(file, at, msb, &layout::row(4)[0..FIELDS[4]], out, to),
+        5 => turning::turn(file, at, msb, &layout::row(5)[0..FIELDS[5]], out, to),
+        6 => turning::turn(file, at, msb, &layout::row(6)[0..FIELDS[6]], out, to),
+        7 => turning::turn(file, at, msb, &layout::row(7)[0..FIELDS[7]], out, to),
+        8 => turning::turn(file, at, msb, &layout::row(8)[0..FIELDS[8]], out, to),
+        9 => turning::turn(file, at, msb, &layout::row(9)[0..FIELDS[9]], out, to),
+        10 => turning::turn(file, at, msb, &layout::row(10)[0..FIELDS[10]], out, to),
+        11 => turning::turn(file, at, msb, &layout::row(11)[0..FIELDS[11]], out, to),
+        _ => turning::turn(file, at, msb, &layout::row(12)[0..FIELDS[12]], out, to),
+    }
+}
+
 // Writes what stands before a form's characters or samples: size, type and the fields of a line of the tables.
 fn open_form(
     file: &[u8],
@@ -82,8 +108,7 @@ fn open_form(
     ensures { λ _. ⌜ now (out .exit) ≡ sets (now (out .entry)) to (openingBytes bytes code (turned msb (lineFields line) (drop (at + 6) (now (file .entry))))) ⌝ }
 {
     write_front(out, to, bytes, code);
-    let row = layout::row(line);
-    turning::turn(file, at + DATA, msb, &row, out, to + DATA);
+    turn_line(file, at + DATA, msb, line, out, to + DATA);
 }
 
 // Writes what stands behind them: the attribute, from its place in the file, and the backlink.

@@ -9,6 +9,7 @@ use native.Mathlib.Omega.{arith}
 use borrow.Author.Tests.{eqb-true, leb-true, eq-eqb, ne-eqb, not-false}
 use lib.Dec.{leb, eqb}
 use lib.ListN.{length, take, drop, length-drop}
+use lib.Seq.{length-take-le}
 use Rattle.rules.specs.Rules.{Rule, _⇒_}
 use Rattle.layout.specs.declared.Verdict.{Verdict}
 use Rattle.layout.specs.declared.Verdict.the-variants.{Fine, Fault}
@@ -18,6 +19,7 @@ use Rattle.layout.specs.Types.{classes, inClass, kindOf, lineOf, shapeOf, fitti
 use Rattle.layout.proofs.Verdicts.{passes, judged-append}
 use Rattle.frame.specs.Frames.{Tup, kindAt, tupAt, framing}
 use Rattle.rules.proofs.Bools.{both-true}
+use Rattle.frame.proofs.Frames.{allowed-most}
 use Rattle.frame.proofs.Places.{Whole, framing-whole}
 use Rattle.links.specs.Links.{Link, signRules}
 use Rattle.links.specs.Links
@@ -95,6 +97,10 @@ module _ {o : Bool} {f : List ℕ} {at n k : ℕ} (h : Here o f at n k) where
   pub own-parts : both (headVerdict o (eqb k 65535) (tupIn o f at)) (innerVerdict o (tupIn o f at)) ≡ ownVerdict o (tupIn o f at)
   unfolding innerVerdict ownVerdict
   own-parts = ap (λ (v : Verdict). both v (judged (innerRules o t))) own-head ∙ sym (judged-append (headRules o t) (innerRules o t))
+
+  -- what stands between a header of a bytes and its last 8 is short
+  pub few : (a : ℕ) → length (take (at + n - 8 - (at + a)) (drop (at + a) f)) ≤ 262136 - a
+  few a = omega (arith, length-take-le (at + n - 8 - (at + a)) (drop (at + a) f) (simp length-drop (omega (arith, whole .fits))), allowed-most n (whole .allowed))
 
   -- ---- codes of no concern to a rule
   other : {j : ℕ} → (k ≡ j → ⊥) → kindAt o (drop at f) ≡ j → ⊥

@@ -101,6 +101,9 @@ const ROWS: [[u8; ROW]; LISTED] = [
     *b"242........................",
 ];
 
+// How many fields each row has: its codes before the dots.
+pub const FIELDS: [usize; LISTED] = [4, 14, 27, 7, 6, 10, 11, 2, 6, 7, 2, 2, 3];
+
 // A fault at a tuple's first byte.
 pub fn fault(code: u8) -> Verdict
     ensures { λ r. ⌜ r ≡ Verdict.Fault code 0 ⌝ }

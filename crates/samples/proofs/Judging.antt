@@ -1,14 +1,14 @@
 -- What is left to judge: a loop's turn past a word or a pair, and its end. Assumes nothing.
-use mathlib.Core.Path.{_≡_, sym, ap, _∙_}
+use mathlib.Core.Path.{_≡_, refl, sym, ap, _∙_}
 use mathlib.Core.Bool.{Bool, true, false, not, _||_, or-assoc, or-false}
 use mathlib.Core.List.{List, _∷_}
 use Prim.Native.Nat.{ℕ, suc, _+_, _-_, _≤_, _<_}
 use native.Mathlib.Numerals.{add-one}
 use native.Mathlib.Omega.{arith}
 use mir.Val.{boolByte}
-use lib.Dec.{leb, ltb, leb·suc-suc, lit<}
+use lib.Dec.{leb, ltb, eqb, leb·suc-suc, lit<}
 use lib.ListN.{length}
-use borrow.Author.Tests.{lt-ltb, lt-leb, leb-true, leb-false}
+use borrow.Author.Tests.{lt-ltb, lt-leb, leb-true, leb-false, ne-eqb}
 use Rattle.samples.specs.Words.{Sample, allWords, pairUp}
 use Rattle.samples.specs.Runs.{radix, isRun, isBad, values, firstBad}
 use Rattle.samples.specs.Judging.{firstDrop}
@@ -94,6 +94,33 @@ module _ (o : Bool) (part : List ℕ) (p x : ℕ) (h : 8 ≤ length part - p) (e
   pub drop-turn : (b : Bool) (n : ℕ)
       → ((b || leb x n) || anyDrop (x + 1) (pairUp (wordsFrom 4 o part (p + 8)))) ≡ (b || anyDrop (n + 1) (pairUp (wordsFrom 4 o part p)))
   drop-turn b n = rw (next-pair, drops-cons, or-assoc)
+
+-- drops that are counted: one more, or none
+or-always : (b : Bool) → (b || true) ≡ true
+or-always true = refl
+or-always false = refl
+
+some-more : (d : ℕ) (b : Bool) → not (eqb (d + boolByte b) 0) ≡ (not (eqb d 0) || b)
+some-more d true = rw (ne-eqb (d + 1) 0 (λ e. omega arith)) (sym (or-always (not (eqb d 0))))
+some-more d false = let z : d + 0 ≡ d = omega arith in ap (λ (i : ℕ). not (eqb i 0)) z ∙ sym (or-false (not (eqb d 0)))
+
+module _ (o : Bool) (part : List ℕ) (p : ℕ) where
+  pub count-turn : (x : ℕ) → 8 ≤ length part - p → x ≡ wordAt 4 o part p → (d n : ℕ)
+      → (not (eqb (d + boolByte (leb x n)) 0) || anyDrop (x + 1) (pairUp (wordsFrom 4 o part (p + 8))))
+      ≡ (not (eqb d 0) || anyDrop (n + 1) (pairUp (wordsFrom 4 o part p)))
+  count-turn x h e d n =
+      ap (λ (b : Bool). b || anyDrop (x + 1) (pairUp (wordsFrom 4 o part (p + 8)))) (some-more d (leb x n)) ∙ drop-turn o part p x h e (not (eqb d 0)) n
+
+-- two pairs a turn
+module _ (o : Bool) (part : List ℕ) (p x y : ℕ) (h : 16 ≤ length part - p) (e : x ≡ wordAt 4 o part p) (f : y ≡ wordAt 4 o part (p + 8)) where
+  pub count-two : (d n : ℕ)
+      → (not (eqb (d + boolByte (leb x n) + boolByte (leb y x)) 0) || anyDrop (y + 1) (pairUp (wordsFrom 4 o part (p + 16))))
+      ≡ (not (eqb d 0) || anyDrop (n + 1) (pairUp (wordsFrom 4 o part p)))
+  count-two d n =
+      let dx = d + boolByte (leb x n) in
+      ap (λ (q : ℕ). not (eqb (dx + boolByte (leb y x)) 0) || anyDrop (y + 1) (pairUp (wordsFrom 4 o part q))) (omega arith)
+      ∙ count-turn o part (p + 8) y (omega arith) f dx x
+      ∙ count-turn o part p x (omega arith) e d n
 
 pub drop-all : (o : Bool) (part : List ℕ) → anyDrop 0 (pairUp (wordsFrom 4 o part 0)) ≡ anyDrop 0 (pairUp (allWords 4 o part))
 drop-all o part = ap (λ (ws : List ℕ). anyDrop 0 (pairUp ws)) (from-all 4 o part)

@@ -24,9 +24,13 @@ unfoldable pub firstWordless : List Sample → ℕ
 firstWordless [] = 0
 firstWordless (x ∷ s) = elim (isRun radix (x .1) || isBad radix (x .1)) [ true ↦ 0 | false ↦ firstWordless s + 1 ]
 
+-- some number is not above the one before it
+abbrev pub dropping : List Sample → Bool
+dropping s = ltb (firstDrop 0 s) (length s)
+
 -- U-32: numbers strictly rise
 abbrev pub pairRules : List Sample → List (Rule ℕ)
-pairRules s = (ltb (firstDrop 0 s) (length s) ⇒ 10) ∷ []
+pairRules s = (dropping s ⇒ 10) ∷ []
 
 -- C-32: at most 32,764 values; each within its limits; the number of samples equals the number of value words
 abbrev pub wordRules : ℕ → List ℕ → List (Rule ℕ)

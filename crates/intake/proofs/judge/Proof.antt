@@ -1,6 +1,7 @@
 -- `intake::judge` meets its contract: the verdicts of the parts, one behind the other. Assumes nothing.
 use mathlib.Core.Path.{_≡_, refl, sym, _∙_}
 use mathlib.Core.Bool.{Bool}
+use mathlib.Core.Logic.{inl, inr}
 use mathlib.Core.List.{List}
 use Prim.Native.Nat.{ℕ}
 use native.Mathlib.Omega.{arith}
@@ -9,7 +10,7 @@ use lib.ListN.{take, drop}
 use Rattle.layout.specs.declared.Verdict.{Verdict}
 use Rattle.frame.specs.Frames.{lenAt, kindAt}
 use Rattle.intake.specs.Tallies.{Here, Fits, turnVerdict}
-use Rattle.intake.proofs.Judges.{room, head-fits, fromLinks, fromHead, fromFrame, none-left, some-left}
+use Rattle.intake.proofs.Judges.{room, head-fits, no-inner, fromLinks, fromHead, fromFrame, none-left, some-left}
 use Rattle.intake.proofs.judge.Statement.{statement}
 use Rattle.intake.proofs.judge.Tie as tie
 
@@ -59,12 +60,21 @@ returns-4 : tie.Need-returns-4
 returns-4 c = let l = c .before .before in rw (← past-head (l .before), ← l .judge-links .ensures, c .enum-told6 .given .1)
 
 judge-inner-requires : tie.Need-judge-inner-requires
-judge-inner-requires c κs = let g = c .before .before .before in (here (g .before .before .before), fits g)
+judge-inner-requires c κs = let g = c .before .before .before .before in (here (g .before .before .before), fits g)
 
 returns-5 : tie.Need-returns-5
 returns-5 c =
-    let l = c .before .before .before in
-    rw (← past-head (l .before), ← l .judge-links .ensures, c .before .enum-told5 .given .1) (c .judge-inner .ensures)
+    let g = c .before .before in
+    let l = g .before .before in
+    rw (← past-head (l .before), ← l .judge-links .ensures, g .enum-told5 .given .1) (c .judge-inner .ensures)
+
+-- no ping: nothing is said of its samples
+returns-6 : tie.Need-returns-6
+returns-6 c =
+    let g = c .before in
+    let l = g .before .before in
+    let none = no-inner (here (l .before .before .before .before)) (λ e. c .match4 .rest .1 (inl e)) (λ e. c .match4 .rest .1 (inr e)) in
+    rw (← past-head (l .before), ← l .judge-links .ensures, g .enum-told5 .given .1) (sym none)
 
 pub judge-spec : {M : Type 1} → statement M
 judge-spec =
@@ -87,4 +97,5 @@ judge-spec =
     (λ c. search needs)
     returns-4
     judge-inner-requires
-    returns-5)
+    returns-5
+    returns-6)

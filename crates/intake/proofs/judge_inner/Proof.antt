@@ -4,7 +4,7 @@ use Prim.Native.Nat.{_+_, _≤_}
 use native.Mathlib.Omega.{arith}
 use borrow.Author.Needs.{needs}
 use lib.ListN.{length}
-use Rattle.intake.proofs.Judges.{whole, long-U, long-C, no-inner, inner-pairs, inner-words}
+use Rattle.intake.proofs.Judges.{whole, few, long-U, long-C, no-inner, inner-pairs, inner-words}
 use Rattle.intake.proofs.judge_inner.Statement.{statement}
 use Rattle.intake.proofs.judge_inner.Tie as tie
 
@@ -43,14 +43,14 @@ judge-inner-spec =
     (λ c. let r = room-U c in omega arith)
     (λ c. let r = room-U c in omega arith)
     (λ c. let r = room-U c in omega arith)
-    (λ c κs. search needs)
+    (λ c κs. few (c .before .before .before .pre .0) 24)
     (λ c. let r = room-C c in omega arith)
     (λ c κs. let r = room-C c in omega arith)
     (λ c. let r = room-C (c .before) in omega arith)
     (λ c. let r = room-C (c .before) in omega arith)
     (λ c. let r = room-C (c .before) in omega arith)
     (λ c. let r = room-C (c .before) in omega arith)
-    (λ c κs. search needs)
+    (λ c κs. few (c .before .before .before .before .pre .0) 28)
     returns
     returns-2
     returns-3)

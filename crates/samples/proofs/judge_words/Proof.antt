@@ -31,8 +31,8 @@ abbrev μ-loop : tie.MeasureT-loop
 loop-holds : tie.Need-loop-holds Inv-loop μ-loop
 loop-holds c = let a = c .before .args in rw (from-all 4 (a .msb) (a .part .now)) (search needs)
 
-add-values : tie.Need-add-values Inv-loop μ-loop
-add-values c = omega (arith, counts-one (not (c .is-run .result)))
+add-found : tie.Need-add-found Inv-loop μ-loop
+add-found c = omega (arith, counts-one (not (c .is-run .result)))
 
 loop-again : tie.Need-loop-again Inv-loop μ-loop
 loop-again c =
@@ -43,7 +43,7 @@ loop-again c =
     let l = read .before .before .loop in (
       search needs,
       omega (arith, counts-one (not (run .is-run .result))),
-      values-turn _ _ _ _ t e (l .values) (run .is-run .result) (run .is-run .ensures) ∙ l .inv .2,
+      values-turn _ _ _ _ t e (l .found) (run .is-run .result) (run .is-run .ensures) ∙ l .inv .2,
       bad-turn _ _ _ _ t e (l .bad) (c .is-bad .result) (c .is-bad .ensures) ∙ l .inv .3,
     )
 
@@ -51,13 +51,13 @@ loop-again c =
 said : (c : tie.After-loop Inv-loop μ-loop) →
     let a = c .before .before .before .args in
     let l = c .before .loop in
-    judged ((ltb most (l .values) ⇒ 11) ∷ (l .bad ⇒ 10) ∷ (not (eqb (a .count) (l .values)) ⇒ 10) ∷ [])
+    judged ((ltb most (l .found) ⇒ 11) ∷ (l .bad ⇒ 10) ∷ (not (eqb (a .count) (l .found)) ⇒ 10) ∷ [])
     ≡ judgedWords (a .msb) (a .count) (a .part .now)
 unfolding judgedWords
 said c =
     let t = c .loop-test .left in
     let l = c .before .loop in
-    let v = sym (values-end _ _ _ t (l .values)) ∙ l .inv .2 in
+    let v = sym (values-end _ _ _ t (l .found)) ∙ l .inv .2 in
     let b = sym (bad-end _ _ _ t (l .bad)) ∙ l .inv .3 in
     rw (v, b)
 
@@ -96,11 +96,12 @@ judge-words-spec =
     (λ c κs. search needs)
     (λ c κs. search needs)
     (λ c. search needs)
-    add-values
+    add-found
     (λ c κs. search needs)
     (λ c. search needs)
     (λ c. search needs)
     loop-again
+    (λ c. search needs)
     (λ c κs. search needs)
     returns
     (λ c κs. search needs)
