@@ -1,13 +1,22 @@
 //! The deposits that are timed: each just below the limit of a file.
 
 use hac::{
-    write_c32, write_u32, Channel, DocumentId, FileEnd, Navigation, Order, PingHeader, Position,
-    Refusal, Signature, SoftwareChannel, Sounder, Transceiver, FILE_LIMIT, REMARK, TUPLE_LIMIT,
+    write_c32, write_u32, Attitude, Channel, DocumentId, FileEnd, Navigation, Order, PingHeader,
+    Position, Refusal, Signature, SoftwareChannel, Sounder, Transceiver, FILE_LIMIT, REMARK,
+    TUPLE_LIMIT,
 };
 
-/// The one sounder and the one channel of a deposit.
+/// The one sounder of a deposit, and the first of its channels.
 const SOUNDER: DocumentId = DocumentId(7);
 const CHANNEL: SoftwareChannel = SoftwareChannel(3);
+
+/// The channels of a mixed cruise; its pings come in turn over them, after each
+/// round a tuple of another kind.
+const CRUISE_CHANNELS: u16 = 3;
+
+/// The bytes of a mixed cruise: its normal form is longer than it is, for its
+/// C-32 pings become U-32, and has to stay within the limit of a file.
+const CRUISE_LIMIT: usize = FILE_LIMIT / 4 * 3;
 
 /// Samples of a U-32 ping.
 const SAMPLES: u32 = 1000;
@@ -24,10 +33,11 @@ const FRAME: usize = 10;
 /// The word of a run of 1.
 const SHORTEST_RUN: u32 = 0xFFFF_0000;
 
-/// A deposit: what it is of, and its bytes.
+/// A deposit: what it is of, its bytes, and whether it is taken.
 pub struct Deposit {
     pub name: &'static str,
     pub bytes: Vec<u8>,
+    pub taken: bool,
 }
 
 /// Numbers that look like chance and are the same at every run.
@@ -50,9 +60,9 @@ struct Draft {
 }
 
 impl Draft {
-    /// Mark, signature, sounder, channel, position and a ping, so that the
+    /// Mark, signature, sounder, channels, position and a ping, so that the
     /// deposit is accepted whatever follows.
-    fn new(order: Order) -> Result<Draft, Refusal> {
+    fn new(order: Order, channels: u16) -> Result<Draft, Refusal> {
         let bytes = order.mark().to_vec();
         let tuple = vec![0; TUPLE_LIMIT];
         let mut draft = Draft {
@@ -64,20 +74,22 @@ impl Draft {
         let signature = Signature::default();
         draft.put(|tuple| signature.write(order, tuple))?;
         let sounder = Sounder {
-            number_of_software_channels: 1,
+            number_of_software_channels: channels,
             echosounder_document_identifier: SOUNDER,
             ..Sounder::default()
         };
         draft.put(|tuple| sounder.write(&remarks, order, tuple))?;
-        let channel = Channel {
-            software_channel_identifier: CHANNEL,
-            echosounder_document_identifier: SOUNDER,
-            transceiver_channel_number: Transceiver(1),
-            ..Channel::default()
-        };
-        draft.put(|tuple| channel.write(&remarks, order, tuple))?;
+        for number in 0..channels {
+            let channel = Channel {
+                software_channel_identifier: nth_channel(number),
+                echosounder_document_identifier: SOUNDER,
+                transceiver_channel_number: Transceiver(number),
+                ..Channel::default()
+            };
+            draft.put(|tuple| channel.write(&remarks, order, tuple))?;
+        }
         draft.put(|tuple| Position::default().write(order, tuple))?;
-        draft.put(|tuple| write_u32(&header(0), 0, &[0], &[5], order, tuple))?;
+        draft.put(|tuple| write_u32(&header(CHANNEL, 0), 0, &[0], &[5], order, tuple))?;
         Ok(draft)
     }
 
@@ -90,14 +102,16 @@ impl Draft {
         Ok(())
     }
 
-    /// Puts tuples until the next would leave no room for the end of file.
+    /// Puts tuples until the next would leave no room for the end of file
+    /// within so many bytes.
     fn fill(
         mut self,
+        limit: usize,
         mut write: impl FnMut(Order, u32, &mut [u8]) -> Result<usize, Refusal>,
     ) -> Result<Vec<u8>, Refusal> {
         let order = self.order;
         let end = FileEnd::default();
-        let room = FILE_LIMIT - end.write(order, &mut self.tuple)?;
+        let room = limit - end.write(order, &mut self.tuple)?;
         for count in 0.. {
             let length = write(order, count, &mut self.tuple)?;
             if self.bytes.len() + length > room {
@@ -110,10 +124,15 @@ impl Draft {
     }
 }
 
-fn header(ping_number: u32) -> PingHeader {
+/// The channel of a number from 0.
+fn nth_channel(number: u16) -> SoftwareChannel {
+    SoftwareChannel(CHANNEL.0 + number)
+}
+
+fn header(channel: SoftwareChannel, ping_number: u32) -> PingHeader {
     PingHeader {
         time_cpu: ping_number,
-        software_channel_identifier: CHANNEL,
+        software_channel_identifier: channel,
         ping_number,
         ..PingHeader::default()
     }
@@ -138,8 +157,8 @@ fn put(tuple: &mut [u8], at: usize, number: usize) {
 /// they like, so a run may follow a run.
 fn compressed(runs: u32, longest: u32) -> Result<Vec<u8>, Refusal> {
     let mut chance = Chance(12345);
-    Draft::new(Order::Lsb)?.fill(|order, count, tuple| {
-        let silent = write_c32(&header(count), 0, &[], &[], order, tuple)?;
+    Draft::new(Order::Lsb, 1)?.fill(FILE_LIMIT, |order, count, tuple| {
+        let silent = write_c32(&header(CHANNEL, count), 0, &[], &[], order, tuple)?;
         let tail = tuple[silent - TAIL..silent].to_vec();
         let mut values = 0;
         let mut at = WORDS_AT;
@@ -165,10 +184,54 @@ fn compressed(runs: u32, longest: u32) -> Result<Vec<u8>, Refusal> {
 
 fn pairs(order: Order) -> Result<Vec<u8>, Refusal> {
     let mut chance = Chance(54321);
-    Draft::new(order)?.fill(|order, count, tuple| {
+    Draft::new(order, 1)?.fill(FILE_LIMIT, |order, count, tuple| {
         let numbers: Vec<u32> = (0..SAMPLES).map(|i| 3 * i).collect();
         let values: Vec<i32> = numbers.iter().map(|_| chance.next() as i32).collect();
-        write_u32(&header(count), 0, &numbers, &values, order, tuple)
+        write_u32(&header(CHANNEL, count), 0, &numbers, &values, order, tuple)
+    })
+}
+
+/// Samples as an echogram has them: layers of some tens of neighbours with
+/// quiet water between them, 200 to 455 samples in all.
+fn layers(chance: &mut Chance) -> (Vec<u32>, Vec<i32>) {
+    let mut number = 0;
+    (0..200 + chance.next() % 256)
+        .map(|_| {
+            number += 1;
+            if chance.next().is_multiple_of(32) {
+                number += chance.next() % 200;
+            }
+            (number, (chance.next() >> 4) as i32)
+        })
+        .unzip()
+}
+
+/// A cruise as deposits look: pings in turn over three channels, U-32 and C-32
+/// by turns, and behind each round a position, a navigation or an attitude.
+fn cruise(order: Order) -> Result<Vec<u8>, Refusal> {
+    let mut chance = Chance(98765);
+    let round = u32::from(CRUISE_CHANNELS) + 1;
+    Draft::new(order, CRUISE_CHANNELS)?.fill(CRUISE_LIMIT, |order, count, tuple| {
+        let turn = (count % round) as u16;
+        if turn < CRUISE_CHANNELS {
+            let (numbers, values) = layers(&mut chance);
+            let header = header(nth_channel(turn), count / round);
+            let write = if count.is_multiple_of(2) {
+                write_u32
+            } else {
+                write_c32
+            };
+            return write(&header, 0, &numbers, &values, order, tuple);
+        }
+        match count / round % 3 {
+            0 => Position::default().write(order, tuple),
+            1 => navigation(order, count, tuple),
+            _ => Attitude {
+                software_channel_identifier: CHANNEL,
+                ..Attitude::default()
+            }
+            .write(order, tuple),
+        }
     })
 }
 
@@ -183,19 +246,32 @@ fn refused_at_last(accepted: &[u8]) -> Vec<u8> {
 
 /// All of them.
 pub fn all() -> Result<Vec<Deposit>, Refusal> {
-    let small = Draft::new(Order::Lsb)?.fill(navigation)?;
+    let small = Draft::new(Order::Lsb, 1)?.fill(FILE_LIMIT, navigation)?;
     let refused = refused_at_last(&small);
     let named = [
         ("28-byte tuples, LSB", small),
         (
             "28-byte tuples, MSB",
-            Draft::new(Order::Msb)?.fill(navigation)?,
+            Draft::new(Order::Msb, 1)?.fill(FILE_LIMIT, navigation)?,
         ),
         ("C-32 pings, short runs", compressed(8, 8)?),
         ("C-32 pings, long runs", compressed(15, 60_000)?),
         ("U-32 pings, LSB", pairs(Order::Lsb)?),
         ("U-32 pings, MSB", pairs(Order::Msb)?),
-        ("refused at the last tuple", refused),
+        ("mixed cruise, LSB", cruise(Order::Lsb)?),
+        ("mixed cruise, MSB", cruise(Order::Msb)?),
     ];
-    Ok(named.map(|(name, bytes)| Deposit { name, bytes }).into())
+    let mut all: Vec<Deposit> = named
+        .map(|(name, bytes)| Deposit {
+            name,
+            bytes,
+            taken: true,
+        })
+        .into();
+    all.push(Deposit {
+        name: "refused at the last tuple",
+        bytes: refused,
+        taken: false,
+    });
+    Ok(all)
 }

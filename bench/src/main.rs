@@ -1,8 +1,10 @@
 //! Times the check and the normal form of deposits of 16 MiB, the proved
 //! library's beside the second program's and beside a plain copy of the same
-//! bytes, in one run; or, with `stack`, measures the library's stack.
-//! docs/SPEED.md says what was measured, and how.
+//! bytes, in one run; with `count`, counts the instructions of the same calls;
+//! with `stack`, measures the library's stack. docs/SPEED.md says what was
+//! measured, and how.
 
+mod count;
 mod deposits;
 mod stack;
 
@@ -54,15 +56,20 @@ impl Times {
     }
 }
 
-/// What both say, which must be the same.
-fn agree(file: &[u8]) -> bool {
+/// Both say the same of a deposit, and what its name says.
+fn agree(deposit: &Deposit) -> bool {
+    let file = &deposit.bytes;
     let said = second::check(file);
-    match hac::check(file) {
+    let same = match hac::check(file) {
         Ok(tuples) => said.is_accepted() && said.tuples == tuples as u64,
         Err(refusal) => {
             u32::from(refusal.code.number()) == said.code && refusal.place as u64 == said.place
         }
-    }
+    };
+    let (mut out, mut other) = (vec![0; FILE_LIMIT], vec![0; FILE_LIMIT]);
+    let taken = hac::normalise(file, &mut out).is_ok();
+    second::normalise(file, &mut other);
+    same && taken == deposit.taken && out == other
 }
 
 fn show(deposit: &Deposit) {
@@ -91,7 +98,7 @@ fn speeds() -> Result<(), String> {
         "deposit", "copy", "check", "second", "ratio", "normal", "second", "ratio"
     );
     for deposit in deposits::all().map_err(|refusal| refusal.to_string())? {
-        if !agree(&deposit.bytes) {
+        if !agree(&deposit) {
             return Err(format!("{}: the two differ", deposit.name));
         }
         show(&deposit);
@@ -100,9 +107,13 @@ fn speeds() -> Result<(), String> {
 }
 
 fn main() -> Result<(), String> {
-    match std::env::args().nth(1).as_deref() {
-        None => speeds(),
-        Some("stack") => stack::show(),
-        Some(other) => Err(format!("bench [stack], not {other}")),
+    let words: Vec<String> = std::env::args().skip(1).collect();
+    let words: Vec<&str> = words.iter().map(String::as_str).collect();
+    match words[..] {
+        [] => speeds(),
+        ["count"] => count::show(),
+        ["once", call, path] => count::once(call, path),
+        ["stack"] => stack::show(),
+        _ => Err(format!("bench [count | stack], not {}", words.join(" "))),
     }
 }
