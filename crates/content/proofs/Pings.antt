@@ -16,15 +16,15 @@ use Rattle.layout.specs.declared.Verdict.the-variants.{Fine}
 use Rattle.layout.specs.Answers.{judged}
 use Rattle.layout.specs.Types.{pairs, words, classes, inClass, kindOf, lineOf, pingRow}
 use Rattle.layout.proofs.Verdicts.{passes, passed}
-use Rattle.turning.specs.Rows.{Value, valuesOf, encode, Fit}
-use Rattle.turning.proofs.Contents.{values-encode, values-fit, values-take, length-encode, bytes-encode, Lettered}
-use Rattle.frame.specs.Frames.{Tup, lengthOf, allowed}
-use Rattle.frame.proofs.Frames.{Framed, allowed-of, allowed-most}
-use Rattle.samples.specs.Words.{Sample, allWords, unwords, pairUp, unpair}
+use Rattle.turning.specs.Rows.{Value, valuesOf, encode, Fit, Lettered}
+use Rattle.turning.proofs.Contents.{values-encode, values-fit, values-take, length-encode, bytes-encode}
+use Rattle.frame.specs.Frames.{Tup, lengthOf, allowed, Framed}
+use Rattle.frame.proofs.Frames.{allowed-of, allowed-most}
+use Rattle.samples.specs.Words.{Sample, allWords, unwords, pairUp, unpair, Below}
 use Rattle.samples.specs.Words
 use Rattle.samples.specs.Runs.{radix, decode, decodeFrom, fewest, isRun, runLength, values, firstBad, isBad}
 use Rattle.samples.specs.Judging.{most, firstDrop, pairRules, wordRules}
-use Rattle.samples.proofs.Words.{Below, Within, length-unwords, all-unwords, bytes-unwords, words-below, pair-unpair, length-unpair, within-below, pairs-within, pairs-few}
+use Rattle.samples.proofs.Words.{Within, length-unwords, all-unwords, bytes-unwords, words-below, pair-unpair, length-unpair, within-below, pairs-within, pairs-few}
 use Rattle.samples.proofs.Runs.{decode-fit}
 use Rattle.samples.proofs.Values.{length-decode, decode-within}
 use Rattle.samples.proofs.Rising.{Rising, rising-all, rises, fit-rising}

@@ -15,8 +15,7 @@ use Rattle.order.proofs.Laws.{length-bytesOf}
 use Rattle.layout.specs.declared.Verdict.the-variants.{Fine}
 use Rattle.layout.specs.Answers.{both, judged}
 use Rattle.layout.specs.Fields.{Field, widthOf, size}
-use Rattle.layout.specs.Types.{Shape, indexed, row, pairs, words, unlisted, fitting, shapeOf, pingRow}
-use Rattle.layout.proofs.Tables.{lengthFrom}
+use Rattle.layout.specs.Types.{Shape, indexed, row, pairs, words, unlisted, fitting, shapeOf, pingRow, lengthFrom}
 use Rattle.layout.proofs.Verdicts.{both-left, both-right, passes, judged-append}
 use Rattle.turning.specs.Rows.{valuesOf, encode, turnedField, turned}
 use Rattle.turning.proofs.Contents.{turned-encode, length-turned}
@@ -35,8 +34,8 @@ use Rattle.content.specs.Items.{rowIn, itemBy, itemOf, headRules, innerRules}
 use Rattle.content.specs.Forms.{encodeBy, tupleU, pingForm, formOf, formsOf, formBytes}
 use Rattle.content.proofs.Fine.{head-length, inner-was, upward-least}
 use Rattle.content.proofs.Plain.{encode-any}
-use Rattle.intake.specs.Tallies.{ownVerdict}
-use Rattle.forms.specs.Parts.{frontBytes, openingBytes, closingBytes, silence}
+use Rattle.intake.specs.inner.Tallies.{ownVerdict}
+use Rattle.forms.specs.inner.Parts.{frontBytes, openingBytes, closingBytes, silence}
 
 -- ---- how many words a ping's data hold, and how many values words do
 length-in : (a : ℕ) (o : Bool) (d : List ℕ) → a + 4 ≤ length d → length (wordsIn a o d) ≡ (length d - (a + 4)) / 4

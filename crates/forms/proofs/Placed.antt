@@ -21,9 +21,9 @@ use Rattle.frame.proofs.Places.{Whole, body-place}
 use Rattle.content.specs.Pings.{countIn, contentC}
 use Rattle.content.specs.Forms.{formBytes}
 use Rattle.content.proofs.Places.{Shaped, shaped, fieldAt, length-place}
-use Rattle.intake.specs.Tallies.{Fits, headVerdict, innerVerdict}
+use Rattle.intake.specs.inner.Tallies.{Fits, headVerdict, innerVerdict}
 use Rattle.intake.proofs.Judges.{whole, head-fits, own-parts}
-use Rattle.forms.specs.Sound.{SoundHere}
+use Rattle.forms.specs.inner.Sound.{SoundHere}
 use Rattle.forms.proofs.Formed.{form-index, form-raw, parts-row, long-U, parts-U, long-C, count-C, few-C, parts-C, parts-silent}
 
 -- ---- a type code by the code's tests

@@ -9,7 +9,7 @@ use lib.Seq.{sets}
 use Rattle.order.specs.Order.{bytesOf}
 use Rattle.order.proofs.Laws.{length-bytesOf}
 use Rattle.order.proofs.Stores.{sets-append}
-use Rattle.forms.specs.Parts.{frontBytes, openingBytes, closingBytes, silence}
+use Rattle.forms.specs.inner.Parts.{frontBytes, openingBytes, closingBytes, silence}
 
 behind : (x y out : List ℕ) (to p : ℕ) → p ≡ to + length x → sets (sets out to x) p y ≡ sets out to (x ++ y)
 behind x y out to p e = ap (λ (i : ℕ). sets (sets out to x) i y) e ∙ sym (sets-append x y out to)

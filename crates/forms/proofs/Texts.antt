@@ -10,12 +10,12 @@ use Rattle.rules.proofs.Laws.{by-rules}
 use Rattle.layout.specs.declared.Kind.{Kind}
 use Rattle.layout.specs.declared.Kind.the-variants.{Signature, Sounder, Channel, Position, Navigation, Attitude, Threshold, Event, PingU, PingC, RunStart, RunEnd, FileEnd, Index, Unlisted}
 use Rattle.layout.specs.Fields.{size}
-use Rattle.layout.specs.Types.{Shape, indexed, row, pairs, words, unlisted, Length, fitting, classes, inClass, index, kindRules, kindOf, lineOf, shapeOf, placeIn, pingRow}
-use Rattle.layout.proofs.Tables.{Said, fieldsIn, lengthFrom, tabled, lengths-from}
+use Rattle.layout.specs.Types.{Shape, indexed, row, pairs, words, unlisted, Length, fitting, classes, inClass, index, kindRules, kindOf, lineOf, shapeOf, placeIn, pingRow, lengthFrom}
+use Rattle.layout.proofs.Tables.{Said, fieldsIn, tabled, lengths-from}
 use Rattle.content.proofs.Fine.{upward-least}
 use Rattle.content.proofs.Places.{Shaped, shaped}
-use Rattle.intake.specs.Tallies.{Fits}
-use Rattle.forms.specs.Parts.{lineFields, Rowed}
+use Rattle.intake.specs.inner.Tallies.{Fits}
+use Rattle.forms.specs.inner.Parts.{lineFields, Rowed}
 use Rattle.forms.proofs.Placed.{within-index}
 
 -- ---- lines

@@ -24,8 +24,8 @@ use Rattle.samples.proofs.Turning.{length-all}
 use Rattle.content.specs.Pings.{wordsIn, attributeIn, contentC}
 use Rattle.content.specs.Forms.{formBytes}
 use Rattle.content.proofs.Places.{fieldAt, length-body}
-use Rattle.forms.specs.Sound.{SoundHere}
-use Rattle.forms.specs.Parts.{frontBytes, openingBytes, closingBytes, silence, lineFields}
+use Rattle.forms.specs.inner.Sound.{SoundHere}
+use Rattle.forms.specs.inner.Parts.{frontBytes, openingBytes, closingBytes, silence, lineFields}
 use Rattle.forms.proofs.Formed.{last-four, form-raw, least-row, parts-row, parts-U, parts-C, parts-silent}
 use Rattle.forms.proofs.Placed.{there, shape-of, size-of, pairs-shape, long-pairs, words-shape, long-words, count-of}
 use Rattle.forms.proofs.Texts.{ping-fields}

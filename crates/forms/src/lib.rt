@@ -12,9 +12,9 @@ ghost use Rattle.layout.specs.Types.{unlisted, kindOf, placeIn, shapeOf};
 ghost use Rattle.turning.specs.Rows.{turned};
 ghost use Rattle.frame.specs.Frames.{tupAt};
 ghost use Rattle.content.specs.Forms.{formBytes};
-ghost use Rattle.intake.specs.Tallies.{Fits};
-ghost use Rattle.forms.specs.Sound.{SoundHere};
-ghost use Rattle.forms.specs.Parts.{frontBytes, openingBytes, closingBytes, silence, lineFields, Rowed};
+ghost use Rattle.intake.specs.inner.Tallies.{Fits};
+ghost use Rattle.forms.specs.inner.Sound.{SoundHere};
+ghost use Rattle.forms.specs.inner.Parts.{frontBytes, openingBytes, closingBytes, silence, lineFields, Rowed};
 
 // The places of a tuple's type and of its data; those of an event's characters and of an end of file's data bytes.
 const TYPE: usize = 4;

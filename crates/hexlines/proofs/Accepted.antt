@@ -18,7 +18,8 @@ use Rattle.frame.specs.Frames.{Tup, frames, tupAt, frameRules, framing}
 use Rattle.frame.specs.Files.{isMsb, fileRules}
 use Rattle.frame.proofs.Frames.{framed}
 use Rattle.frame.proofs.Files.{msb-mark}
-use Rattle.frame.proofs.Tuples.{AllFramed, tuples-of}
+use Rattle.frame.proofs.Tuples.{tuples-of}
+use Rattle.frame.specs.Tuples.{AllFramed}
 use Rattle.content.specs.Items.{Item, itemOf, headRules, innerRules}
 use Rattle.content.specs.Forms.{formsOf}
 use Rattle.content.proofs.Fine.{Sound}
@@ -29,7 +30,7 @@ use Rattle.normal.specs.Contents.{items, contentOf, normalTuples, formed, norma
 use Rattle.normal.specs.Normaliser.{normalRules, behindCheck, normalAnswer}
 use Rattle.normal.specs.Single.{singleTuples, singleForm, behindRules, singleAnswer}
 use Rattle.normal.proofs.Carried.{carried}
-use Rattle.hexlines.specs.Printing.{Form}
+use Rattle.hexlines.specs.inner.Printing.{Form}
 
 pub record Written (form : List ℕ) (ts : List Tup) (room m : ℕ) : Type 0 where
   pub bytes : m ≡ length form

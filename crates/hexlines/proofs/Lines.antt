@@ -10,7 +10,7 @@ use lib.ListN.{length, take, drop, getD, drop-of-length-le}
 use lib.Seq.{drop-cons}
 use borrow.Author.Tests.{eq-eqb, ne-eqb}
 use Rattle.hexlines.specs.Lines.{lineFeed, linesOf, inFront}
-use Rattle.hexlines.specs.Reading.{lineLength}
+use Rattle.hexlines.specs.inner.Reading.{lineLength}
 use Rattle.hexlines.proofs.Digits.{by-bool}
 
 -- ---- where the line ends

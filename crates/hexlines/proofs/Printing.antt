@@ -10,10 +10,10 @@ use Rattle.frame.specs.Frames.{Tup, lengthOf, frame, frames, lenAt}
 use Rattle.frame.specs.Files.{mark}
 use Rattle.frame.proofs.Frames.{allowed-16, length-frame, size-frame, rest-frame}
 use Rattle.frame.proofs.Files.{length-mark}
-use Rattle.frame.proofs.Tuples.{AllFramed}
+use Rattle.frame.specs.Tuples.{AllFramed}
 use Rattle.hexlines.specs.Lines.{lineFeed, hex, line}
 use Rattle.hexlines.specs.Programs.{tupleLines, fileLines}
-use Rattle.hexlines.specs.Printing.{Put, Form}
+use Rattle.hexlines.specs.inner.Printing.{Put, Form}
 use Rattle.hexlines.proofs.Digits.{length-hex}
 use Rattle.hexlines.proofs.Stores.{put-rest}
 

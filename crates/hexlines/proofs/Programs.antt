@@ -14,16 +14,17 @@ use Rattle.layout.specs.declared.Answer.the-variants.{Accepted, Refused}
 use Rattle.layout.specs.Answers.{leftBy}
 use Rattle.frame.specs.Frames.{Tup, lengthOf, frame, frames}
 use Rattle.frame.specs.Files.{mark}
-use Rattle.frame.specs.Tuples.{tuplesOf}
+use Rattle.frame.specs.Tuples.{tuplesOf, AllFramed}
 use Rattle.frame.proofs.Frames.{allowed-16, length-frame}
 use Rattle.frame.proofs.Files.{length-mark}
-use Rattle.frame.proofs.Tuples.{AllFramed, tuples-of}
+use Rattle.frame.proofs.Tuples.{tuples-of}
 use Rattle.normal.specs.Contents.{contentOf, normalTuples, normalOf}
 use Rattle.normal.specs.Normaliser.{normalAnswer, Normalised}
 use Rattle.normal.specs.Single.{singleTuples, singleForm, singleAnswer, NormalisedTuple}
 use Rattle.hexlines.specs.Lines.{room, hex, line, Input, bytes, inputOf}
 use Rattle.hexlines.specs.Programs.{tupleLines, fileLines, printed, fileProgram, normalFile, tupleProgram, normalTuple}
-use Rattle.hexlines.specs.Printing.{mostPrinted, Put, Form, Ready, printedBy, Prints}
+use Rattle.hexlines.specs.Printing.{mostPrinted, Prints}
+use Rattle.hexlines.specs.inner.Printing.{Put, Form, Ready, printedBy}
 use Rattle.hexlines.proofs.Printing.{length-line, length-fileLines}
 use Rattle.hexlines.proofs.Accepted.{Written, file-written, tuple-written}
 

@@ -14,7 +14,7 @@ use Rattle.order.proofs.Stores.{sets-append}
 use Rattle.hexlines.specs.declared.lines_in.Decoded.{Decoded}
 use Rattle.hexlines.specs.declared.lines_in.Decoded.the-variants.{Bytes, Bad}
 use Rattle.hexlines.specs.Lines.{room, linesOf, allDigits, bytesIn, isBad, Input, bad, bytes, joined, inputFrom, inputOf}
-use Rattle.hexlines.specs.Reading.{lineLength, bytesBefore, counted, Read}
+use Rattle.hexlines.specs.inner.Reading.{lineLength, bytesBefore, counted, Read}
 use Rattle.hexlines.proofs.Digits.{by-bool, length-bytesIn}
 use Rattle.hexlines.proofs.Lines.{line-within, lines-cons}
 

@@ -9,8 +9,8 @@ use lib.Dec.{eqb, ltb}
 use lib.ListN.{length, take, drop, length-take, length-drop}
 use lib.Seq.{take-take, length-take-le, take-nil}
 use borrow.Author.Tests.{ltb-true, ltb-false}
-use Rattle.hexlines.specs.Lines.{room, lineFeed, linesOf, bytesIn, isBad, bad, joined, inputFrom, inputOf}
-use Rattle.hexlines.specs.Reading.{lineLength, enough}
+use Rattle.hexlines.specs.Lines.{room, lineFeed, linesOf, bytesIn, isBad, bad, joined, inputFrom, inputOf, enough}
+use Rattle.hexlines.specs.inner.Reading.{lineLength}
 use Rattle.hexlines.specs.Programs.{fileProgram, normalFile, tupleProgram, normalTuple}
 use Rattle.hexlines.proofs.Digits.{by-bool}
 use Rattle.hexlines.proofs.Lines.{ends, goes-on, line-within, lines-cons}

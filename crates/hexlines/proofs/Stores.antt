@@ -7,7 +7,7 @@ use native.Mathlib.Omega.{arith}
 use lib.ListN.{length, set, length-append, length-set}
 use lib.Seq.{sets}
 use Rattle.order.proofs.Stores.{add-two, sets-append}
-use Rattle.hexlines.specs.Printing.{Put}
+use Rattle.hexlines.specs.inner.Printing.{Put}
 
 -- the first of xs is stored, the rest is left
 pub store-one : (l xs rest : List ℕ) (to v : ℕ) → xs ≡ v ∷ rest → sets (set l to v) (to + 1) rest ≡ sets l to xs

@@ -1,4 +1,4 @@
 pub mod Lines
 pub mod Programs
-pub mod Reading
 pub mod Printing
+pub mod inner

@@ -81,3 +81,9 @@ decimals (suc d) n = elim (ltb n 10) [ true ↦ (48 + n) ∷ [] | false ↦ deci
 -- twenty digits hold every number of 64 bits
 abbrev pub decimal : ℕ → List ℕ
 decimal n = decimals 20 n
+
+-- Characters enough to know the input by. A good line is at most three characters a byte, its line feed with them, so 65,536 bytes
+-- take at most 196,608; whatever begins behind those, even by one character, is a bad line. One character fewer isn't enough: with
+-- such a line cut off, its text would be good.
+abbrev pub enough : ℕ
+enough = 196609

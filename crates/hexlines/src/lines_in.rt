@@ -7,7 +7,7 @@ ghost use Prim.Native.Nat.{_+_, _*_, _/_, _%_, _<_, _≤_};
 ghost use lib.ListN.{length, drop};
 ghost use lib.Seq.{sets};
 ghost use Rattle.hexlines.specs.Lines.{room, isDigit, digitOf, allDigits, bytesIn, isBad};
-ghost use Rattle.hexlines.specs.Reading.{lineLength, Read};
+ghost use Rattle.hexlines.specs.inner.Reading.{lineLength, Read};
 
 // At most so many decoded bytes.
 pub const ROOM: usize = 65_536;

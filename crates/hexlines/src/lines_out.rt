@@ -7,7 +7,7 @@ ghost use lib.ListN.{length};
 ghost use Rattle.frame.specs.Tuples.{tuplesOf};
 ghost use Rattle.hexlines.specs.Lines.{digit, hex, line, decimal};
 ghost use Rattle.hexlines.specs.Programs.{fileLines, badLine, refusedLine};
-ghost use Rattle.hexlines.specs.Printing.{Put, Form};
+ghost use Rattle.hexlines.specs.inner.Printing.{Put, Form};
 
 // Stores a text at a place.
 fn put(out: &mut [u8], at: usize, text: &[u8]) -> usize

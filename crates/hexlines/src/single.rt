@@ -5,7 +5,8 @@ ghost use Prim.Native.Nat.{_≤_};
 ghost use lib.ListN.{length};
 ghost use Rattle.hexlines.specs.Lines.{bytes};
 ghost use Rattle.hexlines.specs.Programs.{tupleProgram};
-ghost use Rattle.hexlines.specs.Printing.{mostPrinted, Put};
+ghost use Rattle.hexlines.specs.Printing.{mostPrinted};
+ghost use Rattle.hexlines.specs.inner.Printing.{Put};
 
 // Prints the normal form of a mark and one tuple, or its refusal.
 pub fn print(printed: &mut [u8], file: &[u8]) -> usize

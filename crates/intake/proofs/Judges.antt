@@ -23,11 +23,11 @@ use Rattle.frame.proofs.Frames.{allowed-most}
 use Rattle.frame.proofs.Places.{Whole, framing-whole}
 use Rattle.links.specs.Links.{Link, signRules}
 use Rattle.links.specs.Links
-use Rattle.links.specs.Tables.{sounderVerdict, channelVerdict, nameVerdict}
+use Rattle.links.specs.inner.Tables.{sounderVerdict, channelVerdict, nameVerdict}
 use Rattle.samples.specs.Judging.{judgedPairs, judgedWords}
 use Rattle.content.specs.Items.{identifiedBy, headRules, innerRules, unless, digest}
 use Rattle.content.proofs.Places.{by-code, fieldAt, fits-place, identifier-place, identified-other, link-sounder, link-channel, link-threshold, link-attitude, link-ping-U, link-ping-C, link-alone, inner-U, inner-C, inner-other}
-use Rattle.intake.specs.Tallies.{Here, Fits, headVerdict, linkBy, linkVerdict, innerVerdict, ownVerdict, turnVerdict}
+use Rattle.intake.specs.inner.Tallies.{Here, Fits, headVerdict, linkBy, linkVerdict, innerVerdict, ownVerdict, turnVerdict}
 
 -- the tuple at a place; whether its identifier is known; the channel that it names
 abbrev pub tupIn : Bool → List ℕ → ℕ → Tup

@@ -31,7 +31,7 @@ use Rattle.intake.specs.declared.Tally.{Tally}
 use Rattle.intake.specs.declared.Asked.{Asked}
 use Rattle.intake.specs.declared.Asked.the-variants
 use Rattle.intake.specs.Asking.{parentsIn, askItem}
-use Rattle.intake.specs.Tallies.{Columns, Sized, courseOf, Standing, pingAt, namedAt, channelLineOf, sounderNamed, sounderLineOf, askColumns, AskIn}
+use Rattle.intake.specs.inner.Tallies.{Columns, Sized, courseOf, Standing, pingAt, namedAt, channelLineOf, sounderNamed, sounderLineOf, askColumns, AskIn}
 use Rattle.intake.proofs.Asks.{Fair}
 
 module _ (o : Bool) (f : List ℕ) (w : Tally) (c : Columns) (s : Standing f w) (l : Sized c) (g : Fair o f (courseOf w c)) (h : Steady (courseOf w c .links)) where

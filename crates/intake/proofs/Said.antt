@@ -22,10 +22,10 @@ use Rattle.turning.specs.Rows.{Value, valuesOf}
 use Rattle.frame.specs.Frames.{Tup, tupAt, frameRules, framing}
 use Rattle.links.specs.Links
 use Rattle.links.specs.Links.{Link, mostSounders, mostChannels, signRules}
-use Rattle.links.specs.Tables.{member, sounderVerdict, channelVerdict, nameVerdict}
+use Rattle.links.specs.inner.Tables.{member, sounderVerdict, channelVerdict, nameVerdict}
 use Rattle.content.specs.Items.{rowIn, itemBy, itemOf, unless, linkBy, numberAt, digestOf, digestItem, digest, headRules, innerRules}
-use Rattle.intake.specs.Tallies
-use Rattle.intake.specs.Tallies.{headVerdict, linkVerdict, innerVerdict, turnVerdict}
+use Rattle.intake.specs.inner.Tallies
+use Rattle.intake.specs.inner.Tallies.{headVerdict, linkVerdict, innerVerdict, turnVerdict}
 use Rattle.intake.proofs.Turns.{emptied}
 
 -- ---- every fault is at the tuple's first byte

@@ -15,8 +15,8 @@ ghost use mathlib.Core.Bool.{_&&_, _||_};
 ghost use Rattle.order.specs.Order.{numOf};
 ghost use Rattle.frame.specs.Frames.{tupAt};
 ghost use Rattle.frame.specs.Files.{limit};
-ghost use Rattle.links.specs.Tables.{nameVerdict};
-ghost use Rattle.intake.specs.Tallies.{Here, Fits, headVerdict, linkVerdict, innerVerdict, ownVerdict, turnVerdict, tallyBegin, tallyPast, Standing, Ended, endAnswer, columns, Sized, TurnedTo, RunTo, AskIn, askColumns, AcceptedFile};
+ghost use Rattle.links.specs.inner.Tables.{nameVerdict};
+ghost use Rattle.intake.specs.inner.Tallies.{Here, Fits, headVerdict, linkVerdict, innerVerdict, ownVerdict, turnVerdict, tallyBegin, tallyPast, Standing, Ended, endAnswer, columns, Sized, TurnedTo, RunTo, AskIn, askColumns, AcceptedFile};
 ghost use Rattle.intake.specs.Check.{Checked};
 ghost use Rattle.intake.specs.Asking.{AskedFor, askAccepted};
 

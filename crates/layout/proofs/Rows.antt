@@ -6,7 +6,7 @@ use Prim.Native.Nat.{ℕ, _+_, _≤_}
 use native.Mathlib.Omega.{arith}
 use lib.ListN.{length, take}
 use Rattle.layout.specs.Fields.{Field}
-use Rattle.layout.specs.Codes.{fieldOf, fieldsFrom, fieldsOf}
+use Rattle.layout.specs.inner.Codes.{fieldOf, fieldsFrom, fieldsOf}
 
 -- a row without the dots behind its codes has the same fields
 cut-at : (k : ℕ) (ks : List ℕ) → fieldsOf (take (length (fieldsOf ks)) ks) ≡ fieldsOf ks

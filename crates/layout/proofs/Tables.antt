@@ -12,8 +12,8 @@ use lib.ListN.{getD, List·getD-map}
 use Rattle.layout.specs.declared.Kind.{Kind}
 use Rattle.layout.specs.declared.Kind.the-variants.{Signature, Sounder, Channel, Position, Navigation, Attitude, Threshold, Event, PingU, PingC, RunStart, RunEnd, FileEnd, Index, Unlisted}
 use Rattle.layout.specs.Fields.{Field, u, size}
-use Rattle.layout.specs.Types.{Shape, indexed, row, pairs, words, unlisted, Length, exactly, upward, free, fitting, pingRow, lineOf, listed, placeIn}
-use Rattle.layout.specs.Codes.{fieldOf, fieldsOf, rowCodes, leasts, steps, lengthBy}
+use Rattle.layout.specs.Types.{Shape, indexed, row, pairs, words, unlisted, Length, exactly, upward, free, fitting, pingRow, lineOf, listed, placeIn, lengthFrom}
+use Rattle.layout.specs.inner.Codes.{fieldOf, fieldsOf, rowCodes, leasts, steps, lengthBy}
 
 -- the fields that a shape begins with
 abbrev pub fieldsIn : Shape → List Field
@@ -22,15 +22,6 @@ fieldsIn (row fs x) = fs
 fieldsIn pairs = pingRow
 fieldsIn words = pingRow ++ (u 4 ∷ [])
 fieldsIn unlisted = []
-
--- the lengths of a shape: size, type, fields, attribute and backlink; and the characters, the pairs or the words, one at least
-abbrev pub lengthFrom : Shape → Length
-lengthFrom indexed = free
-lengthFrom (row fs none) = exactly (size fs + 14)
-lengthFrom (row fs (some n)) = upward (size fs + 14 + n) 4
-lengthFrom pairs = upward (size pingRow + 14 + 8) 8
-lengthFrom words = upward (size pingRow + 4 + 14 + 4) 4
-lengthFrom unlisted = free
 
 -- what the tables say of a kind: its fields, its lengths, and these by its row
 pub record Said : Type 0 where

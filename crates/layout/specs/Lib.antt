@@ -2,4 +2,4 @@ pub mod Text
 pub mod Answers
 pub mod Fields
 pub mod Types
-pub mod Codes
+pub mod inner

@@ -1,12 +1,12 @@
 -- The type codes: classes, listed types, their lengths and their rows. Assumes nothing.
-use Prim.Native.Nat.{ℕ, _-_, _%_}
+use Prim.Native.Nat.{ℕ, _-_, _%_, _+_}
 use mathlib.Core.Bool.{Bool, true, _&&_}
 use mathlib.Core.List.{List, [], _∷_}
 use mathlib.Core.Option.{Option, some, none}
 use lib.Dec.{leb, eqb}
 use lib.ListN.{getD}
 use Rattle.rules.specs.Rules.{Rule, _⇒_, firstOf}
-use Rattle.layout.specs.Fields.{Field, u, s, c, z, ident}
+use Rattle.layout.specs.Fields.{Field, u, s, c, z, ident, size}
 use Rattle.layout.specs.declared.Kind.{Kind}
 use Rattle.layout.specs.declared.Kind.the-variants.{Signature, Sounder, Channel, Position, Navigation, Attitude, Threshold, Event, PingU, PingC, RunStart, RunEnd, FileEnd, Index, Unlisted}
 
@@ -139,3 +139,12 @@ placeIn RunEnd = 11
 placeIn FileEnd = 12
 placeIn Index = 13
 placeIn Unlisted = 13
+
+-- the lengths of a shape: size, type, fields, attribute and backlink; and the characters, the pairs or the words, one at least
+abbrev pub lengthFrom : Shape → Length
+lengthFrom indexed = free
+lengthFrom (row fs none) = exactly (size fs + 14)
+lengthFrom (row fs (some n)) = upward (size fs + 14 + n) 4
+lengthFrom pairs = upward (size pingRow + 14 + 8) 8
+lengthFrom words = upward (size pingRow + 4 + 14 + 4) 4
+lengthFrom unlisted = free

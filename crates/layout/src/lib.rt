@@ -8,7 +8,7 @@ ghost use Prim.Native.Nat.{_<_};
 ghost use mathlib.Core.List.{[]};
 ghost use lib.ListN.{getD};
 ghost use Rattle.layout.specs.Types.{inClass, kindOf, placeIn, lineOf, fitting};
-ghost use Rattle.layout.specs.Codes.{leasts, steps, rowCodes};
+ghost use Rattle.layout.specs.inner.Codes.{leasts, steps, rowCodes};
 
 // What intake says: the tuples counted and the bytes written, or the code and the place of the first broken rule.
 pub enum Answer {

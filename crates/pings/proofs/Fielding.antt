@@ -25,7 +25,8 @@ use Rattle.pings.specs.declared.PingKind.{PingKind}
 use Rattle.pings.specs.declared.PingKind.the-variants.{U32, C32}
 use Rattle.pings.specs.declared.PingRead.{PingRead}
 use Rattle.pings.specs.declared.PingRead.the-variants.{Read}
-use Rattle.pings.specs.Readers.{samplesBy, samplesAt, SoundPing}
+use Rattle.pings.specs.Readers.{samplesBy, samplesAt}
+use Rattle.pings.specs.inner.Handing.{SoundPing}
 use Rattle.pings.specs.Fields.{headerOf, pingBy, kindOfPing, pingFields, answerOf, answered, PingAt}
 use Rattle.pings.proofs.Handing.{length-pairs}
 use Rattle.pings.proofs.Reading.{whole-there, pairs-there, words-there, count-there}

@@ -12,9 +12,10 @@ use lib.Seq.{sets, sets-eq}
 use Rattle.rules.proofs.Bools.{or-true}
 use Rattle.layout.specs.declared.Answer.the-variants.{Accepted, Refused}
 use Rattle.samples.specs.Words.{Sample, words, allWords, pairUp}
-use Rattle.samples.specs.Lists.{numbersOf, valuesOf, Room}
+use Rattle.samples.specs.Lists.{numbersOf, valuesOf}
+use Rattle.samples.specs.inner.Lists.{Room}
 use Rattle.samples.proofs.Words.{pairs-few}
-use Rattle.pings.specs.Readers.{Handed}
+use Rattle.pings.specs.inner.Handing.{Handed}
 
 -- ---- either slice is short
 module _ (s : List Sample) (ns : List ℕ) (vs : List ℤ) where

@@ -21,7 +21,8 @@ use Rattle.turning.specs.Rows.{encode}
 use Rattle.frame.specs.Frames.{lengthOf, frame}
 use Rattle.frame.proofs.Frames.{length-frame}
 use Rattle.samples.specs.Words.{unwords, unpair}
-use Rattle.samples.specs.Lists.{paired, numbered, valued}
+use Rattle.samples.specs.Lists.{paired}
+use Rattle.samples.specs.inner.Lists.{numbered, valued}
 use Rattle.samples.specs.Runs.{radix, fewest}
 use Rattle.samples.specs.Judging.{most, firstDrop, firstWordless}
 use Rattle.samples.proofs.Words.{length-unwords, length-unpair}
@@ -34,7 +35,8 @@ use Rattle.tuples.specs.Writers.{writeAnswer, Written, tooLong}
 use Rattle.tuples.proofs.Storing.{length-three, in-three, length-four, in-four}
 use Rattle.tuples.proofs.Writing.{unwritten, all-written}
 use Rattle.pings.specs.Writers.{countRules, risingRule, rulesU, bytesU, rulesC, bytesC}
-use Rattle.pings.specs.Headers.{headOf, handedPing, openingBytes, closingBytes, SoundList}
+use Rattle.pings.specs.Headers.{headOf, handedPing}
+use Rattle.pings.specs.inner.Framing.{openingBytes, closingBytes, SoundList}
 
 -- ---- the header's row has 18 bytes
 length-head : (o : Bool) (h : PingHeader) → length (encode o pingRow (headOf h)) ≡ 18

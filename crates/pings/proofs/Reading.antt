@@ -25,11 +25,12 @@ use Rattle.samples.proofs.Values.{length-decode}
 use Rattle.content.specs.Pings.{Ping}
 use Rattle.content.specs.Items.{ping, itemOf}
 use Rattle.content.proofs.Places.{fieldAt, samples-U, samples-C}
-use Rattle.intake.specs.Tallies.{Here, Fits, innerVerdict, headVerdict}
+use Rattle.intake.specs.inner.Tallies.{Here, Fits, innerVerdict, headVerdict}
 use Rattle.intake.proofs.Judges.{head-fits, own-parts, long-U, long-C, inner-words}
 use Rattle.tuples.specs.Readers.{tupleThere, readAnswer, isPing}
 use Rattle.tuples.proofs.Reading.{stands, here, most}
-use Rattle.pings.specs.Readers.{samplesBy, samplesAt, sampleAnswer, Handed, SoundPing, SamplesRead}
+use Rattle.pings.specs.Readers.{samplesBy, samplesAt, sampleAnswer, SamplesRead}
+use Rattle.pings.specs.inner.Handing.{Handed, SoundPing}
 use Rattle.pings.proofs.Handing.{length-pairs}
 
 -- ---- the sample reader, by the reader's answer

@@ -8,9 +8,10 @@ use Rattle.order.specs.Order.{bytesOf, patternOf}
 use Rattle.layout.specs.Types.{pingRow}
 use Rattle.turning.specs.Rows.{encode}
 use Rattle.pings.specs.declared.PingHeader.{PingHeader}
-use Rattle.tuples.specs.Writers.{openBytes}
+use Rattle.tuples.specs.inner.Framing.{openBytes}
 use Rattle.tuples.proofs.Storing.{store-step, open-stored}
-use Rattle.pings.specs.Headers.{headOf, openingBytes}
+use Rattle.pings.specs.Headers.{headOf}
+use Rattle.pings.specs.inner.Framing.{openingBytes}
 
 module _ (o : Bool) (l : List ℕ) (h : PingHeader) where
   pub header-stored :

@@ -2,3 +2,4 @@ pub mod Readers
 pub mod Fields
 pub mod Writers
 pub mod Headers
+pub mod inner

@@ -1,7 +1,7 @@
 -- What the sample reader answers, and what it leaves in its two slices. Assumes nothing.
 use mathlib.Core.Path.{_≡_, sym, _∙_}
 use Prim.Native.Nat.{ℕ}
-use mathlib.Core.Bool.{Bool, _||_}
+use mathlib.Core.Bool.{_||_}
 use mathlib.Core.List.{List, [], _∷_}
 use mathlib.Core.Option.{Option, some, none}
 use lib.Dec.{ltb}
@@ -14,7 +14,7 @@ use Rattle.layout.specs.Answers.{leftBy}
 use Rattle.samples.specs.Words.{Sample}
 use Rattle.samples.specs.Lists.{numbersOf, valuesOf}
 use Rattle.content.specs.Items.{Item, plain, ping, raw}
-use Rattle.tuples.specs.Readers.{isPing, readAnswer, readItem, Readable}
+use Rattle.tuples.specs.Readers.{isPing, readAnswer, readItem}
 
 -- ---- samples
 abbrev pub samplesBy : Option Item → List Sample
@@ -37,16 +37,6 @@ behindRead n numbers values (Refused c p) = Refused c p
 
 unfoldable pub sampleAnswer : List ℕ → ℕ → ℕ → ℕ → Answer
 sampleAnswer f p numbers values = behindRead (length (samplesAt f p)) numbers values (readAnswer isPing f p)
-
--- samples handed over: the answer, and what the slices hold then
-pub record Handed (s : List Sample) (numbers : List ℕ) (values : List ℤ) (r : Answer) (ns : List ℕ) (vs : List ℤ) : Type 0 where
-  pub answer : r ≡ handAnswer (length s) (length numbers) (length values)
-  pub numbersLeft : ns ≡ leftBy (handAnswer (length s) (length numbers) (length values)) (numbersOf s) numbers
-  pub valuesLeft : vs ≡ leftBy (handAnswer (length s) (length numbers) (length values)) (valuesOf s) values
-
--- a listed ping of n bytes and type k that keeps its own rules
-abbrev pub SoundPing : List ℕ → ℕ → Bool → ℕ → ℕ → Type 0
-SoundPing f p o n k = Readable isPing f p o n k
 
 -- ---- the promises, and that they settle answer and memory
 pub record SamplesRead (f : List ℕ) (p : ℕ) (numbers : List ℕ) (values : List ℤ) (r : Answer) (ns : List ℕ) (vs : List ℤ) : Type 0 where

@@ -10,12 +10,14 @@ ghost use lib.ListN.{length, drop};
 ghost use lib.Seq.{sets};
 ghost use Rattle.samples.specs.Words.{allWords, pairUp};
 ghost use Rattle.samples.specs.Runs.{radix, decode};
-ghost use Rattle.pings.specs.Readers.{samplesAt, Handed, SoundPing, SamplesRead};
+ghost use Rattle.pings.specs.Readers.{samplesAt, SamplesRead};
+ghost use Rattle.pings.specs.inner.Handing.{Handed, SoundPing};
 ghost use Rattle.layout.specs.Types.{pingRow};
 ghost use Rattle.turning.specs.Rows.{valuesOf, encode};
 ghost use Rattle.pings.specs.Fields.{headerOf, pingFields, PingAt};
 ghost use Rattle.pings.specs.Writers.{bytesC};
-ghost use Rattle.pings.specs.Headers.{SoundList, headOf, openingBytes, handedPing, WrittenU, WrittenC};
+ghost use Rattle.pings.specs.Headers.{headOf, handedPing, WrittenU, WrittenC};
+ghost use Rattle.pings.specs.inner.Framing.{SoundList, openingBytes};
 
 // The bytes of a pair and of a word.
 const PAIR: usize = 8;

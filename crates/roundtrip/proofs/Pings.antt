@@ -18,11 +18,10 @@ use Rattle.layout.proofs.Verdicts.{passed}
 use Rattle.frame.specs.Frames.{Tup, lengthOf, frame}
 use Rattle.frame.proofs.Frames.{allowed-of, length-frame}
 use Rattle.turning.specs.Rows.{fit-end, fit-num}
-use Rattle.samples.specs.Words.{Sample}
+use Rattle.samples.specs.Words.{Sample, Below}
 use Rattle.samples.specs.Lists.{paired, numbersOf, valuesOf}
 use Rattle.samples.specs.Runs.{radix, isRun, isBad, fewest}
 use Rattle.samples.specs.Judging.{most, firstDrop, firstWordless, pairRules, wordRules}
-use Rattle.samples.proofs.Words.{Below}
 use Rattle.samples.proofs.Runs.{by-bool, encode-length}
 use Rattle.samples.proofs.Rising.{all-rising, drop-most}
 use Rattle.samples.proofs.Apart.{Ints, paired-within, length-paired, wordless-here, wordless-later}

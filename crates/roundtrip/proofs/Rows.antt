@@ -17,12 +17,11 @@ use Rattle.order.specs.Order.{signedOf, patternOf, bytesOf, Bytes}
 use Rattle.layout.specs.declared.Answer.{Answer}
 use Rattle.layout.specs.declared.Answer.the-variants.{Accepted}
 use Rattle.layout.specs.Fields.{Field, size}
-use Rattle.layout.specs.Types.{Shape, row, fitting, shapeOf}
-use Rattle.layout.proofs.Tables.{lengthFrom}
+use Rattle.layout.specs.Types.{Shape, row, fitting, shapeOf, lengthFrom}
 use Rattle.frame.specs.Frames.{lengthOf, allowed}
 use Rattle.frame.proofs.Frames.{past-6}
-use Rattle.turning.specs.Rows.{Value, valuesOf, encode, identified, Fit}
-use Rattle.turning.proofs.Contents.{Lettered, values-encode, identified-encode, length-encode, bytes-encode, values-take, valuesAt, values-at}
+use Rattle.turning.specs.Rows.{Value, valuesOf, encode, identified, Fit, Lettered}
+use Rattle.turning.proofs.Contents.{values-encode, identified-encode, length-encode, bytes-encode, values-take, valuesAt, values-at}
 use Rattle.content.specs.Items.{plain, rowIn, itemBy, itemOf}
 use Rattle.content.specs.Forms.{encodeBy, plainTuple}
 use Rattle.content.proofs.Fine.{Sound, head-fine, inner-fine, row-size}

@@ -18,8 +18,9 @@ use Rattle.frame.proofs.Places.{framing-whole}
 use Rattle.frame.proofs.Walks.{Stands, stands-forward}
 use Rattle.content.specs.Items.{itemOf, headRules, innerRules}
 use Rattle.content.proofs.Fine.{Sound}
-use Rattle.intake.specs.Tallies.{ownVerdict}
-use Rattle.tuples.specs.Readers.{tupleThere, readAnswer, readItem, Found}
+use Rattle.intake.specs.inner.Tallies.{ownVerdict}
+use Rattle.tuples.specs.Readers.{tupleThere, readAnswer, readItem}
+use Rattle.tuples.specs.inner.Opening.{Found}
 use Rattle.tuples.proofs.Reading.{fine}
 use Rattle.roundtrip.specs.Held.{Holds, fileWith}
 

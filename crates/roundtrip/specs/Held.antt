@@ -9,12 +9,10 @@ use lib.IntN.{ℤ}
 use lib.ListN.{length, take, drop}
 use lib.Signed.{mag}
 use Rattle.layout.specs.Fields.{Field}
-use Rattle.layout.specs.Types.{row, fitting, shapeOf}
-use Rattle.layout.proofs.Tables.{lengthFrom}
+use Rattle.layout.specs.Types.{row, fitting, shapeOf, lengthFrom}
 use Rattle.frame.specs.Files.{limit, mark, isMsb, marked}
 use Rattle.frame.specs.Frames.{allowed}
-use Rattle.turning.specs.Rows.{Value, Fit}
-use Rattle.turning.proofs.Contents.{Lettered}
+use Rattle.turning.specs.Rows.{Value, Fit, Lettered}
 use Rattle.content.specs.Items.{rowIn}
 use Rattle.tuples.specs.declared.Part.{Part}
 

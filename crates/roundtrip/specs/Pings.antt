@@ -10,7 +10,7 @@ use Rattle.layout.specs.declared.Answer.the-variants.{Accepted}
 use Rattle.samples.specs.Lists.{paired}
 use Rattle.samples.specs.Runs.{radix, fewest}
 use Rattle.samples.specs.Judging.{most, firstDrop, firstWordless}
-use Rattle.samples.proofs.Words.{Below}
+use Rattle.samples.specs.Words.{Below}
 use Rattle.pings.specs.declared.PingHeader.{PingHeader}
 use Rattle.pings.specs.declared.PingKind.{PingKind}
 use Rattle.pings.specs.declared.PingRead.{PingRead}

@@ -16,11 +16,12 @@ use lib.Seq.{drop-cons}
 use lib.Signed.{mag}
 use borrow.Author.Tests.{leb-true}
 use Rattle.order.specs.Order.{patternOf}
-use Rattle.samples.specs.Words.{Sample}
-use Rattle.samples.specs.Lists.{paired, numbered, valued}
+use Rattle.samples.specs.Words.{Sample, Below}
+use Rattle.samples.specs.Lists.{paired}
+use Rattle.samples.specs.inner.Lists.{numbered, valued}
 use Rattle.samples.specs.Runs.{radix, isRun, isBad, gap, encodeFrom, fewest}
 use Rattle.samples.specs.Judging.{firstDrop, firstWordless}
-use Rattle.samples.proofs.Words.{Below, Within}
+use Rattle.samples.proofs.Words.{Within}
 use Rattle.samples.proofs.Runs.{by-bool, encode-length}
 use Rattle.samples.proofs.Rising.{drop-later, drop-here}
 

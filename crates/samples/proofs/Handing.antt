@@ -8,7 +8,8 @@ use lib.ListN.{length, set, length-set}
 use lib.Seq.{sets}
 use Rattle.order.specs.Order.{signedOf}
 use Rattle.samples.specs.Words.{Sample}
-use Rattle.samples.specs.Lists.{numbersOf, valuesOf, Room}
+use Rattle.samples.specs.Lists.{numbersOf, valuesOf}
+use Rattle.samples.specs.inner.Lists.{Room}
 
 -- samples s are to stand in the slices ns₀ and vs₀; those left are still to come, from entry j on
 pub record Handing (s left : List Sample) (ns₀ : List ℕ) (vs₀ : List ℤ) (ns : List ℕ) (vs : List ℤ) (j : ℕ) : Type 0 where

@@ -6,7 +6,8 @@ use Prim.Native.Nat.{ℕ, _+_, _*_, _≤_, _<_}
 use native.Mathlib.Omega.{arith}
 use lib.ListN.{length}
 use Rattle.samples.specs.Runs.{isRun, runLength, decodeFrom, isBad, values, firstBad}
-use Rattle.samples.proofs.Words.{Below, Within}
+use Rattle.samples.proofs.Words.{Within}
+use Rattle.samples.specs.Words.{Below}
 use Rattle.samples.proofs.Runs.{decode-run, decode-value, run-short, by-bool}
 
 module _ (R : ℕ) where

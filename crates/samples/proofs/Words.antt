@@ -10,12 +10,7 @@ use lib.ListN.{length, take, drop, length-append, length-drop}
 use lib.Seq.{take-at, drop-at, drop-drop, length-take-le}
 use Rattle.order.specs.Order.{numOf, bytesOf, Bytes}
 use Rattle.order.proofs.Laws.{length-bytesOf, numOf-bytesOf, numOf-bound, bytes-take, bytes-drop, bytes-append, bytes-ordered, bytes-lows}
-use Rattle.samples.specs.Words.{Sample, words, allWords, unwords, pairUp, unpair}
-
--- every one of these is below b
-abbrev pub Below : ℕ → List ℕ → Type 0
-Below b [] = Unit {0}
-Below b (w ∷ ws) = (w < b) × Below b ws
+use Rattle.samples.specs.Words.{Sample, words, allWords, unwords, pairUp, unpair, Below}
 
 -- numbers and values of samples below b
 abbrev pub Within : ℕ → List Sample → Type 0

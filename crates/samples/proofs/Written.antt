@@ -12,10 +12,10 @@ use Rattle.rules.proofs.Bools.{and-false}
 use Rattle.layout.specs.declared.Verdict.the-variants.{Fine}
 use Rattle.layout.specs.Answers.{judged}
 use Rattle.layout.proofs.Verdicts.{passed}
-use Rattle.samples.specs.Words.{Sample, allWords, unwords, pairUp, unpair}
+use Rattle.samples.specs.Words.{Sample, allWords, unwords, pairUp, unpair, Below}
 use Rattle.samples.specs.Runs.{radix, isRun, isBad, decodeFrom, decode, values, firstBad, lastRun, gap, encodeFrom, fewest}
 use Rattle.samples.specs.Judging.{most, firstDrop, firstWordless, pairRules, wordRules, judgedPairs, judgedWords}
-use Rattle.samples.proofs.Words.{Below, Within, all-unwords, pair-unpair, within-below}
+use Rattle.samples.proofs.Words.{Within, all-unwords, pair-unpair, within-below}
 use Rattle.samples.proofs.Runs.{Fit, by-bool, there-back, fewest-words}
 use Rattle.samples.proofs.Values.{bad-later, length-decode}
 use Rattle.samples.proofs.Rising.{Rising, all-rising}

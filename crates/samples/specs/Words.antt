@@ -1,5 +1,5 @@
 -- The words of a ping, in either byte order, and pairs of them. Assumes nothing.
-use Prim.Native.Nat.{ℕ, zero, suc, _/_}
+use Prim.Native.Nat.{ℕ, zero, suc, _/_, _<_}
 use mathlib.Core.Bool.{Bool}
 use mathlib.Core.List.{List, [], _∷_, _++_}
 use lib.ListN.{length, take, drop}
@@ -32,3 +32,8 @@ pairUp (a ∷ b ∷ r) = (a, b) ∷ pairUp r
 unfoldable pub unpair : List Sample → List ℕ
 unpair [] = []
 unpair (x ∷ s) = x .0 ∷ x .1 ∷ unpair s
+
+-- every one of these is below b
+abbrev pub Below : ℕ → List ℕ → Type 0
+Below b [] = Unit {0}
+Below b (w ∷ ws) = (w < b) × Below b ws

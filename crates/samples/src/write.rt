@@ -7,7 +7,8 @@ ghost use Prim.Native.Nat.{_+_, _*_, _^_, _<_, _≤_};
 ghost use lib.ListN.{length};
 ghost use lib.Seq.{sets};
 ghost use Rattle.samples.specs.Words.{unwords, unpair};
-ghost use Rattle.samples.specs.Lists.{paired, numbered, valued};
+ghost use Rattle.samples.specs.Lists.{paired};
+ghost use Rattle.samples.specs.inner.Lists.{numbered, valued};
 ghost use Rattle.samples.specs.Runs.{radix, gap, fewest};
 ghost use Rattle.samples.specs.Judging.{firstDrop, firstWordless};
 

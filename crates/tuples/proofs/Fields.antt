@@ -8,8 +8,8 @@ use borrow.Author.Tests.{eqb-true, leb-true}
 use lib.Dec.{eqb, leb}
 use lib.ListN.{length, take, drop, length-drop}
 use lib.Seq.{length-take-le}
-use Rattle.layout.specs.Types.{Shape, indexed, row, pairs, words, unlisted, kindOf, lineOf, shapeOf, Length, exactly, upward, fitting}
-use Rattle.layout.proofs.Tables.{lengthFrom, lengths-from}
+use Rattle.layout.specs.Types.{Shape, indexed, row, pairs, words, unlisted, kindOf, lineOf, shapeOf, Length, exactly, upward, fitting, lengthFrom}
+use Rattle.layout.proofs.Tables.{lengths-from}
 use Rattle.layout.proofs.Verdicts.{both-left}
 use Rattle.turning.specs.Rows.{valuesOf}
 use Rattle.turning.proofs.Contents.{valuesAt, values-at}
@@ -19,9 +19,10 @@ use Rattle.frame.proofs.Places.{Whole}
 use Rattle.content.specs.Items.{rowIn, itemBy, itemOf}
 use Rattle.content.proofs.Fine.{row-size}
 use Rattle.content.proofs.Places.{length-body, values-place}
-use Rattle.intake.specs.Tallies.{Here, Fits, innerVerdict}
+use Rattle.intake.specs.inner.Tallies.{Here, Fits, innerVerdict}
 use Rattle.intake.proofs.Judges.{head-fits, own-parts}
-use Rattle.tuples.specs.Readers.{tupleThere, only, Readable, valuesBy, readValues, rowBy, rowOf}
+use Rattle.tuples.specs.Readers.{tupleThere, only, valuesBy, readValues}
+use Rattle.tuples.specs.inner.Opening.{Readable, rowBy, rowOf}
 use Rattle.tuples.proofs.Reading.{stands, here}
 
 -- ---- a row and its lengths

@@ -21,8 +21,9 @@ use Rattle.frame.proofs.Places.{whole-framing}
 use Rattle.frame.proofs.Walks.{Stands, forward-stands}
 use Rattle.frame.proofs.Ways.{said, unsaid}
 use Rattle.content.specs.Items.{headRules, innerRules}
-use Rattle.intake.specs.Tallies.{Here, ownVerdict}
-use Rattle.tuples.specs.Readers.{tupleThere, readAnswer, Found}
+use Rattle.intake.specs.inner.Tallies.{Here, ownVerdict}
+use Rattle.tuples.specs.Readers.{tupleThere, readAnswer}
+use Rattle.tuples.specs.inner.Opening.{Found}
 
 -- ---- nothing is found
 module _ (asked : ℕ → Bool) (f : List ℕ) (p : ℕ) where

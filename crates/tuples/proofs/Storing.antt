@@ -9,7 +9,7 @@ use lib.Seq.{sets}
 use Rattle.order.specs.Order.{bytesOf}
 use Rattle.order.proofs.Laws.{length-bytesOf}
 use Rattle.order.proofs.Stores.{sets-append}
-use Rattle.tuples.specs.Writers.{openBytes, closeBytes}
+use Rattle.tuples.specs.inner.Framing.{openBytes, closeBytes}
 
 -- k bytes, and more behind them
 pub store-step : (o : Bool) (k v : ℕ) (l ys : List ℕ) (i : ℕ) → sets l i (bytesOf o k v ++ ys) ≡ sets (sets l i (bytesOf o k v)) (i + k) ys

@@ -18,14 +18,16 @@ use Rattle.layout.specs.declared.Answer.the-variants.{Accepted, Refused}
 use Rattle.layout.specs.declared.Kind.{Kind}
 use Rattle.layout.specs.Fields.{Field, num, txt, gap, ident, s, size}
 use Rattle.layout.specs.Types.{Shape, indexed, row, pairs, words, unlisted, kindOf, shapeOf, lineOf, placeIn}
-use Rattle.layout.specs.Codes.{fieldsOf, rowCodes}
+use Rattle.layout.specs.inner.Codes.{fieldsOf, rowCodes}
 use Rattle.layout.proofs.Tables.{Said, fieldsIn, tabled, by-kind}
 use Rattle.frame.specs.Frames.{frame}
 use Rattle.frame.proofs.Frames.{length-frame}
-use Rattle.turning.specs.Rows.{Value, number, text, encode, woven, textFits}
+use Rattle.turning.specs.Rows.{Value, number, text, encode}
+use Rattle.turning.specs.inner.Codes.{woven, textFits}
 use Rattle.turning.proofs.Writes.{length-woven}
 use Rattle.content.specs.Forms.{encodeBy, plainTuple}
-use Rattle.tuples.specs.Writers.{writeAnswer, Written, plainBytes, handedValues, Handable, openBytes, closeBytes}
+use Rattle.tuples.specs.Writers.{writeAnswer, Written, plainBytes}
+use Rattle.tuples.specs.inner.Framing.{handedValues, Handable, openBytes, closeBytes}
 use Rattle.tuples.proofs.Storing.{in-four, length-open}
 
 -- ---- any writer, by its answer

@@ -1,2 +1,3 @@
 pub mod Readers
 pub mod Writers
+pub mod inner

@@ -1,7 +1,6 @@
 -- What a reader answers at any place of any file, and the tuple that it then reads. Assumes nothing.
-use mathlib.Core.Path.{_≡_}
-use Prim.Native.Nat.{ℕ, _-_}
-use mathlib.Core.Bool.{Bool, true, not, _||_}
+use Prim.Native.Nat.{ℕ}
+use mathlib.Core.Bool.{Bool, not, _||_}
 use mathlib.Core.List.{List, [], _∷_, _++_}
 use mathlib.Core.Option.{Option, some, none}
 use lib.Dec.{eqb}
@@ -9,10 +8,6 @@ use lib.ListN.{drop, getD}
 use Rattle.rules.specs.Rules.{Rule, _⇒_, firstOf, saying}
 use Rattle.layout.specs.declared.Answer.{Answer}
 use Rattle.layout.specs.declared.Answer.the-variants.{Accepted, Refused}
-use Rattle.layout.specs.declared.Verdict.the-variants.{Fine}
-use Rattle.layout.specs.Fields.{Field}
-use Rattle.layout.specs.Types.{Shape, indexed, row, pairs, words, unlisted, shapeOf}
-use Rattle.frame.specs.declared.Walk.{Walk}
 use Rattle.frame.specs.declared.Step.{Step}
 use Rattle.frame.specs.declared.Step.the-variants.{Tuple, End}
 use Rattle.frame.specs.declared.Step.the-variants
@@ -20,10 +15,7 @@ use Rattle.frame.specs.Frames.{Tup, tupAt}
 use Rattle.frame.specs.Files.{isMsb}
 use Rattle.frame.specs.Steps.{stepForward}
 use Rattle.turning.specs.Rows.{Value, number, text}
-use Rattle.intake.specs.Tallies.{ownVerdict}
-use Rattle.content.specs.Items.{Item, plain, ping, raw, rowIn, itemOf, headRules, innerRules}
-use Rattle.tuples.specs.declared.Opened.{Opened}
-use Rattle.tuples.specs.declared.Opened.the-variants as opened
+use Rattle.content.specs.Items.{Item, plain, ping, raw, itemOf, headRules, innerRules}
 
 -- the tuple at a place
 abbrev pub tupleThere : List ℕ → ℕ → Tup
@@ -64,49 +56,9 @@ asText (text t) = t
 abbrev pub textAt : List Value → ℕ → List ℕ
 textAt vs i = asText (getD vs i (number 0))
 
--- the row of a type, in a tuple of n bytes, with its characters and its attribute
-abbrev pub rowBy : Shape → ℕ → List Field
-rowBy indexed m = []
-rowBy (row fs x) m = rowIn fs x m
-rowBy pairs m = []
-rowBy words m = []
-rowBy unlisted m = []
-
-abbrev pub rowOf : ℕ → ℕ → List Field
-rowOf k n = rowBy (shapeOf k) (n - 10)
-
 -- a reader asks for one type, or for a listed ping of either type
 abbrev pub only : ℕ → ℕ → Bool
 only k c = eqb c k
 
 abbrev pub isPing : ℕ → Bool
 isPing k = eqb k 10000 || eqb k 10010
-
--- ---- what a reader finds
--- a step forward finds a tuple of n bytes and of a type code
-pub record Found (f : List ℕ) (p n k : ℕ) : Type 0 where
-  pub walk : Walk
-  pub step : stepForward f p ≡ Tuple p n k walk
-
--- in the file's byte order o
-pub record FoundTuple (f : List ℕ) (p : ℕ) (o : Bool) (n k : ℕ) : Type 0 where
-  pub msb : o ≡ isMsb f
-  pub found : Found f p n k
-
--- a tuple, or the refusal of every reader
-abbrev pub FoundAs : List ℕ → ℕ → Opened → Type 0
-FoundAs f p (opened.Tuple o n k) = FoundTuple f p o n k
-FoundAs f p (opened.Refused c q) = (asked : ℕ → Bool) → Refused c q ≡ readAnswer asked f p
-
--- it is a tuple that was asked for and that keeps its own rules, n bytes of type k in the byte order o
-pub record Readable (asked : ℕ → Bool) (f : List ℕ) (p : ℕ) (o : Bool) (n k : ℕ) : Type 0 where
-  pub answer : Accepted 1 0 ≡ readAnswer asked f p
-  pub msb : o ≡ isMsb f
-  pub found : Found f p n k
-  pub asks : asked k ≡ true
-  pub own : ownVerdict (isMsb f) (tupleThere f p) ≡ Fine
-
--- a tuple to be read, or the refusal
-abbrev pub OpenedAs : (ℕ → Bool) → List ℕ → ℕ → Opened → Type 0
-OpenedAs asked f p (opened.Tuple o n k) = Readable asked f p o n k
-OpenedAs asked f p (opened.Refused c q) = Refused c q ≡ readAnswer asked f p

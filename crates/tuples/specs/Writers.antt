@@ -1,20 +1,17 @@
 -- What the writers answer, and what they leave in lent memory. Assumes nothing.
 use mathlib.Core.Path.{_≡_, sym, _∙_}
-use Prim.Native.Nat.{ℕ, _+_, _-_, _≤_}
-use mathlib.Core.Bool.{Bool, true, not}
+use Prim.Native.Nat.{ℕ}
+use mathlib.Core.Bool.{Bool, not}
 use mathlib.Core.List.{List, [], _∷_, _++_}
-use mathlib.Core.Option.{some, none}
 use lib.Dec.{ltb, eqb}
 use lib.ListN.{length}
 use Rattle.rules.specs.Rules.{Rule, _⇒_, firstOf}
 use Rattle.layout.specs.declared.Answer.{Answer}
 use Rattle.layout.specs.declared.Answer.the-variants.{Accepted, Refused}
 use Rattle.layout.specs.Answers.{leftBy}
-use Rattle.layout.specs.Fields.{size}
-use Rattle.layout.specs.Types.{Shape, indexed, row, pairs, words, unlisted, fitting, lengthsOf}
-use Rattle.order.specs.Order.{bytesOf}
+use Rattle.layout.specs.Types.{fitting, lengthsOf}
 use Rattle.frame.specs.Frames.{Tup, lengthOf, frame}
-use Rattle.turning.specs.Rows.{Value, number, text, woven, textFits}
+use Rattle.turning.specs.Rows.{Value, number, text}
 use Rattle.content.specs.Forms.{plainTuple}
 
 -- a writer's rules, then 19; acceptance with 1 tuple and the bytes written
@@ -55,29 +52,3 @@ abbrev pub numbersIn : List Value → List ℕ
 numbersIn [] = []
 numbersIn (number n ∷ vs) = n ∷ numbersIn vs
 numbersIn (text t ∷ vs) = numbersIn vs
-
--- ---- what a writer of a row hands over: its numbers in order, a remark's characters, the characters behind the fields, the attribute
-abbrev pub handedValues : Shape → List ℕ → List ℕ → List ℕ → ℕ → List Value
-handedValues indexed ns t b a = []
-handedValues (row fs none) ns t b a = woven fs ns t ++ (number a ∷ [])
-handedValues (row fs (some least)) ns t b a = woven fs ns t ++ (text b ∷ number a ∷ [])
-handedValues pairs ns t b a = []
-handedValues words ns t b a = []
-handedValues unlisted ns t b a = []
-
--- they fill the row and make a tuple of n bytes
-abbrev pub Handable : Shape → List ℕ → List ℕ → List ℕ → ℕ → Type 0
-Handable indexed ns t b n = ⊥
-Handable (row fs none) ns t b n = (textFits fs t ≡ true) × (b ≡ []) × (n ≡ size fs + length b + 14) × (n ≤ 262144)
-Handable (row fs (some least)) ns t b n = (textFits fs t ≡ true) × (n ≡ size fs + length b + 14) × (n ≤ 262144)
-Handable pairs ns t b n = ⊥
-Handable words ns t b n = ⊥
-Handable unlisted ns t b n = ⊥
-
--- the frame of a tuple of n bytes and type k: before its data, data size and type; behind them, where the attribute is a, attribute
--- and backlink
-abbrev pub openBytes : Bool → ℕ → ℕ → List ℕ
-openBytes o n k = bytesOf o 4 (n - 10) ++ bytesOf o 2 k
-
-abbrev pub closeBytes : Bool → ℕ → ℕ → List ℕ
-closeBytes o n a = bytesOf o 4 a ++ bytesOf o 4 n

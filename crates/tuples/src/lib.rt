@@ -12,8 +12,10 @@ ghost use lib.ListN.{length, take, drop};
 ghost use lib.Seq.{sets};
 ghost use Rattle.order.specs.Order.{numOf, signedOf, patternOf};
 ghost use Rattle.layout.specs.Types.{shapeOf};
-ghost use Rattle.tuples.specs.Readers.{isPing, only, FoundTuple, FoundAs, OpenedAs};
-ghost use Rattle.tuples.specs.Writers.{Written, plainBytes, handedValues, Handable, openBytes, closeBytes};
+ghost use Rattle.tuples.specs.Readers.{isPing, only};
+ghost use Rattle.tuples.specs.inner.Opening.{FoundTuple, FoundAs, OpenedAs};
+ghost use Rattle.tuples.specs.Writers.{Written, plainBytes};
+ghost use Rattle.tuples.specs.inner.Framing.{handedValues, Handable, openBytes, closeBytes};
 
 // The place of a tuple's type, and that of its fields.
 const TYPE: usize = 4;

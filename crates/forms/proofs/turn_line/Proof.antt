@@ -8,11 +8,11 @@ use borrow.Author.Needs.{needs}
 use lib.ListN.{length, take, drop, getD}
 use lib.Seq.{sets}
 use Rattle.layout.specs.Fields.{Field, size}
-use Rattle.layout.specs.Codes.{fieldOf, fieldsOf, rowCodes}
+use Rattle.layout.specs.inner.Codes.{fieldOf, fieldsOf, rowCodes}
 use Rattle.layout.proofs.Lines.{at-least}
 use Rattle.layout.proofs.Rows.{cut}
 use Rattle.turning.specs.Rows.{turned}
-use Rattle.forms.specs.Parts.{lineFields}
+use Rattle.forms.specs.inner.Parts.{lineFields}
 use Rattle.forms.proofs.turn_line.Statement.{statement}
 use Rattle.forms.proofs.turn_line.Tie as tie
 

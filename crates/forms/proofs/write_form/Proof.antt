@@ -8,7 +8,7 @@ use lib.Seq.{sets}
 use Rattle.layout.specs.Types.{inClass, index, kindOf, placeIn}
 use Rattle.frame.specs.Frames.{tupAt}
 use Rattle.content.specs.Forms.{formBytes}
-use Rattle.forms.specs.Sound.{SoundHere}
+use Rattle.forms.specs.inner.Sound.{SoundHere}
 use Rattle.forms.proofs.Placed.{none-index, measured-index, measured-whole}
 use Rattle.forms.proofs.Texts.{raw-shape, rowed}
 use Rattle.forms.proofs.write_form.Statement.{statement}

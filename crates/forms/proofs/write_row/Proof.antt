@@ -6,7 +6,7 @@ use native.Mathlib.Omega.{arith}
 use borrow.Author.Needs.{needs}
 use lib.ListN.{length}
 use Rattle.layout.specs.Fields.{Field, size}
-use Rattle.forms.specs.Parts.{lineFields}
+use Rattle.forms.specs.inner.Parts.{lineFields}
 use Rattle.forms.proofs.Placed.{most, fits-here}
 use Rattle.forms.proofs.Texts.{row-listed, row-fields}
 use Rattle.forms.proofs.Written.{row-written}

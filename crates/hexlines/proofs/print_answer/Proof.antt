@@ -5,7 +5,7 @@ use borrow.Author.Needs.{needs}
 use lib.ListN.{length, take}
 use lib.Seq.{length-take-le}
 use Rattle.layout.specs.declared.Answer.{Answer}
-use Rattle.hexlines.specs.Printing.{Within, Ready, printedBy}
+use Rattle.hexlines.specs.inner.Printing.{Within, Ready, printedBy}
 use Rattle.hexlines.proofs.Programs.{most}
 use Rattle.hexlines.proofs.Stores.{put-same}
 use Rattle.hexlines.proofs.print_answer.Statement.{statement}

@@ -7,8 +7,8 @@ use borrow.Author.Needs.{needs}
 use borrow.Author.Tests.{not-true, not-false}
 use lib.Dec.{eqb}
 use lib.ListN.{length, take, getD}
-use Rattle.links.specs.Tables.{placeIn}
-use Rattle.intake.specs.Tallies.{pingAt, channelLineOf, sounderLineOf}
+use Rattle.links.specs.inner.Tables.{placeIn}
+use Rattle.intake.specs.inner.Tallies.{pingAt, channelLineOf, sounderLineOf}
 use Rattle.intake.proofs.Lines.{ask-other, ask-ping}
 use Rattle.intake.proofs.ask_here.Statement.{statement}
 use Rattle.intake.proofs.ask_here.Tie as tie

@@ -12,8 +12,8 @@ use lib.Seq.{getD-take}
 use Rattle.rules.specs.Rules.First.{none, here, pass}
 use Rattle.rules.proofs.Laws.{Passed}
 use Rattle.layout.specs.declared.Answer.the-variants.{Accepted}
-use Rattle.links.specs.Tables.{firstOff}
-use Rattle.intake.specs.Tallies.{endBy}
+use Rattle.links.specs.inner.Tables.{firstOff}
+use Rattle.intake.specs.inner.Tallies.{endBy}
 use Rattle.intake.proofs.Tallies.{ends}
 use Rattle.intake.proofs.end.Statement.{statement}
 use Rattle.intake.proofs.end.Tie as tie

@@ -9,7 +9,7 @@ use borrow.Author.Needs.{needs}
 use lib.ListN.{take, drop}
 use Rattle.layout.specs.declared.Verdict.{Verdict}
 use Rattle.frame.specs.Frames.{lenAt, kindAt}
-use Rattle.intake.specs.Tallies.{Here, Fits, turnVerdict}
+use Rattle.intake.specs.inner.Tallies.{Here, Fits, turnVerdict}
 use Rattle.intake.proofs.Judges.{room, head-fits, no-inner, fromLinks, fromHead, fromFrame, none-left, some-left}
 use Rattle.intake.proofs.judge.Statement.{statement}
 use Rattle.intake.proofs.judge.Tie as tie

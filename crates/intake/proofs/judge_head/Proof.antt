@@ -11,7 +11,7 @@ use Rattle.layout.specs.declared.Kind.{Kind}
 use Rattle.layout.specs.Answers.{judged}
 use Rattle.layout.specs.Fields.{known}
 use Rattle.layout.specs.Types.{kindOf, lineOf, fitting}
-use Rattle.intake.specs.Tallies.{Fits, headVerdict}
+use Rattle.intake.specs.inner.Tallies.{Fits, headVerdict}
 use Rattle.intake.proofs.Judges.{tupIn, identifiedIn, room, head-place, identifier-read, no-identifier}
 use Rattle.intake.proofs.judge_head.Statement.{statement}
 use Rattle.intake.proofs.judge_head.Tie as tie

@@ -2,7 +2,7 @@
 use Prim.Native.Nat.{_-_}
 use lib.ListN.{length}
 use borrow.Author.Needs.{needs}
-use Rattle.intake.specs.Tallies.{columns}
+use Rattle.intake.specs.inner.Tallies.{columns}
 use Rattle.intake.proofs.Runs.{Running, running-begin, running-there, running-again, running-less, running-done}
 use Rattle.intake.proofs.run.Statement.{statement}
 use Rattle.intake.proofs.run.Tie as tie

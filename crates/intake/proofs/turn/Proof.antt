@@ -6,7 +6,7 @@ use lib.ListN.{drop}
 use Rattle.layout.specs.declared.Verdict.the-variants.{Fine, Fault}
 use Rattle.frame.specs.Frames.{lenAt}
 use Rattle.frame.proofs.Places.{Whole, framing-whole}
-use Rattle.intake.specs.Tallies.{Columns, columns, Here}
+use Rattle.intake.specs.inner.Tallies.{Columns, columns, Here}
 use Rattle.intake.proofs.Said.{fault-first, fine-parts}
 use Rattle.intake.proofs.Judges.{whole}
 use Rattle.intake.proofs.Tallies.{said, stands-past, stands-ended, room-sounder, room-channel, turned-fault, turned-sounder, turned-channel, turned-end, turned-other}

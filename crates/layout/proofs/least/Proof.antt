@@ -2,7 +2,7 @@
 use mathlib.Core.Path.{_≡_, refl}
 use native.Mathlib.Omega.{arith}
 use borrow.Author.Needs.{needs}
-use Rattle.layout.specs.Codes.{leasts}
+use Rattle.layout.specs.inner.Codes.{leasts}
 use Rattle.layout.proofs.Lines.{arm, at-least}
 use Rattle.layout.proofs.least.Statement.{statement}
 use Rattle.layout.proofs.least.Tie as tie

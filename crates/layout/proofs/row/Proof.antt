@@ -3,7 +3,7 @@ use mathlib.Core.Path.{_≡_, refl}
 use mathlib.Core.List.{[]}
 use native.Mathlib.Omega.{arith}
 use borrow.Author.Needs.{needs}
-use Rattle.layout.specs.Codes.{rowCodes}
+use Rattle.layout.specs.inner.Codes.{rowCodes}
 use Rattle.layout.proofs.Lines.{arm, at-least}
 use Rattle.layout.proofs.row.Statement.{statement}
 use Rattle.layout.proofs.row.Tie as tie

@@ -2,7 +2,7 @@
 use mathlib.Core.Path.{_≡_, refl}
 use native.Mathlib.Omega.{arith}
 use borrow.Author.Needs.{needs}
-use Rattle.layout.specs.Codes.{steps}
+use Rattle.layout.specs.inner.Codes.{steps}
 use Rattle.layout.proofs.Lines.{arm, at-least}
 use Rattle.layout.proofs.step.Statement.{statement}
 use Rattle.layout.proofs.step.Tie as tie

@@ -10,7 +10,7 @@ use Rattle.layout.proofs.Verdicts.{both-left, both-right}
 use Rattle.frame.specs.Frames.{tupAt, framing}
 use Rattle.frame.specs.Files.{isMsb, marked}
 use Rattle.frame.proofs.Files.{marked-4}
-use Rattle.intake.specs.Tallies.{ownVerdict}
+use Rattle.intake.specs.inner.Tallies.{ownVerdict}
 use Rattle.normal.proofs.Singles.{single-limit, single-mark, single-fault, single-fine}
 use Rattle.normal.proofs.normalise_tuple.Statement.{statement}
 use Rattle.normal.proofs.normalise_tuple.Tie as tie

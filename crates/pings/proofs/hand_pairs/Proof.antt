@@ -1,7 +1,7 @@
 -- `pings::hand_pairs` meets its contract: as many pairs as their bytes hold. Assumes nothing.
 use borrow.Author.Needs.{needs}
 use Rattle.samples.specs.Words.{allWords, pairUp}
-use Rattle.samples.specs.Lists.{Room}
+use Rattle.samples.specs.inner.Lists.{Room}
 use Rattle.pings.proofs.Handing.{short-numbers, short-values, handed, length-pairs}
 use Rattle.pings.proofs.hand_pairs.Statement.{statement}
 use Rattle.pings.proofs.hand_pairs.Tie as tie

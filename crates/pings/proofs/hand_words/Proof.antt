@@ -2,7 +2,7 @@
 use borrow.Author.Needs.{needs}
 use Rattle.samples.specs.Words.{allWords}
 use Rattle.samples.specs.Runs.{radix, decode}
-use Rattle.samples.specs.Lists.{Room}
+use Rattle.samples.specs.inner.Lists.{Room}
 use Rattle.pings.proofs.Handing.{short-numbers, short-values, handed}
 use Rattle.pings.proofs.hand_words.Statement.{statement}
 use Rattle.pings.proofs.hand_words.Tie as tie

@@ -9,7 +9,8 @@ use lib.ListN.{length}
 use lib.Seq.{sets}
 use mir.Syntax.{w32}
 use mir.Facts.{toZ-ofZ}
-use Rattle.samples.specs.Lists.{paired, numbered}
+use Rattle.samples.specs.Lists.{paired}
+use Rattle.samples.specs.inner.Lists.{numbered}
 use Rattle.samples.specs.Runs.{radix, fewest}
 use Rattle.samples.proofs.Rising.{drop-most}
 use Rattle.samples.proofs.Apart.{count-numbered, length-numbered}

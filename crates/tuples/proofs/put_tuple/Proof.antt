@@ -12,9 +12,9 @@ use lib.Seq.{take-length}
 use Rattle.order.specs.Order.{patternOf}
 use Rattle.layout.specs.Fields.{size}
 use Rattle.layout.specs.Types.{shapeOf, placeIn}
-use Rattle.layout.specs.Codes.{fieldsOf, rowCodes}
+use Rattle.layout.specs.inner.Codes.{fieldsOf, rowCodes}
 use Rattle.layout.proofs.Tables.{fieldsIn}
-use Rattle.turning.specs.Rows.{textFits}
+use Rattle.turning.specs.inner.Codes.{textFits}
 use Rattle.tuples.proofs.Writing.{row-listed, row-there, sizes, put}
 use Rattle.tuples.proofs.put_tuple.Statement.{statement}
 use Rattle.tuples.proofs.put_tuple.Tie as tie

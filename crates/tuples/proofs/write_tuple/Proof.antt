@@ -10,7 +10,8 @@ use lib.Seq.{sets}
 use Prim.Native.Nat.{ℕ}
 use Rattle.order.specs.Order.{patternOf}
 use Rattle.layout.specs.Types.{shapeOf}
-use Rattle.tuples.specs.Writers.{plainBytes, handedValues}
+use Rattle.tuples.specs.Writers.{plainBytes}
+use Rattle.tuples.specs.inner.Framing.{handedValues}
 use Rattle.tuples.proofs.Writing.{length-plain, no-room, with-room}
 use Rattle.tuples.proofs.write_tuple.Statement.{statement}
 use Rattle.tuples.proofs.write_tuple.Tie as tie

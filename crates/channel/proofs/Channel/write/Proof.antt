@@ -14,7 +14,8 @@ use lib.ListN.{length}
 use Rattle.order.specs.Order.{patternOf}
 use Rattle.layout.specs.declared.Answer.the-variants.{Refused}
 use Rattle.layout.specs.Types.{classes, inClass, kindOf, lineOf, shapeOf}
-use Rattle.tuples.specs.Writers.{plainBytes, handedValues}
+use Rattle.tuples.specs.Writers.{plainBytes}
+use Rattle.tuples.specs.inner.Framing.{handedValues}
 use Rattle.tuples.proofs.Writing.{as-values, refused-first, written-past}
 use Rattle.channel.specs.Channel.{channelValues}
 use Rattle.channel.proofs.Channel.write.Statement.{statement}

@@ -13,7 +13,8 @@ use Rattle.layout.specs.declared.Answer.the-variants.{Refused}
 use Rattle.layout.specs.Types.{classes, inClass, kindOf, lineOf, shapeOf, lengthsOf, fitting}
 use Rattle.frame.specs.Frames.{Tup, lengthOf}
 use Rattle.content.specs.Forms.{plainTuple}
-use Rattle.tuples.specs.Writers.{plainBytes, tooLong, handedValues}
+use Rattle.tuples.specs.Writers.{plainBytes, tooLong}
+use Rattle.tuples.specs.inner.Framing.{handedValues}
 use Rattle.tuples.proofs.Writing.{as-values, refused-first, written-past}
 use Rattle.event.specs.Event.{eventValues}
 use Rattle.event.proofs.Texts.{short, uneven, even, over, within}

@@ -4,7 +4,7 @@ use Prim.Native.Nat.{_+_, _-_, _≤_}
 use native.Mathlib.Omega.{arith}
 use borrow.Author.Needs.{needs}
 use lib.ListN.{length, drop}
-use Rattle.hexlines.specs.Reading.{lineLength}
+use Rattle.hexlines.specs.inner.Reading.{lineLength}
 use Rattle.hexlines.proofs.Lines.{ends-at, goes-past, ends-last}
 use Rattle.hexlines.proofs.lines_in.line_end.Statement.{statement}
 use Rattle.hexlines.proofs.lines_in.line_end.Tie as tie

@@ -13,7 +13,7 @@ use Rattle.frame.specs.Files.{mark}
 use Rattle.frame.specs.Tuples.{tuplesOf}
 use Rattle.hexlines.specs.Lines.{hex, line}
 use Rattle.hexlines.specs.Programs.{tupleLines}
-use Rattle.hexlines.specs.Printing.{Put}
+use Rattle.hexlines.specs.inner.Printing.{Put}
 use Rattle.hexlines.proofs.Stores.{put-same, put-then}
 use Rattle.hexlines.proofs.Printing.{mark-within, marked, length-fileLines, Printing, printing-begin, Turn, printing-turn, printing-done}
 use Rattle.hexlines.proofs.lines_out.print_form.Statement.{statement}

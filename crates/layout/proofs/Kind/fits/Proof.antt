@@ -5,7 +5,7 @@ use native.Mathlib.Omega.{arith}
 use borrow.Author.Needs.{needs}
 use lib.ListN.{getD}
 use Rattle.layout.specs.Types.{Length, fitting, lineOf, placeIn}
-use Rattle.layout.specs.Codes.{leasts, steps, lengthBy}
+use Rattle.layout.specs.inner.Codes.{leasts, steps, lengthBy}
 use Rattle.layout.proofs.Tables.{Said, tabled, fixed, short, long, any}
 use Rattle.layout.proofs.Kind.fits.Statement.{statement}
 use Rattle.layout.proofs.Kind.fits.Tie as tie

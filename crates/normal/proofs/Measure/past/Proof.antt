@@ -9,7 +9,7 @@ use Rattle.frame.specs.Frames.{lenAt, tupAt}
 use Rattle.frame.proofs.Places.{Whole, framing-whole}
 use Rattle.content.specs.Forms.{formBytes}
 use Rattle.normal.specs.Normaliser.{isUnlisted}
-use Rattle.normal.specs.Passes.{foundFirst}
+use Rattle.normal.specs.inner.Passes.{foundFirst}
 use Rattle.normal.proofs.Measure.past.Statement.{statement}
 use Rattle.normal.proofs.Measure.past.Tie as tie
 

@@ -8,7 +8,7 @@ use borrow.Author.Needs.{needs}
 use lib.Dec.{lit<}
 use lib.ListN.{length, drop}
 use Rattle.samples.specs.Words.{Sample}
-use Rattle.samples.specs.Lists.{numbered}
+use Rattle.samples.specs.inner.Lists.{numbered}
 use Rattle.samples.specs.Runs.{radix, gap, encodeFrom, fewest}
 use Rattle.samples.proofs.Runs.{encode-length}
 use Rattle.samples.proofs.Rising.{Rising, all-rising}

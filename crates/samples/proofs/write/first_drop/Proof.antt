@@ -6,7 +6,7 @@ use native.Mathlib.Omega.{arith}
 use borrow.Author.Needs.{needs}
 use borrow.Author.Tests.{lt-leb}
 use lib.ListN.{length, drop}
-use Rattle.samples.specs.Lists.{numbered}
+use Rattle.samples.specs.inner.Lists.{numbered}
 use Rattle.samples.specs.Judging.{firstDrop}
 use Rattle.samples.proofs.Rising.{drop-later, drop-here}
 use Rattle.samples.proofs.Apart.{numbered-next, numbered-end}

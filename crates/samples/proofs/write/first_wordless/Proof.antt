@@ -7,7 +7,7 @@ use native.Mathlib.Omega.{arith}
 use borrow.Author.Needs.{needs}
 use lib.IntN.{pos}
 use lib.ListN.{length, drop, getD}
-use Rattle.samples.specs.Lists.{valued}
+use Rattle.samples.specs.inner.Lists.{valued}
 use Rattle.samples.specs.Runs.{radix, isRun, isBad}
 use Rattle.samples.specs.Judging.{firstWordless}
 use Rattle.samples.proofs.Apart.{pattern-read, valued-next, valued-end, wordless-here, wordless-later}

@@ -7,7 +7,7 @@ use mir.Syntax.{w32}
 use mir.Facts.{toZ-ofZ}
 use Rattle.order.specs.Order.{patternOf}
 use Rattle.layout.specs.Types.{classes, inClass, kindOf, lineOf, shapeOf}
-use Rattle.tuples.specs.Writers.{handedValues}
+use Rattle.tuples.specs.inner.Framing.{handedValues}
 use Rattle.tuples.proofs.Writing.{as-values}
 use Rattle.threshold.proofs.Threshold.write.Statement.{statement}
 use Rattle.threshold.proofs.Threshold.write.Tie as tie

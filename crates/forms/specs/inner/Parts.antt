@@ -8,7 +8,7 @@ use lib.ListN.{getD}
 use Rattle.order.specs.Order.{bytesOf}
 use Rattle.layout.specs.Fields.{Field}
 use Rattle.layout.specs.Types.{row, shapeOf}
-use Rattle.layout.specs.Codes.{fieldsOf, rowCodes}
+use Rattle.layout.specs.inner.Codes.{fieldsOf, rowCodes}
 
 -- data size and type of a form of n bytes
 unfoldable pub frontBytes : ℕ → ℕ → List ℕ

@@ -25,12 +25,6 @@ abbrev pub counted : ℕ → Input → Decoded
 counted n (bad i) = Bad i
 counted n (bytes bs) = Bytes (n + length bs)
 
--- Characters enough to know the input by. A good line is at most three characters a byte, its line feed with them, so 65,536 bytes
--- take at most 196,608; whatever begins behind those, even by one character, is a bad line. One character fewer isn't enough: with
--- such a line cut off, its text would be good.
-abbrev pub enough : ℕ
-enough = 196609
-
 -- ---- the promise of the reader: its answer, and what it leaves in the lent bytes
 pub record Read (text bytes₀ : List ℕ) (r : Decoded) (left : List ℕ) : Type 0 where
   pub answer : r ≡ counted 0 (inputOf text)

@@ -19,7 +19,7 @@ use Rattle.layout.specs.Types.{kindOf, lineOf, fitting, inClass}
 use Rattle.layout.specs.Types
 use Rattle.frame.specs.Frames.{Tup, lenAt, kindAt, tupAt, framing}
 use Rattle.links.specs.Links.{Link, none, sounder, channel, names, signRules}
-use Rattle.links.specs.Tables.{soundersOf, channelsOf, placeIn, firstOff, sounderVerdict, channelVerdict, nameVerdict}
+use Rattle.links.specs.inner.Tables.{soundersOf, channelsOf, placeIn, firstOff, sounderVerdict, channelVerdict, nameVerdict}
 use Rattle.content.specs.Items.{headRules, innerRules, digest}
 use Rattle.intake.specs.declared.Asked.{Asked}
 use Rattle.intake.specs.declared.Asked.the-variants.{Parents, Refused}
