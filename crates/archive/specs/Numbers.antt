@@ -3,10 +3,11 @@ use mathlib.Core.List.{List, [], _∷_, _++_}
 use Prim.Native.Nat.{ℕ}
 use Rattle.order.specs.Order.{patternOf}
 use Rattle.layout.specs.declared.Answer.{Answer}
-use Rattle.layout.specs.declared.Answer.the-variants.{Accepted, Refused}
-use Rattle.layout.specs.Answers.{numbers}
+use Rattle.layout.specs.declared.Answer.the-variants.{Accepted}
+use Rattle.layout.specs.Answers.{Numbers, numbers}
 use Rattle.frame.specs.declared.Step.{Step}
 use Rattle.frame.specs.declared.Step.the-variants as step
+use Rattle.frame.specs.Steps.{stepNumbers}
 use Rattle.tuples.specs.declared.Part.{Part}
 use Rattle.tuples.specs.Writers.{numbersIn}
 use Rattle.pings.specs.declared.PingKind.{PingKind}
@@ -14,23 +15,34 @@ use Rattle.pings.specs.declared.PingKind.the-variants.{U32, C32}
 use Rattle.pings.specs.declared.PingRead.{PingRead}
 use Rattle.pings.specs.declared.PingRead.the-variants as ping
 use Rattle.pings.specs.Headers.{headOf}
+use Rattle.pings.specs.Fields.{answerOf}
 use Rattle.intake.specs.declared.Asked.{Asked}
 use Rattle.intake.specs.declared.Asked.the-variants as asked
+use Rattle.intake.specs.Asking.{askedNumbers}
 
--- an answer by 01's four: code, place, tuples, length; fields stand behind them
+-- 01's four numbers, in its order: code, place, tuples, length; fields stand behind them
+abbrev pub fourOf : Numbers → List ℕ
+fourOf n = n .code ∷ n .place ∷ n .tuples ∷ n .length ∷ []
+
 abbrev pub four : Answer → List ℕ
-four a = let n = numbers a in n .code ∷ n .place ∷ n .tuples ∷ n .length ∷ []
+four a = fourOf (numbers a)
 
--- a step: one tuple with its place, length, type and the next place; the end; or a refusal
+-- a step: of a tuple its place, length, type and the next place
+abbrev pub stepFields : Step → List ℕ
+stepFields (step.Tuple at n k next) = at ∷ n ∷ k ∷ next .at ∷ []
+stepFields step.End = []
+stepFields (step.Refused c p) = []
+
 abbrev pub stepTold : Step → List ℕ
-stepTold (step.Tuple at n k next) = four (Accepted 1 0) ++ (at ∷ n ∷ k ∷ next .at ∷ [])
-stepTold step.End = four (Accepted 0 0)
-stepTold (step.Refused c p) = four (Refused c p)
+stepTold s = fourOf (stepNumbers s) ++ stepFields s
 
--- a ping's channel and sounder: the identifiers and the places of both tuples, with the file's tuples
+-- a ping's channel and sounder: the identifiers and the places of both tuples
+abbrev pub askedFields : Asked → List ℕ
+askedFields (asked.Parents c cp d dp n) = c .0 ∷ cp ∷ d .0 ∷ dp ∷ []
+askedFields (asked.Refused c p) = []
+
 abbrev pub askedTold : Asked → List ℕ
-askedTold (asked.Parents c cp d dp n) = four (Accepted n 0) ++ (c .0 ∷ cp ∷ d .0 ∷ dp ∷ [])
-askedTold (asked.Refused c p) = four (Refused c p)
+askedTold s = fourOf (askedNumbers s) ++ askedFields s
 
 -- ---- a record that was read: one tuple, then the numbers of its row in order, the attribute last
 abbrev pub recordTold : List ℕ → List ℕ
@@ -45,6 +57,9 @@ abbrev pub kindTold : PingKind → ℕ
 kindTold U32 = 0
 kindTold C32 = 1
 
+abbrev pub pingFields : PingRead → List ℕ
+pingFields (ping.Read h a k n) = numbersIn (headOf h) ++ (patternOf 4 a ∷ kindTold k ∷ []) ++ (n ∷ [])
+pingFields (ping.Refused c p) = []
+
 abbrev pub pingTold : PingRead → List ℕ
-pingTold (ping.Read h a k n) = recordTold (numbersIn (headOf h) ++ (patternOf 4 a ∷ kindTold k ∷ [])) ++ (n ∷ [])
-pingTold (ping.Refused c p) = four (Refused c p)
+pingTold s = four (answerOf s) ++ pingFields s

@@ -7,6 +7,7 @@ use Rattle.order.specs.Order.{signedOf, patternOf}
 use Rattle.layout.specs.declared.Answer.{Answer}
 use Rattle.layout.specs.declared.Answer.the-variants.{Accepted}
 use Rattle.layout.specs.declared.Answer.the-variants as answer
+use Rattle.layout.specs.Answers.{numbers, Tells}
 use Rattle.turning.specs.Rows.{Value, number}
 use Rattle.content.specs.Items.{numberAt}
 use Rattle.tuples.specs.Readers.{only, readAnswer, readValues}
@@ -56,7 +57,7 @@ answered (Accepted n m) r = Read r
 answered (answer.Refused c p) r = Refused c p
 
 pub record AttitudeAt (f : List ℕ) (p : ℕ) (r : AttitudeRead) : Type 0 where
-  pub answer : answerOf r ≡ readAnswer (only 40) f p
+  pub answer : Tells numbers (answerOf r) (readAnswer (only 40) f p)
   pub outcome : r ≡ answered (readAnswer (only 40) f p) (attitudeOf (readValues f p))
 
 pub attitude-settled : {f : List ℕ} {p : ℕ} {r t : AttitudeRead} → AttitudeAt f p r → AttitudeAt f p t → r ≡ t

@@ -7,6 +7,7 @@ use Rattle.order.specs.Order.{signedOf, patternOf}
 use Rattle.layout.specs.declared.Answer.{Answer}
 use Rattle.layout.specs.declared.Answer.the-variants.{Accepted}
 use Rattle.layout.specs.declared.Answer.the-variants as answer
+use Rattle.layout.specs.Answers.{numbers, Tells}
 use Rattle.turning.specs.Rows.{Value, number, text}
 use Rattle.content.specs.Items.{numberAt}
 use Rattle.tuples.specs.Readers.{only, readAnswer, readValues}
@@ -88,7 +89,7 @@ answered (Accepted n m) r t = Read r t
 answered (answer.Refused c p) r t = Refused c p
 
 pub record ChannelAt (f : List ℕ) (p : ℕ) (r : ChannelRead) : Type 0 where
-  pub answer : answerOf r ≡ readAnswer (only 1000) f p
+  pub answer : Tells numbers (answerOf r) (readAnswer (only 1000) f p)
   pub outcome : r ≡ answered (readAnswer (only 1000) f p) (channelOf (readValues f p)) (record { place = p + 68; length = 30 })
 
 pub channel-settled : {f : List ℕ} {p : ℕ} {r t : ChannelRead} → ChannelAt f p r → ChannelAt f p t → r ≡ t

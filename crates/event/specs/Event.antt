@@ -8,6 +8,7 @@ use Rattle.order.specs.Order.{signedOf, patternOf}
 use Rattle.layout.specs.declared.Answer.{Answer}
 use Rattle.layout.specs.declared.Answer.the-variants.{Accepted}
 use Rattle.layout.specs.declared.Answer.the-variants as answer
+use Rattle.layout.specs.Answers.{numbers, Tells}
 use Rattle.turning.specs.Rows.{Value, number, text}
 use Rattle.content.specs.Items.{numberAt}
 use Rattle.tuples.specs.Readers.{only, readAnswer, readValues}
@@ -47,7 +48,7 @@ answered (Accepted n m) r t = Read r t
 answered (answer.Refused c p) r t = Refused c p
 
 pub record EventAt (f : List ℕ) (p : ℕ) (r : EventRead) : Type 0 where
-  pub answer : answerOf r ≡ readAnswer (only 10110) f p
+  pub answer : Tells numbers (answerOf r) (readAnswer (only 10110) f p)
   pub outcome : r ≡ answered (readAnswer (only 10110) f p) (eventOf (readValues f p)) (record { place = p + 12; length = length (textAt (readValues f p) 2) })
 
 pub event-settled : {f : List ℕ} {p : ℕ} {r t : EventRead} → EventAt f p r → EventAt f p t → r ≡ t

@@ -8,6 +8,7 @@ use Rattle.order.specs.Order.{signedOf, patternOf}
 use Rattle.layout.specs.declared.Answer.{Answer}
 use Rattle.layout.specs.declared.Answer.the-variants.{Accepted}
 use Rattle.layout.specs.declared.Answer.the-variants as answer
+use Rattle.layout.specs.Answers.{numbers, Tells}
 use Rattle.turning.specs.Rows.{Value, number}
 use Rattle.content.specs.Items.{numberAt}
 use Rattle.tuples.specs.Readers.{only, readAnswer, readValues}
@@ -48,7 +49,7 @@ answered (Accepted n m) r t = Read r t
 answered (answer.Refused c p) r t = Refused c p
 
 pub record FileEndAt (f : List ℕ) (p : ℕ) (r : FileEndRead) : Type 0 where
-  pub answer : answerOf r ≡ readAnswer (only 65534) f p
+  pub answer : Tells numbers (answerOf r) (readAnswer (only 65534) f p)
   pub outcome : r ≡ answered (readAnswer (only 65534) f p) (fileEndOf (readValues f p)) (record { place = p + 14; length = length (textAt (readValues f p) 3) })
 
 pub file-end-settled : {f : List ℕ} {p : ℕ} {r t : FileEndRead} → FileEndAt f p r → FileEndAt f p t → r ≡ t

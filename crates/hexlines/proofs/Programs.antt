@@ -83,15 +83,15 @@ answered form lent left ts (Accepted n m) h w e =
 module _ (f lent left : List ℕ) (b : Bytes f) (h : length lent ≡ room) (r : Answer) where
   pub file-answered : Normalised f lent r left → Answered (fileProgram (bytes f)) r left
   file-answered n =
-      let e : r ≡ normalAnswer f room = n .answer ∙ ap (normalAnswer f) h in
+      let e : r ≡ normalAnswer f room = n .answer .is ∙ ap (normalAnswer f) h in
       subst (λ (a : Answer). Answered (printed (normalTuples (contentOf f)) a) r left) e
-      (answered (normalOf f) lent left (normalTuples (contentOf f)) r h (λ n m q. file-written f b room n m (sym e ∙ q)) (n .memory ∙ ap (λ (a : Answer). leftBy a (normalOf f) lent) (sym (n .answer))))
+      (answered (normalOf f) lent left (normalTuples (contentOf f)) r h (λ n m q. file-written f b room n m (sym e ∙ q)) (n .memory ∙ ap (λ (a : Answer). leftBy a (normalOf f) lent) (sym (n .answer .is))))
 
   pub tuple-answered : NormalisedTuple f lent r left → Answered (tupleProgram (bytes f)) r left
   tuple-answered n =
-      let e : r ≡ singleAnswer f room = n .answer ∙ ap (singleAnswer f) h in
+      let e : r ≡ singleAnswer f room = n .answer .is ∙ ap (singleAnswer f) h in
       subst (λ (a : Answer). Answered (printed (singleTuples f) a) r left) e
-      (answered (singleForm f) lent left (singleTuples f) r h (λ n m q. tuple-written f b room n m (sym e ∙ q)) (n .memory ∙ ap (λ (a : Answer). leftBy a (singleForm f) lent) (sym (n .answer))))
+      (answered (singleForm f) lent left (singleTuples f) r h (λ n m q. tuple-written f b room n m (sym e ∙ q)) (n .memory ∙ ap (λ (a : Answer). leftBy a (singleForm f) lent) (sym (n .answer .is))))
 
 -- ---- what is printed of the input is what is printed of the text
 prints : {out says whole left : List ℕ} {r : ℕ} → says ≡ whole → Put out 0 says r left → Prints whole out r left

@@ -7,6 +7,7 @@ use Rattle.order.specs.Order.{signedOf, patternOf}
 use Rattle.layout.specs.declared.Answer.{Answer}
 use Rattle.layout.specs.declared.Answer.the-variants.{Accepted}
 use Rattle.layout.specs.declared.Answer.the-variants as answer
+use Rattle.layout.specs.Answers.{numbers, Tells}
 use Rattle.turning.specs.Rows.{Value, number}
 use Rattle.content.specs.Items.{numberAt}
 use Rattle.tuples.specs.Readers.{only, readAnswer, readValues}
@@ -48,7 +49,7 @@ answered (Accepted n m) r = Read r
 answered (answer.Refused c p) r = Refused c p
 
 pub record NavigationAt (f : List ℕ) (p : ℕ) (r : NavigationRead) : Type 0 where
-  pub answer : answerOf r ≡ readAnswer (only 30) f p
+  pub answer : Tells numbers (answerOf r) (readAnswer (only 30) f p)
   pub outcome : r ≡ answered (readAnswer (only 30) f p) (navigationOf (readValues f p))
 
 pub navigation-settled : {f : List ℕ} {p : ℕ} {r t : NavigationRead} → NavigationAt f p r → NavigationAt f p t → r ≡ t

@@ -8,7 +8,7 @@ use lib.ListN.{length}
 use Rattle.rules.specs.Rules.{Rule, _⇒_, firstOf}
 use Rattle.layout.specs.declared.Answer.{Answer}
 use Rattle.layout.specs.declared.Answer.the-variants.{Accepted, Refused}
-use Rattle.layout.specs.Answers.{leftBy}
+use Rattle.layout.specs.Answers.{numbers, Tells, leftBy}
 use Rattle.layout.specs.Types.{Shape, indexed, row, pairs, words, unlisted, shapeOf}
 use Rattle.frame.specs.Frames.{Tup, lengthOf}
 use Rattle.frame.specs.Files.{limit, isMsb}
@@ -49,8 +49,8 @@ normalAnswer f room = behindCheck f room (checkFile f)
 
 -- ---- the promise of the normaliser, and that it settles answer and memory
 pub record Normalised (f out : List ℕ) (r : Answer) (left : List ℕ) : Type 0 where
-  pub answer : r ≡ normalAnswer f (length out)
+  pub answer : Tells numbers r (normalAnswer f (length out))
   pub memory : left ≡ leftBy (normalAnswer f (length out)) (normalOf f) out
 
 pub normalised-settled : {f out : List ℕ} {r s : Answer} {left kept : List ℕ} → Normalised f out r left → Normalised f out s kept → (r ≡ s) × (left ≡ kept)
-normalised-settled p q = (p .answer ∙ sym (q .answer), p .memory ∙ sym (q .memory))
+normalised-settled p q = (p .answer .is ∙ sym (q .answer .is), p .memory ∙ sym (q .memory))

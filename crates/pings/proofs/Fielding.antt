@@ -8,6 +8,7 @@ use native.Mathlib.Omega.{arith}
 use lib.IntN.{ℤ}
 use lib.ListN.{length, take, drop, length-drop}
 use lib.Seq.{length-take-le}
+use Rattle.layout.specs.Answers.{tells}
 use Rattle.order.specs.Order.{numOf, signedOf}
 use Rattle.layout.specs.declared.Answer.{Answer}
 use Rattle.layout.specs.Types.{classes, inClass, kindOf, lineOf, pingRow}
@@ -93,6 +94,6 @@ module _ {f : List ℕ} {p n k : ℕ} {o : Bool} (s : SoundPing f p o n k) where
   unfolding pingFields
   read-fields r e =
       record {
-        answer = ap answerOf e ∙ s .answer;
+        answer = tells (ap answerOf e ∙ s .answer);
         outcome = e ∙ ap (λ (x : Answer). answered x (pingFields f p)) (s .answer);
       }

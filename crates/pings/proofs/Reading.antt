@@ -15,7 +15,7 @@ use Rattle.layout.specs.declared.Answer.{Answer}
 use Rattle.layout.specs.declared.Answer.the-variants.{Accepted, Refused}
 use Rattle.layout.specs.declared.Verdict.the-variants.{Fine}
 use Rattle.layout.specs.Types.{classes, inClass, kindOf}
-use Rattle.layout.specs.Answers.{both}
+use Rattle.layout.specs.Answers.{both, tells}
 use Rattle.layout.proofs.Verdicts.{both-left, both-right, passes}
 use Rattle.frame.specs.Files.{isMsb}
 use Rattle.samples.specs.Words.{allWords, pairUp}
@@ -37,11 +37,11 @@ use Rattle.pings.proofs.Handing.{length-pairs}
 module _ {f : List ℕ} {p : ℕ} (ns : List ℕ) (vs : List ℤ) where
   pub refused : (c q : ℕ) → Refused c q ≡ readAnswer isPing f p → SamplesRead f p ns vs (Refused c q) ns vs
   unfolding sampleAnswer
-  refused c q e = record { answer = rw (← e); numbersLeft = rw (← e); valuesLeft = rw (← e) }
+  refused c q e = record { answer = rw (← e) (tells refl); numbersLeft = rw (← e); valuesLeft = rw (← e) }
 
   pub read : Accepted 1 0 ≡ readAnswer isPing f p → {r : Answer} {ms : List ℕ} {us : List ℤ} → Handed (samplesAt f p) ns vs r ms us → SamplesRead f p ns vs r ms us
   unfolding sampleAnswer
-  read e h = record { answer = rw (← e) (h .answer); numbersLeft = rw (← e) (h .numbersLeft); valuesLeft = rw (← e) (h .valuesLeft) }
+  read e h = record { answer = rw (← e) (tells (h .answer)); numbersLeft = rw (← e) (h .numbersLeft); valuesLeft = rw (← e) (h .valuesLeft) }
 
 -- ---- a sound ping's samples, by their places
 module _ {f : List ℕ} {p n k : ℕ} {o : Bool} (s : SoundPing f p o n k) where

@@ -10,6 +10,7 @@ use Rattle.order.specs.Order.{signedOf}
 use Rattle.layout.specs.declared.Answer.{Answer}
 use Rattle.layout.specs.declared.Answer.the-variants.{Accepted}
 use Rattle.layout.specs.declared.Answer.the-variants as answer
+use Rattle.layout.specs.Answers.{numbers, Tells}
 use Rattle.turning.specs.Rows.{Value}
 use Rattle.content.specs.Pings.{Ping}
 use Rattle.content.specs.Items.{Item, plain, ping, raw, numberAt}
@@ -59,7 +60,7 @@ answered (Accepted n m) r = r
 answered (answer.Refused c p) r = Refused c p
 
 pub record PingAt (f : List ℕ) (p : ℕ) (r : PingRead) : Type 0 where
-  pub answer : answerOf r ≡ readAnswer isPing f p
+  pub answer : Tells numbers (answerOf r) (readAnswer isPing f p)
   pub outcome : r ≡ answered (readAnswer isPing f p) (pingFields f p)
 
 pub ping-settled : {f : List ℕ} {p : ℕ} {r t : PingRead} → PingAt f p r → PingAt f p t → r ≡ t

@@ -10,7 +10,8 @@ use lib.ListN.{length}
 use Rattle.rules.specs.Rules.{_⇒_, firstOf}
 use Rattle.layout.specs.declared.Answer.{Answer}
 use Rattle.layout.specs.declared.Answer.the-variants.{Accepted, Refused}
-use Rattle.layout.specs.Answers.{leftBy}
+use Rattle.layout.specs.Answers.{Tells, leftBy}
+use Rattle.layout.specs.Answers
 use Rattle.samples.specs.Words.{Sample}
 use Rattle.samples.specs.Lists.{numbersOf, valuesOf}
 use Rattle.content.specs.Items.{Item, plain, ping, raw}
@@ -40,10 +41,10 @@ sampleAnswer f p numbers values = behindRead (length (samplesAt f p)) numbers va
 
 -- ---- the promises, and that they settle answer and memory
 pub record SamplesRead (f : List ℕ) (p : ℕ) (numbers : List ℕ) (values : List ℤ) (r : Answer) (ns : List ℕ) (vs : List ℤ) : Type 0 where
-  pub answer : r ≡ sampleAnswer f p (length numbers) (length values)
+  pub answer : Tells Answers.numbers r (sampleAnswer f p (length numbers) (length values))
   pub numbersLeft : ns ≡ leftBy (sampleAnswer f p (length numbers) (length values)) (numbersOf (samplesAt f p)) numbers
   pub valuesLeft : vs ≡ leftBy (sampleAnswer f p (length numbers) (length values)) (valuesOf (samplesAt f p)) values
 
 pub samples-settled : {f : List ℕ} {p : ℕ} {numbers : List ℕ} {values : List ℤ} {r s : Answer} {ns ms : List ℕ} {vs us : List ℤ}
     → SamplesRead f p numbers values r ns vs → SamplesRead f p numbers values s ms us → (r ≡ s) × (ns ≡ ms) × (vs ≡ us)
-samples-settled a b = (a .answer ∙ sym (b .answer), a .numbersLeft ∙ sym (b .numbersLeft), a .valuesLeft ∙ sym (b .valuesLeft))
+samples-settled a b = (a .answer .is ∙ sym (b .answer .is), a .numbersLeft ∙ sym (b .numbersLeft), a .valuesLeft ∙ sym (b .valuesLeft))

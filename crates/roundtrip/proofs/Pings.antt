@@ -175,7 +175,7 @@ module _ {h : PingHeader} {a : ℤ} {ns : List ℕ} {vs : List ℤ} (g : PingTyp
         ap (λ (i : ℕ). handAnswer i (length numbers) (length values)) many ∙ rw (le-ltb (length numbers) (length ns) m, le-ltb (length values) (length ns) n) in
         let is : sampleAnswer f p (length numbers) (length values) ≡ Accepted 1 (length ns) =
         ap₂ (λ (x : List Sample) (y : Answer). behindRead (length x) (length numbers) (length values) y) says-samples says-answer ∙ room in (
-          e .answer ∙ is,
+          e .answer .is ∙ is,
           e .numbersLeft ∙ ap₂ (λ (y : Answer) (x : List Sample). leftBy y (numbersOf x) numbers) is says-samples ∙ ap (λ (x : List ℕ). x ++ drop (length x) numbers) (numbers-paired ns vs (l .equal)),
           e .valuesLeft ∙ ap₂ (λ (y : Answer) (x : List Sample). leftBy y (valuesOf x) values) is says-samples ∙ ap (λ (x : List ℤ). x ++ drop (length x) values) (values-paired ns vs (l .equal) (g .values))
               ∙ ap (λ (i : ℕ). vs ++ drop i values) (l .equal),

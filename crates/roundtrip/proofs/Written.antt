@@ -35,7 +35,7 @@ allRules rs bytes out = rs ++ ((ltb (length out) (length bytes) ⇒ Refused 19 0
 -- a writer whose rules all refuse, and that accepts
 module _ {rs : List (Rule Answer)} {bytes out left : List ℕ} {n m : ℕ} (q : Silent accepts (allRules rs bytes out)) (w : Written rs bytes out (Accepted n m) left) where
   cleared : AllPass (allRules rs bytes out) × (Accepted 1 (length bytes) ≡ Accepted n m)
-  cleared = clear accepts (allRules rs bytes out) (Accepted 1 (length bytes)) (Accepted n m) q (sym (w .answer)) refl
+  cleared = clear accepts (allRules rs bytes out) (Accepted 1 (length bytes)) (Accepted n m) q (sym (w .answer .is)) refl
 
   pub written-kept : AllPass (allRules rs bytes out)
   written-kept = cleared .0
@@ -43,7 +43,7 @@ module _ {rs : List (Rule Answer)} {bytes out left : List ℕ} {n m : ℕ} (q : 
   pub written-bytes : take m left ≡ bytes
   written-bytes =
       let long : length bytes ≡ m = cc (cleared .1) in
-      ap (take m) (w .memory ∙ ap (λ (a : Answer). leftBy a bytes out) (sym (w .answer))) ∙ take-at bytes (drop (length bytes) out) m long
+      ap (take m) (w .memory ∙ ap (λ (a : Answer). leftBy a bytes out) (sym (w .answer .is))) ∙ take-at bytes (drop (length bytes) out) m long
 
   pub written-held : {f : List ℕ} {p : ℕ} {o : Bool} → Holds f p o (take m left) → Holds f p o bytes
   written-held {f} {p} {o} h = subst (λ (l : List ℕ). Holds f p o l) written-bytes h

@@ -7,6 +7,7 @@ use Rattle.order.specs.Order.{signedOf, patternOf}
 use Rattle.layout.specs.declared.Answer.{Answer}
 use Rattle.layout.specs.declared.Answer.the-variants.{Accepted}
 use Rattle.layout.specs.declared.Answer.the-variants as answer
+use Rattle.layout.specs.Answers.{numbers, Tells}
 use Rattle.turning.specs.Rows.{Value, number, text}
 use Rattle.content.specs.Items.{numberAt}
 use Rattle.tuples.specs.Readers.{only, readAnswer, readValues}
@@ -64,7 +65,7 @@ answered (Accepted n m) r t = Read r t
 answered (answer.Refused c p) r t = Refused c p
 
 pub record SounderAt (f : List ℕ) (p : ℕ) (r : SounderRead) : Type 0 where
-  pub answer : answerOf r ≡ readAnswer (only 100) f p
+  pub answer : Tells numbers (answerOf r) (readAnswer (only 100) f p)
   pub outcome : r ≡ answered (readAnswer (only 100) f p) (sounderOf (readValues f p)) (record { place = p + 32; length = 30 })
 
 pub sounder-settled : {f : List ℕ} {p : ℕ} {r t : SounderRead} → SounderAt f p r → SounderAt f p t → r ≡ t

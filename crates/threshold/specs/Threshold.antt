@@ -7,6 +7,7 @@ use Rattle.order.specs.Order.{signedOf, patternOf}
 use Rattle.layout.specs.declared.Answer.{Answer}
 use Rattle.layout.specs.declared.Answer.the-variants.{Accepted}
 use Rattle.layout.specs.declared.Answer.the-variants as answer
+use Rattle.layout.specs.Answers.{numbers, Tells}
 use Rattle.turning.specs.Rows.{Value, number}
 use Rattle.content.specs.Items.{numberAt}
 use Rattle.tuples.specs.Readers.{only, readAnswer, readValues}
@@ -60,7 +61,7 @@ answered (Accepted n m) r = Read r
 answered (answer.Refused c p) r = Refused c p
 
 pub record ThresholdAt (f : List ℕ) (p : ℕ) (r : ThresholdRead) : Type 0 where
-  pub answer : answerOf r ≡ readAnswer (only 10100) f p
+  pub answer : Tells numbers (answerOf r) (readAnswer (only 10100) f p)
   pub outcome : r ≡ answered (readAnswer (only 10100) f p) (thresholdOf (readValues f p))
 
 pub threshold-settled : {f : List ℕ} {p : ℕ} {r t : ThresholdRead} → ThresholdAt f p r → ThresholdAt f p t → r ≡ t

@@ -8,6 +8,7 @@ use native.Mathlib.Omega.{arith}
 use borrow.Author.Tests.{lt-ltb, le-ltb}
 use lib.ListN.{length, drop, getD, length-append}
 use lib.Seq.{sets, sets-eq}
+use Rattle.layout.specs.Answers.{tells}
 use Rattle.rules.specs.Rules.{Rule, _⇒_}
 use Rattle.rules.specs.Rules.First.{none, here, pass}
 use Rattle.rules.proofs.Laws.{first-eq}
@@ -33,12 +34,12 @@ use Rattle.tuples.proofs.Storing.{in-four, length-open}
 -- ---- any writer, by its answer
 module _ (rs : List (Rule Answer)) (bytes out : List ℕ) where
   pub unwritten : (c q : ℕ) → Refused c q ≡ writeAnswer rs bytes (length out) → Written rs bytes out (Refused c q) out
-  unwritten c q e = record { answer = e; memory = rw (← e) }
+  unwritten c q e = record { answer = tells e; memory = rw (← e) }
 
   pub all-written : (n : ℕ) (left : List ℕ) → length bytes ≡ n → n ≤ length out → Accepted 1 n ≡ writeAnswer rs bytes (length out) → left ≡ sets out 0 bytes → Written rs bytes out (Accepted 1 n) left
   all-written n left l h e s =
       let z : 0 + length bytes ≡ length bytes = omega arith in
-      record { answer = e; memory = rw (← e) (s ∙ sets-eq bytes out 0 (omega arith) ∙ ap (λ (k : ℕ). bytes ++ drop k out) z) }
+      record { answer = tells e; memory = rw (← e) (s ∙ sets-eq bytes out 0 (omega arith) ∙ ap (λ (k : ℕ). bytes ++ drop k out) z) }
 
 -- a first rule that is broken, and one that isn't
 pub refused-first : (b : Bool) (c q : ℕ) (rs : List (Rule Answer)) (bytes out : List ℕ) → b ≡ true → Written ((b ⇒ Refused c q) ∷ rs) bytes out (Refused c q) out

@@ -8,7 +8,7 @@ use lib.ListN.{length}
 use Rattle.rules.specs.Rules.{Rule, _⇒_, firstOf}
 use Rattle.layout.specs.declared.Answer.{Answer}
 use Rattle.layout.specs.declared.Answer.the-variants.{Accepted, Refused}
-use Rattle.layout.specs.Answers.{leftBy}
+use Rattle.layout.specs.Answers.{numbers, Tells, leftBy}
 use Rattle.layout.specs.Types.{fitting, lengthsOf}
 use Rattle.frame.specs.Frames.{Tup, lengthOf, frame}
 use Rattle.turning.specs.Rows.{Value, number, text}
@@ -20,12 +20,12 @@ writeAnswer rs bytes room = firstOf (rs ++ ((ltb room (length bytes) ⇒ Refused
 
 -- the promise of a writer with these rules and these bytes, and that it settles answer and memory
 pub record Written (rs : List (Rule Answer)) (bytes out : List ℕ) (r : Answer) (left : List ℕ) : Type 0 where
-  pub answer : r ≡ writeAnswer rs bytes (length out)
+  pub answer : Tells numbers r (writeAnswer rs bytes (length out))
   pub memory : left ≡ leftBy (writeAnswer rs bytes (length out)) bytes out
 
 pub written-settled : {rs : List (Rule Answer)} {bytes out : List ℕ} {r s : Answer} {left kept : List ℕ}
     → Written rs bytes out r left → Written rs bytes out s kept → (r ≡ s) × (left ≡ kept)
-written-settled p q = (p .answer ∙ sym (q .answer), p .memory ∙ sym (q .memory))
+written-settled p q = (p .answer .is ∙ sym (q .answer .is), p .memory ∙ sym (q .memory))
 
 -- writer's tuple over 262,144
 abbrev pub tooLong : Tup → Rule Answer

@@ -4,6 +4,7 @@ use mathlib.Core.Bool.{true}
 use borrow.Author.Needs.{needs}
 use borrow.Author.Tests.{not-true, not-false}
 use lib.ListN.{length}
+use Rattle.layout.specs.Answers.{tells}
 use Rattle.frame.specs.Files.{marked}
 use Rattle.frame.proofs.Files.{marked-4}
 use Rattle.intake.specs.Check.{begin, checkFrom, checkFile}
@@ -17,10 +18,10 @@ marks : (c : tie.Else2) → marked (c .before .before .before .before .args .fil
 marks c = sym (c .before .is-marked .ensures) ∙ not-false _ (c .if2 .left)
 
 returns : tie.Need-returns
-returns c = c .refuse .ensures ∙ over-limit _ (c .before .if1 .taken)
+returns c = tells (c .refuse .ensures ∙ over-limit _ (c .before .if1 .taken))
 
 returns-2 : tie.Need-returns-2
-returns-2 c = c .refuse2 .ensures ∙ no-mark _ (c .before .before .before .if1 .left) (sym (c .before .before .is-marked .ensures) ∙ not-true _ (c .before .if2 .taken))
+returns-2 c = tells (c .refuse2 .ensures ∙ no-mark _ (c .before .before .before .if1 .left) (sym (c .before .before .is-marked .ensures) ∙ not-true _ (c .before .if2 .taken)))
 
 is-msb-requires : tie.Need-is-msb-requires
 is-msb-requires c κs = marked-4 (c .before .before .before .before .args .file .now) (marks c)
@@ -34,10 +35,10 @@ whole : (c : tie.After-is-msb) → let f = c .before .before .before .before .be
 whole c = whole-check _ _ (c .before .before .before .if1 .left) (marks (c .before)) (c .is-msb .ensures)
 
 returns-3 : tie.Need-returns-3
-returns-3 c = c .refuse3 .ensures ∙ no-end _ _ _ _ (ran-to _ _ _ _ _ _ (c .before .before .before .run .ensures) (c .before .enum-told .given .1)) ∙ whole (c .before .before .before .before .before .before .before .before .before .before)
+returns-3 c = tells (c .refuse3 .ensures ∙ no-end _ _ _ _ (ran-to _ _ _ _ _ _ (c .before .before .before .run .ensures) (c .before .enum-told .given .1)) ∙ whole (c .before .before .before .before .before .before .before .before .before .before))
 
 returns-4 : tie.Need-returns-4
-returns-4 c = ran-to _ _ _ _ _ _ (c .before .before .before .run .ensures) (c .before .answer .given .1) .answer ∙ whole (c .before .before .before .before .before .before .before .before .before .before)
+returns-4 c = tells (ran-to _ _ _ _ _ _ (c .before .before .before .run .ensures) (c .before .answer .given .1) .answer ∙ whole (c .before .before .before .before .before .before .before .before .before .before))
 
 pub check-spec : {M : Type 1} → statement M
 check-spec =

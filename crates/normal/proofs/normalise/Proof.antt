@@ -14,7 +14,7 @@ use Rattle.normal.proofs.normalise.Tie as tie
 
 -- the check accepts
 abbrev accepts : (c : tie.After-tuples) → Accepts (c .before .before .before .before .before .args .file .now)
-accepts c = record { count = c .tuples .given .0 .0; written = c .tuples .given .0 .1 .0; answer = sym (c .before .before .check .ensures) ∙ c .tuples .given .1 }
+accepts c = record { count = c .tuples .given .0 .0; written = c .tuples .given .0 .1 .0; answer = sym (c .before .before .check .ensures .is) ∙ c .tuples .given .1 }
 
 -- what is measured
 found : (c : tie.After-measure-file) → FoundOf (c .before .before .before .before .before .before .before .args .file .now) (c .before .before .tuples .given .0 .0) (c .measure-file .result .bytes) (c .measure-file .result .unlisted)
@@ -47,7 +47,7 @@ write-normal-requires : tie.Need-write-normal-requires
 write-normal-requires c κs = found-writable _ (c .before .before .before .before .before .before .before .before .before .before .before .before .before .before .before .before .args .out .now) _ _ _ (found (c .before .before .before .before .before .before .before .before .before)) (sym (turns (c .before .before .before .before .before .before)) ∙ c .before .before .before .before .before .if1 .left) (c .before .if3 .left)
 
 returns-4 : tie.Need-returns-4
-returns-4 c = rw (c .refuse .ensures) (refused-of _ _ _ _ (sym (c .before .before .code .given .1) ∙ c .before .before .before .before .check .ensures))
+returns-4 c = rw (c .refuse .ensures) (refused-of _ _ _ _ (sym (c .before .before .code .given .1) ∙ c .before .before .before .before .check .ensures .is))
 
 returns-5 : tie.Need-returns-5
 returns-5 c = found-written _ _ _ _ _ (found (c .before .before .before .before .before .before .before .before .before .before .before .before)) (sym (turns (c .before .before .before .before .before .before .before .before .before)) ∙ c .before .before .before .before .before .before .before .before .if1 .left) (c .before .before .before .before .before .before .if2 .left) (c .before .before .before .before .if3 .left) _ (c .before .before .write-normal .ensures)

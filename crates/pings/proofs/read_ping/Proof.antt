@@ -1,6 +1,7 @@
 -- `pings::read_ping` meets its contract: the reader's refusal, or the fields of the ping that was opened. Assumes nothing.
 use mathlib.Core.Path.{ap}
 use borrow.Author.Needs.{needs}
+use Rattle.layout.specs.Answers.{tells}
 use Rattle.layout.specs.declared.Answer.{Answer}
 use Rattle.pings.specs.Fields.{answered, pingFields}
 use Rattle.pings.proofs.Fielding.{read-fields}
@@ -14,7 +15,7 @@ returns : tie.Need-returns
 returns c =
     let a = c .before .before .before .before .before .args in
     let e = rw (c .before .code .given .1) at (c .before .before .before .open-ping .ensures) in
-    record { answer = e; outcome = ap (λ (x : Answer). answered x (pingFields (a .file .now) (a .place))) e }
+    record { answer = tells e; outcome = ap (λ (x : Answer). answered x (pingFields (a .file .now) (a .place))) e }
 
 returns-2 : tie.Need-returns-2
 returns-2 c =

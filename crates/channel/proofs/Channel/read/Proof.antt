@@ -4,6 +4,7 @@ use mathlib.Core.Path.{refl, sym, ap, _∙_}
 use Prim.Native.Nat.{_+_}
 use native.Mathlib.Omega.{arith}
 use borrow.Author.Needs.{needs}
+use Rattle.layout.specs.Answers.{tells}
 use Rattle.layout.specs.declared.Answer.{Answer}
 use Rattle.layout.specs.Types.{classes, inClass, kindOf, lineOf}
 use Rattle.tuples.specs.Readers.{readValues}
@@ -23,7 +24,7 @@ returns : tie.Need-returns
 returns c =
     let a = c .before .before .before .before .before .args in
     let e = rw (c .before .code .given .1) at (c .before .before .before .open-tuple .ensures) in
-    record { answer = e; outcome = ap (λ (x : Answer). answered x (channelOf (readValues (a .file .now) (a .place))) (record { place = a .place + 68; length = 30 })) e }
+    record { answer = tells e; outcome = ap (λ (x : Answer). answered x (channelOf (readValues (a .file .now) (a .place))) (record { place = a .place + 68; length = 30 })) e }
 
 returns-2 : tie.Need-returns-2
 unfolding kindOf inClass classes lineOf
@@ -31,7 +32,7 @@ returns-2 c =
     let a = c .before .before .before .before .before .before .args in
     let r = rw (c .before .before .msb .given .1) at (c .before .before .before .before .open-tuple .ensures) in
     record {
-      answer = r .answer;
+      answer = tells (r .answer);
       outcome = (λ i. Read ((c .at .ensures ∙ ap channelOf (sym (values-there 1000 r tt))) i) (record { place = a .place + 68; length = 30 })) ∙ ap (λ (x : Answer). answered x (channelOf (readValues (a .file .now) (a .place))) (record { place = a .place + 68; length = 30 })) (r .answer);
     }
 

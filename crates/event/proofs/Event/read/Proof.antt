@@ -6,6 +6,7 @@ use Prim.Native.Nat.{_+_, _-_}
 use native.Mathlib.Omega.{arith}
 use borrow.Author.Needs.{needs}
 use lib.ListN.{length}
+use Rattle.layout.specs.Answers.{tells}
 use Rattle.layout.specs.declared.Answer.{Answer}
 use Rattle.layout.specs.Types.{classes, inClass, kindOf, lineOf}
 use Rattle.turning.specs.Rows.{Value}
@@ -26,7 +27,7 @@ returns : tie.Need-returns
 returns c =
     let a = c .before .before .before .before .before .args in
     let e = rw (c .before .code .given .1) at (c .before .before .before .open-tuple .ensures) in
-    record { answer = e; outcome = ap (λ (x : Answer). answered x (eventOf (readValues (a .file .now) (a .place))) (record { place = a .place + 12; length = length (textAt (readValues (a .file .now) (a .place)) 2) })) e }
+    record { answer = tells e; outcome = ap (λ (x : Answer). answered x (eventOf (readValues (a .file .now) (a .place))) (record { place = a .place + 12; length = length (textAt (readValues (a .file .now) (a .place)) 2) })) e }
 
 returns-2 : tie.Need-returns-2
 unfolding kindOf inClass classes lineOf
@@ -38,7 +39,7 @@ returns-2 c =
     let t = length-part (a .file .now) (a .place + 12) (n - 10 - 10) (omega (arith, in-file 10110 r, at-least 10110 r 24 4 refl)) in
     let many = z ∙ sym (ap (λ (vs : List Value). length (textAt vs 2)) (values-placed 10110 r tt) ∙ t) in
     record {
-      answer = r .answer;
+      answer = tells (r .answer);
       outcome = (λ i. Read ((c .at .ensures ∙ ap eventOf (sym (values-there 10110 r tt))) i) (record { place = a .place + 12; length = many i })) ∙ ap (λ (x : Answer). answered x (eventOf (readValues (a .file .now) (a .place))) (record { place = a .place + 12; length = length (textAt (readValues (a .file .now) (a .place)) 2) })) (r .answer);
     }
 

@@ -6,6 +6,7 @@ use Prim.Native.Nat.{_+_, _-_}
 use native.Mathlib.Omega.{arith}
 use borrow.Author.Needs.{needs}
 use lib.ListN.{length}
+use Rattle.layout.specs.Answers.{tells}
 use Rattle.layout.specs.declared.Answer.{Answer}
 use Rattle.layout.specs.Types.{classes, inClass, kindOf, lineOf}
 use Rattle.turning.specs.Rows.{Value}
@@ -26,7 +27,7 @@ returns : tie.Need-returns
 returns c =
     let a = c .before .before .before .before .before .args in
     let e = rw (c .before .code .given .1) at (c .before .before .before .open-tuple .ensures) in
-    record { answer = e; outcome = ap (λ (x : Answer). answered x (fileEndOf (readValues (a .file .now) (a .place))) (record { place = a .place + 14; length = length (textAt (readValues (a .file .now) (a .place)) 3) })) e }
+    record { answer = tells e; outcome = ap (λ (x : Answer). answered x (fileEndOf (readValues (a .file .now) (a .place))) (record { place = a .place + 14; length = length (textAt (readValues (a .file .now) (a .place)) 3) })) e }
 
 returns-2 : tie.Need-returns-2
 unfolding kindOf inClass classes lineOf
@@ -38,7 +39,7 @@ returns-2 c =
     let t = length-part (a .file .now) (a .place + 14) (n - 10 - 12) (omega (arith, in-file 65534 r, at-least 65534 r 24 4 refl)) in
     let many = z ∙ sym (ap (λ (vs : List Value). length (textAt vs 3)) (values-placed 65534 r tt) ∙ t) in
     record {
-      answer = r .answer;
+      answer = tells (r .answer);
       outcome = (λ i. Read ((c .at .ensures ∙ ap fileEndOf (sym (values-there 65534 r tt))) i) (record { place = a .place + 14; length = many i })) ∙ ap (λ (x : Answer). answered x (fileEndOf (readValues (a .file .now) (a .place))) (record { place = a .place + 14; length = length (textAt (readValues (a .file .now) (a .place)) 3) })) (r .answer);
     }
 

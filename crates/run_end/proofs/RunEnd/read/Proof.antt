@@ -2,6 +2,7 @@
 use mathlib.Core.Path.{refl, sym, ap, _∙_}
 use native.Mathlib.Omega.{arith}
 use borrow.Author.Needs.{needs}
+use Rattle.layout.specs.Answers.{tells}
 use Rattle.layout.specs.declared.Answer.{Answer}
 use Rattle.layout.specs.Types.{classes, inClass, kindOf, lineOf}
 use Rattle.tuples.specs.Readers.{readValues}
@@ -21,7 +22,7 @@ returns : tie.Need-returns
 returns c =
     let a = c .before .before .before .before .before .args in
     let e = rw (c .before .code .given .1) at (c .before .before .before .open-tuple .ensures) in
-    record { answer = e; outcome = ap (λ (x : Answer). answered x (runEndOf (readValues (a .file .now) (a .place)))) e }
+    record { answer = tells e; outcome = ap (λ (x : Answer). answered x (runEndOf (readValues (a .file .now) (a .place)))) e }
 
 returns-2 : tie.Need-returns-2
 unfolding kindOf inClass classes lineOf
@@ -29,7 +30,7 @@ returns-2 c =
     let a = c .before .before .before .before .before .before .args in
     let r = rw (c .before .before .msb .given .1) at (c .before .before .before .before .open-tuple .ensures) in
     record {
-      answer = r .answer;
+      answer = tells (r .answer);
       outcome = ap Read (c .at .ensures ∙ ap runEndOf (sym (values-there 65517 r tt))) ∙ ap (λ (x : Answer). answered x (runEndOf (readValues (a .file .now) (a .place)))) (r .answer);
     }
 
