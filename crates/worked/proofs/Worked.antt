@@ -22,25 +22,19 @@ use Rattle.intake.specs.Check.{ending, turn, checkFrom, checkFile}
 use Rattle.normal.specs.Contents.{items, contentOf, normalTuples, formed, normalOf}
 use Rattle.normal.specs.Normaliser.{firstUnlisted, normalAnswer}
 use Rattle.normal.specs.Single.{singleForm, singleAnswer}
-use Rattle.hexlines.specs.Lines.{linesOf, allDigits, bytesIn, Input, inputOf, inputFrom, hex, decimals}
+use Rattle.tuples.specs.Readers.{readAnswer}
+use Rattle.pings.specs.Readers.{sampleAnswer}
+use Rattle.hexlines.specs.Lines.{linesOf, allDigits, bytesIn, inputFrom, hex, decimals}
 use Rattle.hexlines.specs.Programs.{normalFile, normalTuple}
-use Rattle.worked.specs.Examples.{text, holds, allHold, table}
+use Rattle.worked.specs.Examples.{text, fileOf, holds, allHold, table}
 use Rattle.worked.specs.Cruise.{lsb, lsbOtherCut, msb, msbOtherCut, normal}
 
 -- every line of the table holds
 pub worked : allHold table ≡ true
-unfolding table allHold holds normalFile normalTuple linesOf allDigits bytesIn inputFrom hex decimals normalAnswer singleForm singleAnswer firstUnlisted items contentOf normalTuples formed normalOf ending turn checkFrom checkFile formOf itemOf digestOf wordsIn attributeIn countIn contentU contentC dataU dataC has naming firstWrong words allWords unwords pairUp unpair isRun runLength decodeFrom isBad values firstBad firstDrop allowed frame sizeAt kindAt backAt framing mark isMsb marked stepForward tuplesFrom tuplesOf classes inClass kindOf lineOf
+unfolding table allHold holds readAnswer sampleAnswer normalFile normalTuple linesOf allDigits bytesIn inputFrom hex decimals normalAnswer singleForm singleAnswer firstUnlisted items contentOf normalTuples formed normalOf ending turn checkFrom checkFile formOf itemOf digestOf wordsIn attributeIn countIn contentU contentC dataU dataC has naming firstWrong words allWords unwords pairUp unpair isRun runLength decodeFrom isBad values firstBad firstDrop allowed frame sizeAt kindAt backAt framing mark isMsb marked stepForward tuplesFrom tuplesOf classes inClass kindOf lineOf
 worked = refl
 
 -- ---- the small whole file
--- the bytes of lines
-abbrev bytesBy : Input → List ℕ
-bytesBy (Input.bad n) = []
-bytesBy (Input.bytes bs) = bs
-
-abbrev fileOf : List String → List ℕ
-fileOf ls = bytesBy (inputOf (text ls))
-
 abbrev variants : List (List String)
 variants = lsb ∷ lsbOtherCut ∷ msb ∷ msbOtherCut ∷ []
 

@@ -4,14 +4,25 @@ use Prim.Native.String.{String}
 use mathlib.Core.Bool.{Bool, true, false, not, _&&_}
 use mathlib.Core.List.{List, [], _∷_, _++_}
 use lib.Dec.{eqb}
+use lib.ListN.{length}
 use lib.IntN.{ℤ, pos, negsuc}
 use Rattle.order.specs.Order.{signedOf}
 use Rattle.layout.specs.Text.{ascii}
+use Rattle.layout.specs.declared.Answer.{Answer}
+use Rattle.layout.specs.declared.Answer.the-variants.{Accepted}
+use Rattle.layout.specs.declared.Answer.the-variants as answer
 use Rattle.frame.specs.declared.Step.{Step}
 use Rattle.frame.specs.declared.Step.the-variants.{Tuple, End, Refused}
-use Rattle.frame.specs.Steps.{stepForward}
+use Rattle.frame.specs.Steps.{stepForward, stepNumbers}
 use Rattle.samples.specs.Runs.{radix, isRun, runLength}
-use Rattle.hexlines.specs.Lines.{line, bytesIn}
+use Rattle.samples.specs.Lists.{numbersOf, valuesOf}
+use Rattle.tuples.specs.Readers.{only, readAnswer, readValues}
+use Rattle.navigation.specs.Navigation.{navigationOf, answered}
+use Rattle.navigation.specs.declared.NavigationRead.{NavigationRead}
+use Rattle.navigation.specs.declared.NavigationRead.the-variants.{Read}
+use Rattle.navigation.specs.declared.NavigationRead.the-variants as navigation
+use Rattle.pings.specs.Readers.{samplesAt, sampleAnswer}
+use Rattle.hexlines.specs.Lines.{line, bytesIn, Input, inputOf}
 use Rattle.hexlines.specs.Programs.{normalFile, normalTuple}
 
 -- lines of text, each with its line feed
@@ -25,7 +36,8 @@ pub data Example : Type 0 where
   tupleProgram : List String → List String → Example  -- program two does
   run : ℕ → ℕ → Example  -- a word is a run of so many
   value : ℕ → ℤ → Example  -- a word is this value
-  signed : ℕ → ℕ → ℤ → Example  -- a signed field of so many bytes, by its pattern, is this number
+  heading : List String → ℤ → Example  -- the navigation read behind the mark of these lines has this heading
+  samples : List String → List ℕ → List ℤ → Example  -- the ping read there has samples of these numbers and these values
   framed : String → Example  -- the tuple behind the mark is found
   unframed : String → ℕ → Example  -- it is refused with this code
 
@@ -41,14 +53,41 @@ sameInt (pos m) (negsuc n) = false
 sameInt (negsuc m) (pos n) = false
 sameInt (negsuc m) (negsuc n) = eqb m n
 
--- a step's code, 0 for a tuple
-abbrev pub codeOf : Step → ℕ
-codeOf (Tuple p n k w) = 0
-codeOf End = 0
-codeOf (Refused c p) = c
+abbrev pub sameInts : List ℤ → List ℤ → Bool
+sameInts [] [] = true
+sameInts [] (y ∷ ys) = false
+sameInts (x ∷ xs) [] = false
+sameInts (x ∷ xs) (y ∷ ys) = sameInt x y && sameInts xs ys
 
-abbrev pub stepCode : String → ℕ
-stepCode s = codeOf (stepForward (bytesIn (ascii s)) 4)
+-- the bytes of lines; none where a line is bad
+abbrev pub bytesBy : Input → List ℕ
+bytesBy (Input.bad n) = []
+bytesBy (Input.bytes bs) = bs
+
+abbrev pub fileOf : List String → List ℕ
+fileOf ls = bytesBy (inputOf (text ls))
+
+-- what the step behind the mark finds: a tuple, or a refusal by its code
+abbrev pub stepped : String → Step
+stepped s = stepForward (bytesIn (ascii s)) 4
+
+abbrev pub isTuple : Step → Bool
+isTuple (Tuple p n k w) = true
+isTuple End = false
+isTuple (Refused c p) = false
+
+-- what the navigation's reader says at place 4, by its promise
+abbrev pub navigationIn : List ℕ → NavigationRead
+navigationIn f = answered (readAnswer (only 30) f 4) (navigationOf (readValues f 4))
+
+abbrev pub hasHeading : ℤ → NavigationRead → Bool
+hasHeading z (Read r) = sameInt (r .heading) z
+hasHeading z (navigation.Refused c p) = false
+
+-- what the sample reader says there, given room for so many samples
+abbrev pub isAccepted : Answer → Bool
+isAccepted (Accepted n m) = true
+isAccepted (answer.Refused c p) = false
 
 -- the example holds
 unfoldable pub holds : Example → Bool
@@ -56,13 +95,23 @@ holds (fileProgram is os) = same (normalFile (text is)) (text os)
 holds (tupleProgram is os) = same (normalTuple (text is)) (text os)
 holds (run w n) = isRun radix w && eqb (runLength radix w) n
 holds (value w z) = not (isRun radix w) && sameInt (signedOf 4 w) z
-holds (signed w n z) = sameInt (signedOf w n) z
-holds (framed s) = eqb (stepCode s) 0
-holds (unframed s c) = eqb (stepCode s) c
+holds (heading ls z) = hasHeading z (navigationIn (fileOf ls))
+holds (samples ls ns vs) =
+    let f = fileOf ls in
+    isAccepted (sampleAnswer f 4 (length ns) (length vs)) && same (numbersOf (samplesAt f 4)) ns && sameInts (valuesOf (samplesAt f 4)) vs
+holds (framed s) = isTuple (stepped s)
+holds (unframed s c) = eqb (stepNumbers (stepped s) .code) c
 
 unfoldable pub allHold : List Example → Bool
 allHold [] = true
 allHold (e ∷ es) = holds e && allHold es
+
+-- the tuples of E3 and E4, each behind its mark
+abbrev pub navigationLines : List String
+navigationLines = "000000ac" ∷ "00000012001e13880000003c0001fc7714180000000000000000001c" ∷ []
+
+abbrev pub pingLines : List String
+pingLines = "ac000000" ∷ "260000001a2700003c0000000100000001000000ffffff7f020000000100ffff6400000090eefeff0000000030000000" ∷ []
 
 -- one table holds these
 unfoldable pub table : List Example
@@ -73,15 +122,11 @@ table =
     ∷ fileProgram ("ac000000" ∷ []) ("refused 4 4" ∷ [])
     ∷ fileProgram [] ("refused 2 0" ∷ [])
     -- E3, heading -905
-    ∷ tupleProgram
-    ("000000ac" ∷ "00000012001e13880000003c0001fc7714180000000000000000001c" ∷ [])
-    ("ac000000" ∷ "120000001e0088133c000000010077fc18140000000000001c000000" ∷ [])
-    ∷ signed 2 0xfc77 (negsuc 904)
+    ∷ tupleProgram navigationLines ("ac000000" ∷ "120000001e0088133c000000010077fc18140000000000001c000000" ∷ [])
+    ∷ heading navigationLines (negsuc 904)
     -- E4, samples (2, 100), (3, -70000)
-    ∷ tupleProgram
-    ("ac000000" ∷ "260000001a2700003c0000000100000001000000ffffff7f020000000100ffff6400000090eefeff0000000030000000" ∷ [])
-    ("ac000000" ∷ "26000000102700003c0000000100000001000000ffffff7f02000000640000000300000090eefeff0000000030000000" ∷ [])
-    ∷ value 0xfffeee90 (negsuc 69999)
+    ∷ tupleProgram pingLines ("ac000000" ∷ "26000000102700003c0000000100000001000000ffffff7f02000000640000000300000090eefeff0000000030000000" ∷ [])
+    ∷ samples pingLines (2 ∷ 3 ∷ []) (pos 100 ∷ negsuc 69999 ∷ [])
     -- E5
     ∷ run 0xffff0000 1
     ∷ run 0xffffffff 65536
