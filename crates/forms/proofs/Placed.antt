@@ -2,9 +2,9 @@
 use mathlib.Core.Path.{_≡_, refl, sym, ap, _∙_}
 use mathlib.Core.Bool.{Bool, true, false, cond, false≢true}
 use mathlib.Core.List.{List, []}
-use Prim.Native.Nat.{ℕ, _+_, _*_, _≤_}
+use Prim.Native.Nat.{ℕ, zero, suc, _+_, _*_, _≤_}
 use native.Mathlib.Omega.{arith}
-use borrow.Author.Tests.{le-leb}
+use borrow.Author.Tests.{le-leb, eqb-true, eqb-false}
 use lib.Dec.{eqb}
 use lib.ListN.{length, take, drop}
 use lib.Seq.{drop-drop}
@@ -113,3 +113,19 @@ module _ {o : Bool} {f : List ℕ} {at n k : ℕ} (s : SoundHere o f at n k) whe
         sym (parts-C o t (s .own) words-shape (24 + 8 * c + 8) (omega (arith, count-of)) (omega (arith, count-of, z)) .long),
         omega (arith, count-of, few-C o t (s .own) words-shape, size-of),
       )
+
+  -- so a form is at most twice as long as its tuple
+  pub at-most-twice : length (formBytes o (tupAt o (drop at f))) ≤ 2 * n
+  at-most-twice = by (inClass index k) refl (eqb k 10010) refl
+    where
+      measured : {m : ℕ} → (m ≡ length (formBytes o (tupAt o (drop at f)))) × (m ≤ 2 * n) → length (formBytes o (tupAt o (drop at f))) ≤ 2 * n
+      measured h = omega (arith, h .0, h .1)
+
+      by-count : (e : k ≡ 10010) (c : ℕ) → c ≡ fieldAt o f at 4 24 → length (formBytes o (tupAt o (drop at f))) ≤ 2 * n
+      by-count e zero d = measured (measured-silent e 0 d refl)
+      by-count e (suc c) d = measured (measured-words e (suc c) d (λ z. omega arith))
+
+      by : (b : Bool) → inClass index k ≡ b → (d : Bool) → eqb k 10010 ≡ d → length (formBytes o (tupAt o (drop at f))) ≤ 2 * n
+      by true i d h = measured (measured-index i)
+      by false i true h = by-count (eqb-true k 10010 h) (fieldAt o f at 4 24) refl
+      by false i false h = measured (measured-whole i (eqb-false k 10010 h))

@@ -1,0 +1,181 @@
+-- Demand 1, of the check, the normaliser, one tuple's normal form and asking: `demand1`. Assumes nothing.
+use mathlib.Core.Path.{_≡_, refl, sym, ap, subst, subst₂, _∙_}
+use mathlib.Core.Logic.{_⊎_, ⊎-elim, _↔_}
+use mathlib.Core.Bool.{Bool, true, false, true≢false}
+use mathlib.Core.List.{List, [], _∷_, _++_}
+use Prim.Native.Nat.{ℕ, _≤_}
+use native.Mathlib.Omega.{arith}
+use borrow.Author.Tests.{not-false}
+use lib.ListN.{length, drop}
+use Rattle.order.specs.Order.{Bytes}
+use Rattle.rules.specs.Rules.{Rule, _⇒_, firstOf, saying, AllPass}
+use Rattle.rules.proofs.Laws.{Silent, clear, all-pass}
+use Rattle.layout.specs.declared.Answer.{Answer}
+use Rattle.layout.specs.declared.Answer.the-variants.{Accepted, Refused}
+use Rattle.layout.specs.declared.Verdict.the-variants.{Fine}
+use Rattle.layout.specs.Answers.{judged}
+use Rattle.layout.proofs.Verdicts.{passed}
+use Rattle.frame.specs.Frames.{lenAt, kindAt, tupAt, frameRules, framing}
+use Rattle.frame.specs.Files.{limit, isMsb, fileRules}
+use Rattle.frame.specs.Tuples.{tuplesOf}
+use Rattle.frame.proofs.Files.{marked-4}
+use Rattle.content.specs.Items.{headRules, innerRules}
+use Rattle.intake.specs.declared.Asked.{Asked}
+use Rattle.intake.specs.Check.{checkFile, Checked}
+use Rattle.intake.specs.Asking.{askAccepted, askChecked, askAt, AskedFor}
+use Rattle.intake.specs.inner.Tallies.{ownVerdict}
+use Rattle.intake.proofs.Accepted.{isAccepted}
+use Rattle.forms.specs.inner.Sound.{SoundHere}
+use Rattle.forms.proofs.Placed.{at-most-twice, most}
+use Rattle.normal.specs.Contents.{normalOf}
+use Rattle.normal.specs.Normaliser.{normalRules, behindCheck, normalAnswer, Normalised}
+use Rattle.normal.specs.Single.{singleForm, behindRules, singleRules, singleAnswer, NormalisedTuple}
+use Rattle.normal.proofs.Singles.{single-length}
+use Rattle.demands.specs.Causes.{Broken, here, later, Cause, Keeps}
+use Rattle.demands.specs.Families.{Among}
+use Rattle.demands.specs.Refusals.{NormalCause, by-form, NormalKeeps, PingAt, AskCause, by-place, Demand1}
+use Rattle.demands.specs.Refusals as refusals
+use Rattle.demands.proofs.Causes.{kept-or-broken, because, why, keeps-accepted, accepted-keeps}
+use Rattle.demands.proofs.Named.{answered}
+use Rattle.demands.proofs.Missed.{missed}
+
+-- ---- a list of rules that accepts behind them all
+broken-first : {A : Type 0} {rs : List (Rule A)} {x : A} (d : A) → Broken rs x → firstOf rs d ≡ x
+broken-first d (here e) = rw e
+broken-first d (later e r) = rw e (broken-first d r)
+
+module _ (rs : List (Rule Answer)) (d : Answer) (t : isAccepted d ≡ true) (s : Silent isAccepted rs) where
+  refused-by : {c p : ℕ} → (firstOf rs d ≡ Refused c p) ↔ Broken rs (Refused c p)
+  refused-by = (
+    λ e. ⊎-elim (λ k. absurd (true≢false (sym t ∙ ap isAccepted (sym (all-pass rs d k) ∙ e)))) (λ b. subst (Broken rs) (sym (broken-first d (b .1)) ∙ e) (b .1)) (kept-or-broken rs),
+    λ b. broken-first d b,
+  )
+
+  accepted-by : {n m : ℕ} → (firstOf rs d ≡ Accepted n m) ↔ (AllPass rs × (d ≡ Accepted n m))
+  accepted-by {n} {m} = (λ e. clear isAccepted rs d (Accepted n m) s e refl, λ k. all-pass rs d (k .0) ∙ k .1)
+
+-- what holds of what is to be said holds of what is said
+said : {A : Type 0} {r s x : A} {P : Type 0} → r ≡ s → (s ≡ x) ↔ P → (r ≡ x) ↔ P
+said q h = (λ e. h .0 (sym q ∙ e), λ k. q ∙ h .1 k)
+
+-- ---- lists of refusals accept nothing
+silent-saying : (p : ℕ) (rs : List (Rule ℕ)) → Silent isAccepted (saying (λ (c : ℕ). Refused c p) rs)
+silent-saying p [] = tt
+silent-saying p ((b ⇒ c) ∷ rs) = (refl, silent-saying p rs)
+
+silent-append : (xs ys : List (Rule Answer)) → Silent isAccepted xs → Silent isAccepted ys → Silent isAccepted (xs ++ ys)
+silent-append [] ys a b = b
+silent-append ((t ⇒ x) ∷ xs) ys a b = (a .0, silent-append xs ys (a .1) b)
+
+-- ---- rules that are all kept
+kept-append : {A : Type 0} (xs ys : List (Rule A)) → AllPass (xs ++ ys) → AllPass xs × AllPass ys
+kept-append [] ys h = (tt, h)
+kept-append ((t ⇒ x) ∷ xs) ys h = let r = kept-append xs ys (h .1) in ((h .0, r .0), r .1)
+
+kept-saying : {A B : Type 0} (g : A → B) (rs : List (Rule A)) → AllPass (saying g rs) → AllPass rs
+kept-saying g [] h = tt
+kept-saying g ((t ⇒ x) ∷ rs) h = (h .0, kept-saying g rs (h .1))
+
+-- ---- the normaliser
+module _ (f : List ℕ) (room : ℕ) where
+  -- none of its rules accepts
+  refused-form : (n : ℕ) {c p : ℕ} → (firstOf (normalRules f room) (Accepted n (length (normalOf f))) ≡ Refused c p) ↔ Broken (normalRules f room) (Refused c p)
+  refused-form n = refused-by (normalRules f room) (Accepted n (length (normalOf f))) refl (refl, (refl, (refl, tt)))
+
+  accepted-form : (n : ℕ) {i m : ℕ}
+      → (firstOf (normalRules f room) (Accepted n (length (normalOf f))) ≡ Accepted i m) ↔ (AllPass (normalRules f room) × (Accepted n (length (normalOf f)) ≡ Accepted i m))
+  accepted-form n = accepted-by (normalRules f room) (Accepted n (length (normalOf f))) refl (refl, (refl, (refl, tt)))
+
+  normal-refused : {c p : ℕ} → (normalAnswer f room ≡ Refused c p) ↔ NormalCause f room c p
+  unfolding normalAnswer
+  normal-refused {c} {p} = (by (checkFile f) refl, back)
+    where
+      by : (a : Answer) → checkFile f ≡ a → behindCheck f room a ≡ Refused c p → NormalCause f room c p
+      by (Accepted n m) h q = by-form (accepted-keeps f n m h .0) (refused-form n .0 q)
+      by (Refused d i) h q = refusals.NormalCause.by-check (why f c p (h ∙ q))
+
+      back : NormalCause f room c p → behindCheck f room (checkFile f) ≡ Refused c p
+      back (refusals.NormalCause.by-check k) = ap (behindCheck f room) (because f k)
+      back (by-form {n = n} k b) = ap (behindCheck f room) (keeps-accepted f k) ∙ refused-form n .1 b
+
+  normal-accepted : {n m : ℕ} → (normalAnswer f room ≡ Accepted n m) ↔ (NormalKeeps f room n × (m ≡ length (normalOf f)))
+  unfolding normalAnswer
+  normal-accepted {n} {m} = (by (checkFile f) refl, back)
+    where
+      by : (a : Answer) → checkFile f ≡ a → behindCheck f room a ≡ Accepted n m → NormalKeeps f room n × (m ≡ length (normalOf f))
+      by (Accepted i j) h q =
+          let k = accepted-form i .0 q in
+          (record { check = subst (Keeps f) (cc (k .1)) (accepted-keeps f i j h .0); form = k .0 }, sym (cc (k .1)))
+      by (Refused d i) h q = absurd (let z : _≡_ {A = ℕ} 0 1 = cc in omega arith)
+
+      back : NormalKeeps f room n × (m ≡ length (normalOf f)) → behindCheck f room (checkFile f) ≡ Accepted n m
+      back k = ap (behindCheck f room) (keeps-accepted f (k .0 .check)) ∙ accepted-form n .1 (k .0 .form, ap (Accepted n) (sym (k .1)))
+
+-- ---- one tuple
+module _ (f : List ℕ) (room : ℕ) where
+  abbrev at : ℕ → ℕ → Answer
+  at p c = Refused c p
+
+  abbrev own : List (Rule ℕ)
+  own = let o = isMsb f in let t = tupAt o (drop 4 f) in headRules o t ++ innerRules o t
+
+  abbrev alone : List (Rule ℕ)
+  alone = frameRules (isMsb f) (drop 4 f) ++ own
+
+  silent : Silent isAccepted (singleRules f room)
+  silent =
+      silent-append (saying (at 0) (fileRules f)) (saying (at 4) alone ++ behindRules f room) (silent-saying 0 (fileRules f))
+      (silent-append (saying (at 4) alone) (behindRules f room) (silent-saying 4 alone) (refl, (refl, (refl, tt))))
+
+  -- a tuple that keeps its rules is sound, and its form at most twice as long
+  small : AllPass (singleRules f room) → length (singleForm f) ≤ limit
+  unfolding framing ownVerdict
+  small h =
+      let o = isMsb f in
+      let r = drop 4 f in
+      let a = kept-append (saying (at 0) (fileRules f)) (saying (at 4) alone ++ behindRules f room) h in
+      let file = kept-saying (at 0) (fileRules f) (a .0) in
+      let b = kept-append (frameRules o r) own (kept-saying (at 4) alone (kept-append (saying (at 4) alone) (behindRules f room) (a .1) .0)) in
+      let s : SoundHere o f 4 (lenAt o r) (kindAt o r) =
+      record { within = marked-4 f (not-false _ (file .1 .0)); here = record { framed = passed (frameRules o r) (b .0); size = refl; kind = refl }; own = passed own (b .1) } in
+      omega (arith, single-length f, at-most-twice s, most s)
+
+-- ---- asking
+module _ (f : List ℕ) (b : Bytes f) (p : ℕ) where
+  back : {c q : ℕ} → AskCause f p c q → askChecked f p (checkFile f) ≡ Asked.Refused c q
+  back (refusals.AskCause.by-check k) = ap (askChecked f p) (because f k)
+  back (by-place {n = n} k nowhere) = ap (askChecked f p) (keeps-accepted f k) ∙ missed f b n 0 (keeps-accepted f k) p nowhere
+
+  ask-refused : {c q : ℕ} → (askAt f p ≡ Asked.Refused c q) ↔ AskCause f p c q
+  unfolding askAt
+  ask-refused {c} {q} = (by (checkFile f) refl, back)
+    where
+      -- at a listed ping asking refuses nothing
+      no-ping : (n m : ℕ) → checkFile f ≡ Accepted n m → askAccepted f p n ≡ Asked.Refused c q → PingAt f p → ⊥
+      no-ping n m h z a =
+          let g = answered f b n m h (a .ping) (a .listed) in
+          let y : askAccepted f p n ≡ askAt f p = sym (ap (askChecked f p) h) in
+          let x = sym z ∙ y ∙ ap (askAt f) (sym (a .place)) ∙ g .answer in
+          let w : _≡_ {A = ℕ} 0 1 = cc (x) in
+          omega arith
+
+      by : (a : Answer) → checkFile f ≡ a → askChecked f p a ≡ Asked.Refused c q → AskCause f p c q
+      by (Accepted n m) h z =
+          let nowhere = no-ping n m h z in
+          let y : Asked.Refused 9 p ≡ Asked.Refused c q = sym (missed f b n m h p nowhere) ∙ z in
+          subst₂ (AskCause f p) (cc) (cc) (by-place (accepted-keeps f n m h .0) nowhere)
+      by (Refused d i) h z = refusals.AskCause.by-check (why f c q (h ∙ (cc)))
+
+pub demand1 : Demand1
+unfolding singleAnswer
+demand1 =
+    record {
+      check = λ {f} {r} k {c} {p}. said (k .is) (why f c p, because f);
+      check-takes = λ {f} {r} k {n} {m}. said (k .is) (accepted-keeps f n m, λ h. keeps-accepted f (h .0) ∙ ap (Accepted n) (sym (h .1)));
+      normal = λ {f} {out} k. said (k .answer .is) (normal-refused f (length out));
+      normal-takes = λ {f} {out} k. said (k .answer .is) (normal-accepted f (length out));
+      tuple = λ {f} {out} k. said (k .answer .is) (refused-by (singleRules f (length out)) (Accepted 1 (length (singleForm f))) refl (silent f (length out)));
+      tuple-takes = λ {f} {out} k. said (k .answer .is) (accepted-by (singleRules f (length out)) (Accepted 1 (length (singleForm f))) refl (silent f (length out)));
+      tuple-small = small;
+      asking = λ {f} {p} b k. said (k .is) (ask-refused f b p);
+    }
