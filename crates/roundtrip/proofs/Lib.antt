@@ -5,3 +5,4 @@ pub mod Settings
 pub mod Voyage
 pub mod Marks
 pub mod Pings
+pub mod Characters

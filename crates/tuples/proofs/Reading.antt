@@ -1,16 +1,20 @@
 -- What a reader answers, by what the step forward finds, what is asked for and what is said of the tuple's own rules. Assumes nothing.
-use mathlib.Core.Path.{_≡_, sym, ap, _∙_}
+use mathlib.Core.Path.{_≡_, refl, sym, ap, _∙_}
 use mathlib.Core.Bool.{Bool, true, false, not, _&&_}
-use mathlib.Core.List.{List, _∷_, _++_}
+use mathlib.Core.List.{List, [], _∷_, _++_}
 use Prim.Native.Nat.{ℕ, _%_, _≤_}
 use native.Mathlib.Omega.{arith}
-use borrow.Author.Tests.{leb-true}
+use borrow.Author.Tests.{leb-true, not-false}
 use lib.Dec.{eqb, leb}
 use lib.ListN.{length}
-use Rattle.rules.specs.Rules.{_⇒_, firstOf, saying}
+use Rattle.rules.specs.Rules.{Rule, _⇒_, firstOf, saying, AllPass}
+use Rattle.rules.proofs.Laws.{Silent, clear}
+use Rattle.layout.specs.declared.Answer.{Answer}
 use Rattle.layout.specs.declared.Answer.the-variants.{Accepted, Refused}
+use Rattle.layout.proofs.Verdicts.{passed}
 use Rattle.layout.specs.declared.Verdict.the-variants.{Fine, Fault}
 use Rattle.frame.specs.declared.Walk.{Walk}
+use Rattle.frame.specs.declared.Step.{Step}
 use Rattle.frame.specs.declared.Step.the-variants.{End}
 use Rattle.frame.specs.declared.Step.the-variants as step
 use Rattle.frame.specs.Frames.{allowed}
@@ -22,8 +26,8 @@ use Rattle.frame.proofs.Walks.{Stands, forward-stands}
 use Rattle.frame.proofs.Ways.{said, unsaid}
 use Rattle.content.specs.Items.{headRules, innerRules}
 use Rattle.intake.specs.inner.Tallies.{Here, ownVerdict}
-use Rattle.tuples.specs.Readers.{tupleThere, readAnswer}
-use Rattle.tuples.specs.inner.Opening.{Found}
+use Rattle.tuples.specs.Readers.{tupleThere, ownRules, readBy, readAnswer}
+use Rattle.tuples.specs.inner.Opening.{Found, Readable}
 
 -- ---- nothing is found
 module _ (asked : ℕ → Bool) (f : List ℕ) (p : ℕ) where
@@ -68,3 +72,47 @@ module _ {f : List ℕ} {p n k : ℕ} (g : Found f p n k) where
   pub fine : (asked : ℕ → Bool) → asked k ≡ true → ownVerdict (isMsb f) (tupleThere f p) ≡ Fine → Accepted 1 0 ≡ readAnswer asked f p
   unfolding ownVerdict
   fine asked a e = sym (unsaid (λ (x : ℕ). Refused x p) (headRules (isMsb f) (tupleThere f p) ++ innerRules (isMsb f) (tupleThere f p)) (Accepted 1 0) e) ∙ rw a at (by-own asked)
+
+-- ---- and the other way round: where a reader accepts, it reads a tuple that was asked for and keeps its own rules
+pub record Opens (asked : ℕ → Bool) (f : List ℕ) (p : ℕ) : Type 0 where
+  pub size : ℕ
+  pub code : ℕ
+  pub readable : Readable asked f p (isMsb f) size code
+
+abbrev taking : Answer → Bool
+taking (Accepted n m) = true
+taking (Refused c p) = false
+
+silent : (p : ℕ) (rs : List (Rule ℕ)) → Silent taking (saying (λ (c : ℕ). Refused c p) rs)
+silent p [] = tt
+silent p ((b ⇒ c) ∷ rs) = (refl, silent p rs)
+
+kept : (p : ℕ) (rs : List (Rule ℕ)) → AllPass (saying (λ (c : ℕ). Refused c p) rs) → AllPass rs
+kept p [] h = tt
+kept p ((b ⇒ c) ∷ rs) h = (h .0, kept p rs (h .1))
+
+module _ (asked : ℕ → Bool) {f : List ℕ} {p : ℕ} (e : Accepted 1 0 ≡ readAnswer asked f p) where
+  by-step : (s : Step) → stepForward f p ≡ s → Accepted 1 0 ≡ readBy asked f p s → Opens asked f p
+  unfolding ownVerdict
+  by-step (step.Tuple q n k w) h g =
+      let o = isMsb f in
+      let t = tupleThere f p in
+      let c = kept p (ownRules asked o t) (clear taking (saying (λ (x : ℕ). Refused x p) (ownRules asked o t)) (Accepted 1 0) (Accepted 1 0) (silent p (ownRules asked o t)) (sym g) refl .0) in
+      let d = found-by f p q n k w h in
+      record {
+        size = n;
+        code = k;
+        readable = record {
+          answer = e;
+          msb = refl;
+          found = d;
+          asks = ap asked (sym (stands d .kind)) ∙ not-false _ (c .0);
+          own = passed (headRules o t ++ innerRules o t) (c .1);
+        };
+      }
+  by-step End h g = absurd (let z : _≡_ {A = ℕ} 0 1 = cc (g) in omega arith)
+  by-step (step.Refused c q) h g = absurd (let z : _≡_ {A = ℕ} 0 1 = cc (g) in omega arith)
+
+  pub opens : Opens asked f p
+  unfolding readAnswer
+  opens = by-step (stepForward f p) refl e
