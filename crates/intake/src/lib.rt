@@ -91,7 +91,7 @@ fn judge_head(file: &[u8], at: usize, msb: bool, whole: usize, code: u16, first:
     if code != types::SIGNATURE {
         return Verdict::Fine;
     }
-    if order::read2(file, at + IDENTIFIER, msb) != layout::IDENTIFIER {
+    if !layout::is_known(order::read2(file, at + IDENTIFIER, msb)) {
         return layout::fault(codes::UNKNOWN_IDENTIFIER);
     }
     Verdict::Fine

@@ -7,6 +7,7 @@ ghost use mathlib.Core.Path.{_≡_};
 ghost use Prim.Native.Nat.{_<_};
 ghost use mathlib.Core.List.{[]};
 ghost use lib.ListN.{getD};
+ghost use Rattle.layout.specs.Fields.{known};
 ghost use Rattle.layout.specs.Types.{inClass, kindOf, placeIn, lineOf, fitting};
 ghost use Rattle.layout.specs.inner.Codes.{leasts, steps, rowCodes};
 
@@ -50,7 +51,7 @@ pub enum Kind {
     Unlisted,
 }
 
-// The signature's identifier.
+// The signature's identifier, as it is written.
 pub const IDENTIFIER: u16 = 44204;
 
 // The listed types, and the longest of their rows.
@@ -116,6 +117,13 @@ pub fn refuse(code: u8, place: usize) -> Answer
     ensures { λ r. ⌜ r ≡ Answer.Refused code place ⌝ }
 {
     Answer::Refused { code, place }
+}
+
+// Whether a number may be read as the signature's identifier.
+pub fn is_known(identifier: u16) -> bool
+    ensures { λ r. ⌜ r ≡ known identifier ⌝ }
+{
+    identifier == IDENTIFIER
 }
 
 // Whether a type code is of a class.

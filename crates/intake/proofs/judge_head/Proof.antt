@@ -4,7 +4,7 @@ use mathlib.Core.Bool.{false, not, Bool·beq}
 use mathlib.Core.List.{[], _∷_}
 use native.Mathlib.Omega.{arith}
 use borrow.Author.Needs.{needs}
-use borrow.Author.Tests.{eq-eqb, ne-eqb, not-false}
+use borrow.Author.Tests.{not-false}
 use lib.Dec.{eqb}
 use Rattle.rules.specs.Rules.{_⇒_}
 use Rattle.layout.specs.declared.Kind.{Kind}
@@ -56,13 +56,15 @@ read c =
 
 returns-4 : tie.Need-returns-4
 returns-4 c =
-    let r = c .before .before in
-    rw (c .fault3 .ensures, past2 (r .before .before), read r, ne-eqb _ _ (c .before .if4 .taken))
+    let k = c .before .before in
+    let r = k .before in
+    rw (c .fault3 .ensures, past2 (r .before .before), read r, ← k .is-known .ensures, c .before .if4 .taken)
 
 returns-5 : tie.Need-returns-5
 returns-5 c =
-    let r = c .before in
-    rw (past2 (r .before .before), read r, eq-eqb _ _ (c .if4 .left))
+    let k = c .before in
+    let r = k .before in
+    rw (past2 (r .before .before), read r, ← k .is-known .ensures, c .if4 .left)
 
 pub judge-head-spec : {M : Type 1} → statement M
 judge-head-spec =
@@ -77,6 +79,7 @@ judge-head-spec =
     returns-3
     (λ c. omega (arith, room (c .before .before .before .before .before .before .pre)))
     (λ c κs. omega (arith, room (c .before .before .before .before .before .before .pre)))
+    (λ c κs. search needs)
     (λ c κs. search needs)
     returns-4
     returns-5)
