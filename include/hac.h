@@ -60,7 +60,7 @@ enum {
     HAC_BAD_LENGTH = 5,          /* length not allowed */
     HAC_BAD_BACKLINK = 6,        /* backlink disagrees */
     HAC_MISPLACED_SIGNATURE = 7, /* first is no signature, or a later one is */
-    HAC_UNKNOWN_IDENTIFIER = 8,  /* identifier isn't 44204 */
+    HAC_UNKNOWN_IDENTIFIER = 8,  /* identifier is neither 44204 nor 44201 */
     HAC_UNFIT = 9,               /* length unfit for a listed type */
     HAC_BROKEN_SAMPLES = 10,     /* samples break a rule */
     HAC_OVERFULL = 11,           /* ping over 32,764 values, or writer's tuple over 262,144 */
@@ -198,7 +198,7 @@ uint8_t hac_write_c32(uint16_t time_fraction, uint32_t time_cpu, uint16_t softwa
    for a signature. A writer refuses by 19 alone, where nothing else is said. Characters are part of the file: a reader tells
    where they stand in it (.._PLACE) and how many they are (.._LENGTH). */
 
-/* Signature. The identifier, 44204, is no field: it is known when read and always written. */
+/* Signature. The identifier is no field: 44204 and 44201 are read, and 44204 is written. */
 enum { HAC_READ_SIGNATURE_ENTRIES = 8 };
 
 enum {

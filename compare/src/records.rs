@@ -105,7 +105,7 @@ header!(
 );
 
 macro_rules! kind {
-    ($name:literal, $type:ident, $chars:expr, [$($field:ident)*] $(, part $part:ident)? $(, own $own:ident)?) => {
+    ($name:literal, $type:ident, $chars:expr, [$($field:ident)*] $(, part $part:ident)?) => {
         Kind {
             reader: Export::named(concat!("read_", $name)),
             writer: Export::named(concat!("write_", $name)),
@@ -132,7 +132,6 @@ macro_rules! kind {
                 let _ = chars;
                 let record = $type {
                     $($field: Field::of(next()),)*
-                    $($own: 0,)?
                     $($part: chars,)?
                     tuple_attribute: Field::of(next()),
                 };
@@ -151,7 +150,7 @@ pub static KINDS: LazyLock<Vec<Kind>> = LazyLock::new(|| {
     vec![
         kind!("signature", Signature, Chars::None, [
             hac_version acquisition_software_version acquisition_software_identifier
-        ], own hac_identifier),
+        ]),
         kind!("sounder", Echosounder, Chars::Remarks, [
             number_of_software_channels echosounder_document_identifier sound_speed ping_interval
             transmitter_attenuation_setting multiplexing_mode blanking_at_tvg_max_range

@@ -42,7 +42,7 @@ codes! {
     5 BadLength "length not allowed"
     6 BadBacklink "backlink disagrees"
     7 MisplacedSignature "first is no signature, or a later one is"
-    8 UnknownIdentifier "identifier isn't 44204"
+    8 UnknownIdentifier "identifier is neither 44204 nor 44201"
     9 Unfit "length unfit for a listed type"
     10 BrokenSamples "samples break a rule"
     11 Overfull "ping over 32,764 values, or writer's tuple over 262,144"

@@ -7,8 +7,8 @@
 macro_rules! records {
     ($then:ident) => {
         $then! {
-            /// Signature, type 65535: TR Table 18. Its identifier, 44204, is no field: it is
-            /// known when read and always written.
+            /// Signature, type 65535: TR Table 18. Its identifier is no field: 44204 and 44201
+            /// are read, and 44204 is written.
             Signature = SIGNATURE: hac_read_signature[8] => (), hac_write_signature <= () {
                 hac_version: u16,
                 acquisition_software_version: u16,

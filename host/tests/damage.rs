@@ -146,7 +146,7 @@ fn tuples(known: &Known) -> Vec<Damaged> {
     vec![
         headless.refused("07-first", 7, hac::FIRST_PLACE),
         twice.refused("07-later", 7, again),
-        draft().broken("08-identifier", 8, 0, |tuple| tuple[6] = 0xA9),
+        draft().broken("08-identifier", 8, 0, |tuple| tuple[6] = 0xA8),
         draft().broken("09-unfit", 9, find(NAVIGATION), |tuple| tuple[4] = 20),
         draft().broken("10-count", 10, find(PING_C), |tuple| tuple[24] += 1),
         overfull.broken("11-values", 11, find(PING_C), |_| ()),

@@ -217,6 +217,42 @@ fn refused_readers() {
     assert_eq!(answer, Err(refused(Code::UnknownIdentifier, FIRST_PLACE)));
 }
 
+/// The cruise with another number for its signature's identifier.
+fn identified(name: &str, number: u16) -> Vec<u8> {
+    let Known { mut bytes, .. } = Known::sample(name);
+    let written = match name {
+        "cruise-lsb" => number.to_le_bytes(),
+        _ => number.to_be_bytes(),
+    };
+    bytes[FIRST_PLACE + 6..FIRST_PLACE + 8].copy_from_slice(&written);
+    bytes
+}
+
+/// Files with 44201, the number that TR's table prints, are read in both byte
+/// orders as those with 44204, and have their normal form; a third is refused.
+#[test]
+fn two_identifiers() {
+    let normal = normal_form(&identified("cruise-lsb", 44204)).expect("a normal form");
+    for name in ["cruise-lsb", "cruise-msb"] {
+        let [known, printed] = [44204, 44201].map(|number| identified(name, number));
+        assert_ne!(known, printed);
+        assert_eq!(check(&printed), check(&known));
+        let read = Signature::read(&printed, FIRST_PLACE);
+        assert_eq!(read, Signature::read(&known, FIRST_PLACE));
+        assert_eq!(normal_form(&printed).expect("a normal form"), normal);
+        for number in [0, 44200, 44202, 44203, 44205, 0xACA9_u16.swap_bytes(), u16::MAX] {
+            let refused = Refusal {
+                code: Code::UnknownIdentifier,
+                place: FIRST_PLACE,
+            };
+            let third = identified(name, number);
+            assert_eq!(check(&third), Err(refused));
+            assert_eq!(Signature::read(&third, FIRST_PLACE), Err(refused));
+            assert_eq!(normal_form(&third).err(), Some(refused));
+        }
+    }
+}
+
 /// Memory one byte short of the least tuple written here, and what stands in it.
 const SHORT: [u8; 27] = [7; 27];
 

@@ -92,8 +92,7 @@ fn ping_entry(file: &[u8], place: u64) -> Result<Entry, Answer> {
 fn entry(file: &[u8], tuple: Tuple) -> Result<Entry, Answer> {
     Ok(match tuple.code {
         layout::SIGNATURE => fields!(file, tuple, Signature:
-            hac_identifier hac_version acquisition_software_version
-            acquisition_software_identifier),
+            hac_version acquisition_software_version acquisition_software_identifier),
         layout::SOUNDER => fields!(file, tuple, Echosounder:
             number_of_software_channels echosounder_document_identifier sound_speed ping_interval
             transmitter_attenuation_setting multiplexing_mode blanking_at_tvg_max_range

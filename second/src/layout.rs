@@ -16,8 +16,13 @@ pub const START_OF_RUN: u16 = 65516;
 pub const END_OF_RUN: u16 = 65517;
 pub const END_OF_FILE: u16 = 65534;
 
-/// 0xACAC, which decides over TR's printed 44201.
+/// A signature's identifier, 0xACAC, which decides over TR's printed 44201: the
+/// one that is written.
 pub const HAC_IDENTIFIER: u16 = 44204;
+/// The decimal number that TR's table prints beside 0xACAC. Two institutes wrote
+/// their recorders from it, and their files are sound otherwise: so it is read as
+/// well, says nothing more than the other, and is never written.
+pub const PRINTED_IDENTIFIER: u16 = 44201;
 
 pub const FILE_LIMIT: u64 = 16_777_216;
 pub const TUPLE_LEAST: u64 = 16;
@@ -35,6 +40,9 @@ pub enum Field {
     SignedTwo,
     Four,
     SignedFour,
+    /// A signature's identifier: either known number when read, 44204 when
+    /// written, and so no content.
+    Identifier,
     /// Characters, never turned.
     Chars(usize),
     /// A space: anything when read, 0 when written.
@@ -51,7 +59,7 @@ impl Field {
     /// The width where it doesn't hang on the tuple's length, else 0.
     pub const fn width(self) -> usize {
         match self {
-            Two | SignedTwo => 2,
+            Two | SignedTwo | Identifier => 2,
             Four | SignedFour => 4,
             Chars(n) | Space(n) => n,
             Text | Pairs | Words => 0,
@@ -108,7 +116,7 @@ const fn open(
 /// The thirteen listed types, one row each.
 #[rustfmt::skip]
 pub static LAYOUTS: [Layout; 13] = [
-    fixed(SIGNATURE, "signature", 24, &[Two, Two, Two, Four]),
+    fixed(SIGNATURE, "signature", 24, &[Identifier, Two, Two, Four]),
     fixed(SOUNDER, "echosounder", 72, &[
         Two, Four, Two, Two, SignedTwo, Two, SignedTwo, Two, Two, SignedTwo, Two, Two,
         Chars(30), Space(2),
@@ -160,6 +168,11 @@ pub fn layout(code: u16) -> Option<&'static Layout> {
 
 pub fn is_listed(code: u16) -> bool {
     layout(code).is_some()
+}
+
+/// Whether a number is read as a signature's identifier; every other gives 8.
+pub fn is_identifier(number: u16) -> bool {
+    matches!(number, HAC_IDENTIFIER | PRINTED_IDENTIFIER)
 }
 
 impl Layout {
@@ -233,6 +246,13 @@ mod tests {
         }
         let listed = (0..=u16::MAX).filter(|code| is_listed(*code)).count();
         assert_eq!(listed, 13);
+    }
+
+    #[test]
+    fn two_identifiers() {
+        assert_eq!(HAC_IDENTIFIER, 0xACAC);
+        let known: Vec<u16> = (0..=u16::MAX).filter(|n| is_identifier(*n)).collect();
+        assert_eq!(known, [44201, 44204]);
     }
 
     #[test]

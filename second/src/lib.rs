@@ -1,5 +1,6 @@
-//! The second program: the rules of document 01 in plain Rust, written from
-//! 01, its page of readings and TR 2174 alone.
+//! The second program: the rules of document 01, with the landed requests of
+//! 02, in plain Rust, written from these, their pages of readings and TR 2174
+//! alone.
 //!
 //! One module a chapter. Every public function answers on every input: none
 //! panics, and a refused call leaves all lent memory as it was.

@@ -2,7 +2,7 @@
 
 use crate::answer::Answer;
 use crate::check::survey;
-use crate::layout::{self, class, Class, Field, FILE_LIMIT, ROW_START};
+use crate::layout::{self, class, Class, Field, FILE_LIMIT, HAC_IDENTIFIER, ROW_START};
 use crate::order::{four_at, put_four, put_two, two_at, Order};
 use crate::samples::{words_of, words_to_pairs, COUNT_AT, PAIRS_AT, SILENT_WORD, TAIL, WORDS_AT};
 use crate::walk::frame;
@@ -57,7 +57,7 @@ pub(crate) fn write_normal(tuple: &[u8], code: u16, order: Order, out: &mut [u8]
     out.len()
 }
 
-/// An LSB tuple: its bytes, with 0 in the spaces.
+/// An LSB tuple: its bytes, with 0 in the spaces and 44204 in a signature.
 fn copy_row(tuple: &[u8], code: u16, out: &mut [u8]) {
     out.copy_from_slice(tuple);
     let Some(layout) = layout::layout(code) else {
@@ -65,8 +65,10 @@ fn copy_row(tuple: &[u8], code: u16, out: &mut [u8]) {
     };
     let mut at = ROW_START;
     for field in layout.row {
-        if let Field::Space(width) = field {
-            out[at..at + width].fill(0);
+        match field {
+            Field::Space(width) => out[at..at + width].fill(0),
+            Field::Identifier => put_two(Order::Lsb, out, at, HAC_IDENTIFIER),
+            _ => {}
         }
         at += field.width();
     }
@@ -85,6 +87,7 @@ fn turn_row(tuple: &[u8], code: u16, out: &mut [u8]) {
         };
         match field {
             Field::Two | Field::SignedTwo => turn_two(tuple, out, at),
+            Field::Identifier => put_two(Order::Lsb, out, at, HAC_IDENTIFIER),
             Field::Chars(_) | Field::Text => out[at..end].copy_from_slice(&tuple[at..end]),
             Field::Space(_) => out[at..end].fill(0),
             _ => turn_fours(&tuple[at..end], &mut out[at..end]),

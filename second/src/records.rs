@@ -4,7 +4,7 @@
 //! rows of `layout`, which are those of 01.
 
 use crate::answer::{Answer, Reply};
-use crate::layout::{self, HAC_IDENTIFIER, PING_C32, PING_U32, TUPLE_LIMIT};
+use crate::layout::{self, is_identifier, HAC_IDENTIFIER, PING_C32, PING_U32, TUPLE_LIMIT};
 use crate::links::{DocumentId, SoftwareChannel, TransceiverNumber};
 use crate::order::{four_at, put_four, put_two, two_at, Order};
 use crate::samples::judge_ping;
@@ -93,7 +93,7 @@ pub(crate) fn listed_tuple<'a>(
 pub(crate) fn judge_fields(tuple: &[u8], code: u16, order: Order) -> Result<(), u32> {
     match layout::layout(code) {
         Some(layout) if !layout.fits(tuple.len() as u64) => Err(9),
-        Some(_) if code == layout::SIGNATURE && two_at(order, tuple, 6) != HAC_IDENTIFIER => Err(8),
+        Some(_) if code == layout::SIGNATURE && !is_identifier(two_at(order, tuple, 6)) => Err(8),
         _ => Ok(()),
     }
 }
@@ -189,9 +189,9 @@ macro_rules! plain_writer {
 }
 
 record! {
-    /// Table 18.
+    /// Table 18. Its identifier, at 6, is no field: which of the two known numbers
+    /// a file has says nothing.
     Signature = layout::SIGNATURE;
-    hac_identifier: u16 = 6,
     hac_version: u16 = 8,
     acquisition_software_version: u16 = 10,
     acquisition_software_identifier: u32 = 12,

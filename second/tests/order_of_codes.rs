@@ -108,8 +108,11 @@ fn check_answers() {
     let crooked_signature = "0e000000 ffff acac 6400 6400 acac01df 00000000 19000000";
     let crooked_position = POSITION.replace("24000000", "25000000");
     let long_signature = "12000000 ffff acac 6400 6400 acac01df 00000000 00000000 1c000000";
-    let long_strange_signature = "12000000 ffff a9ac 6400 6400 acac01df 00000000 00000000 1c000000";
-    let strange_signature = "0e000000 ffff a9ac 6400 6400 acac01df 00000000 18000000";
+    // 44203, which is no identifier, and 44201, which is one
+    let long_strange_signature = "12000000 ffff abac 6400 6400 acac01df 00000000 00000000 1c000000";
+    let strange_signature = "0e000000 ffff abac 6400 6400 acac01df 00000000 18000000";
+    let long_printed_signature = long_strange_signature.replace("abac", "a9ac");
+    let printed_signature = strange_signature.replace("abac", "a9ac");
     let short_position = "06000000 1400 0000 00000000 10000000";
     let short_end = "0a000000 feff 0000 00000000 00000000 14000000";
     // sounder 1 once more, but 76 bytes long
@@ -152,14 +155,18 @@ fn check_answers() {
         // 7 before 9 and 8
         ("7 before 9, second signature", six(&[long_signature, END]), 7, 284),
         ("7 before 8, second signature", six(&[strange_signature, END]), 7, 284),
+        ("7, second signature with 44201", six(&[&printed_signature, END]), 7, 284),
         ("7 before 9, no signature", file(&[short_position, SIGNATURE, END]), 7, 4),
         ("7, end of file first", file(&[END]), 7, 4),
         ("7 before 9, short end of file first", file(&[short_end]), 7, 4),
         ("7 before 13, ping first", file(&[&ping(1), SIGNATURE, END]), 7, 4),
-        // 9 before 8: 28 bytes and 44201
+        // 9 before 8: 28 bytes and 44203
         ("9 before 8", file(&[long_strange_signature, END]), 9, 4),
         ("9", file(&[long_signature, END]), 9, 4),
+        ("9 with 44201", file(&[&long_printed_signature, END]), 9, 4),
         ("8", file(&[strange_signature, END]), 8, 4),
+        ("no 8 with 44201", file(&[&printed_signature, END]), 16, 52),
+        ("no 8 with 44201, sound", file(&[&printed_signature, &sounder(1, 1), &channel(1, 1), POSITION, &ping(1), END]), 0, 0),
         // 9 before 12, 13, and what comes behind
         ("9 before 12", six(&[&long_sounder, END]), 9, 284),
         ("9 before 12 and 13", six(&[&long_channel, END]), 9, 284),

@@ -77,13 +77,18 @@ fn second_program_alone() {
         ("040000007eff00000000000010000000", "refused 5 4"),
         ("0a0000007eff00000000000010000000", "refused 3 4"),
         ("0600000014000000000000001000000000", "refused 9 4"),
+        // 44203, without and with a byte behind; 44201, which is read, with one
         (
-            "0e000000ffffa9ac64006400acac01df0000000018000000",
+            "0e000000ffffabac64006400acac01df0000000018000000",
+            "refused 8 4",
+        ),
+        (
+            "0e000000ffffabac64006400acac01df000000001800000000",
             "refused 8 4",
         ),
         (
             "0e000000ffffa9ac64006400acac01df000000001800000000",
-            "refused 8 4",
+            "refused 15 28",
         ),
     ] {
         assert_eq!(
@@ -93,7 +98,14 @@ fn second_program_alone() {
     }
     assert_eq!(two(""), "refused 2 0\n");
     assert_eq!(two("ac0000"), "refused 2 0\n");
-    // end of file and signature are tuples like others here
+    // end of file and signature are tuples like others here; 44201 becomes 44204
+    let signature = "0e000000ffffacac64006400acac01df0000000018000000";
+    for spelled in [signature, &signature.replacen("acac", "a9ac", 1)] {
+        assert_eq!(
+            two(&format!("{mark}{spelled}")),
+            format!("{mark}{signature}\n")
+        );
+    }
     let end = "0e000000feff0000000000000000aabb0000000018000000";
     assert_eq!(two(&format!("{mark}{end}")), format!("{mark}{end}\n"));
     assert_eq!(two(&format!("{mark}{end}\n{end}")), "refused 15 28\n");

@@ -68,7 +68,6 @@ fn records_in_both_orders() {
             Signature,
             24,
             Signature {
-                hac_identifier: 44204,
                 hac_version: tf,
                 acquisition_software_version: tf ^ 1,
                 acquisition_software_identifier: time,
@@ -239,6 +238,7 @@ fn read_and_written_again() {
         let mut rng = Rng::of_case(seed, index);
         let drafts = sound_drafts(&mut rng, &Wish::any());
         let style = Style {
+            printed: false,
             rubbish: false,
             cut: false,
             trail: false,
@@ -342,20 +342,25 @@ fn write_again(file: &[u8], place: u64, code: u16, order: Order) -> Option<Vec<u
     Some(out)
 }
 
+/// Whatever the file has that it was read from.
 #[test]
 fn a_signature_always_has_44204() {
-    let signature = Signature {
-        hac_identifier: 44201,
-        hac_version: 100,
-        acquisition_software_version: 100,
-        acquisition_software_identifier: 0xDF01_ACAC,
-        tuple_attribute: 0,
-    };
-    let tuple = written(24, |out| signature.write(Order::Lsb, out));
-    assert_eq!(
-        tuple,
-        common::bytes("0e000000ffffacac64006400acac01df0000000018000000")
-    );
+    let lsb = "0e000000 ffff acac 6400 6500 acac01df 00000000 18000000";
+    let msb = "0000000e ffff acac 0064 0065 df01acac 00000000 00000018";
+    let read = [
+        (Order::Lsb, lsb.to_string()),
+        (Order::Lsb, lsb.replace("ffff acac", "ffff a9ac")),
+        (Order::Msb, msb.to_string()),
+        (Order::Msb, msb.replace("ffff acac", "ffff aca9")),
+    ];
+    for (order, tuple) in read {
+        let file = behind_mark(order, &common::bytes(&tuple));
+        let (_, signature) = Signature::read(&file, 4).unwrap();
+        for (order, expected) in [(Order::Lsb, lsb), (Order::Msb, msb)] {
+            let again = written(24, |out| signature.write(order, out));
+            assert_eq!(again, common::bytes(expected), "{tuple}");
+        }
+    }
 }
 
 #[test]

@@ -49,7 +49,7 @@ identifiedBy pairs o t = true
 identifiedBy words o t = true
 identifiedBy unlisted o t = true
 
--- 9: length unfit for a listed type; 8: identifier isn't 44204
+-- 9: length unfit for a listed type; 8: identifier is neither 44204 nor 44201
 abbrev pub headRules : Bool → Tup → List (Rule ℕ)
 headRules o t =
     (not (fitting (lengthsOf (t .kind)) (lengthOf t)) ⇒ 9)

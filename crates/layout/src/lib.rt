@@ -51,8 +51,10 @@ pub enum Kind {
     Unlisted,
 }
 
-// The signature's identifier, as it is written.
+// The signature's identifier, as it is written; and the number that TR's table prints in its place, which some recorders write.
 pub const IDENTIFIER: u16 = 44204;
+
+pub const PRINTED_IDENTIFIER: u16 = 44201;
 
 // The listed types, and the longest of their rows.
 pub const LISTED: usize = 13;
@@ -123,7 +125,10 @@ pub fn refuse(code: u8, place: usize) -> Answer
 pub fn is_known(identifier: u16) -> bool
     ensures { λ r. ⌜ r ≡ known identifier ⌝ }
 {
-    identifier == IDENTIFIER
+    if identifier == IDENTIFIER {
+        return true;
+    }
+    identifier == PRINTED_IDENTIFIER
 }
 
 // Whether a type code is of a class.

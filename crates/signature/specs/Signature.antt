@@ -1,4 +1,4 @@
--- Signature, type 65535: TR Table 18. Its identifier, 44204, is no field: it is known when read and always written. Assumes nothing.
+-- Signature, type 65535: TR Table 18. Its identifier is no field: 44204 and 44201 are read, 44204 is written. Assumes nothing.
 use mathlib.Core.Path.{_≡_, sym, _∙_}
 use Prim.Native.Nat.{ℕ}
 use mathlib.Core.Bool.{Bool}

@@ -9,7 +9,7 @@ use second::walk::{forward, Step};
 use second::{normalise, Order};
 use std::path::Path;
 use std::{env, fs, io, process};
-use Piece::{Chars, Four, Space, Two};
+use Piece::{Chars, Four, Identifier, Space, Two};
 
 /// The cruise's first second, ANSI C time: 14 July 1998, 9 o'clock.
 const START: u32 = 900_406_800;
@@ -57,7 +57,7 @@ fn timed(code: u16, fraction: u16, seconds: u32, rest: Vec<Piece>) -> Draft {
 }
 
 fn signature() -> Draft {
-    let pieces = vec![Two(HAC_IDENTIFIER), Two(100), Two(312), Four(0xDF01_ACAC)];
+    let pieces = vec![Identifier, Two(100), Two(312), Four(0xDF01_ACAC)];
     draft(SIGNATURE, Body::Fields(pieces))
 }
 

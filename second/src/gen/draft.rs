@@ -11,6 +11,8 @@ pub enum Piece {
     Chars(Vec<u8>),
     /// A space of two bytes.
     Space,
+    /// A signature's identifier; the style says which of the two numbers.
+    Identifier,
 }
 
 #[derive(Clone, PartialEq, Eq, Debug)]
@@ -88,6 +90,8 @@ pub enum PingStyle {
 #[derive(Clone, Debug)]
 pub struct Style {
     pub order: Order,
+    /// TR's printed 44201 in the signature, in place of 44204.
+    pub printed: bool,
     /// Rubbish in the spaces.
     pub rubbish: bool,
     pub pings: PingStyle,
@@ -111,6 +115,7 @@ impl Style {
     pub fn any_lsb(rng: &mut Rng) -> Style {
         Style {
             order: Order::Lsb,
+            printed: rng.chance(40),
             rubbish: rng.chance(60),
             pings: rng.pick(&[PingStyle::U32, PingStyle::C32, PingStyle::Mixed]),
             cut: rng.chance(50),
@@ -122,6 +127,7 @@ impl Style {
     pub fn plain(order: Order) -> Style {
         Style {
             order,
+            printed: false,
             rubbish: false,
             pings: PingStyle::U32,
             cut: false,
@@ -188,6 +194,8 @@ impl Pen {
                 Piece::Chars(chars) => self.bytes.extend(chars),
                 Piece::Space if style.rubbish => self.two(rng.two()),
                 Piece::Space => self.two(0),
+                Piece::Identifier if style.printed => self.two(44201),
+                Piece::Identifier => self.two(44204),
             }
         }
     }

@@ -151,6 +151,24 @@ fn unfit(rng: &mut Rng) -> Draft {
     }
 }
 
+/// An identifier that is neither 44201 nor 44204: one beside them, one at an end,
+/// 44201 with its bytes swapped (44204 stays itself), a half of either, or any.
+pub(super) fn third_identifier(rng: &mut Rng) -> u16 {
+    const THIRD: [u16; 12] = [
+        44200, 44202, 44203, 44205, 0, 65535, 0xA9AC, 0xA9A9, 0x00AC, 0xAC00, 0x00A9, 0xA900,
+    ];
+    loop {
+        let number = if rng.chance(80) {
+            rng.pick(&THIRD)
+        } else {
+            rng.two()
+        };
+        if number != 44201 && number != 44204 {
+            return number;
+        }
+    }
+}
+
 fn bad_pairs(rng: &mut Rng, channel: u16) -> Draft {
     let before = rng.below(5) as u32;
     let mut pairs: Vec<(u32, u32)> = (0..before).map(|n| (n * 3 + 1, rng.four())).collect();
@@ -272,7 +290,7 @@ fn spoil(drafts: &mut Vec<Draft>, at: usize, kind: Kind, rng: &mut Rng) -> Optio
         Kind::SecondSignature => {
             let mut second = signature(rng);
             match rng.below(3) {
-                0 => second.pieces()[0] = Piece::Two(44201),
+                0 => second.pieces()[0] = Piece::Two(third_identifier(rng)),
                 1 => second.body = Body::Raw(rng.bytes(18)),
                 _ => {}
             }
@@ -479,8 +497,7 @@ fn whole_file_fault(
             expected = Some((7, 4));
         }
         Kind::Identifier => {
-            let wrong = rng.pick(&[44201, 0, 44203, 44205, 0xACAD]);
-            drafts[0].pieces()[0] = Piece::Two(wrong);
+            drafts[0].pieces()[0] = Piece::Two(third_identifier(rng));
             expected = Some((8, 4));
         }
         Kind::UnfitSignature => {

@@ -79,6 +79,23 @@ fn channels_case(count: u16, style: &Style) -> Case {
     case(format!("channels-{count}"), &drafts, style, last, code)
 }
 
+/// The numbers from below the two known identifiers to above them.
+const IDENTIFIERS: [(u16, u32); 6] = [
+    (44200, 8),
+    (44201, 0),
+    (44202, 8),
+    (44203, 8),
+    (44204, 0),
+    (44205, 8),
+];
+
+fn identifier_case(nth: usize, style: &Style) -> Case {
+    let (number, code) = IDENTIFIERS[nth];
+    let mut drafts = base(&mut Rng::new(number.into()));
+    drafts[0].pieces()[0] = Piece::Two(number);
+    case(format!("identifier-{number}"), &drafts, style, 0, code)
+}
+
 /// A C-32 ping of given words, rightly counted.
 fn words_draft(rng: &mut Rng, words: Vec<u32>) -> Draft {
     let count = words.iter().filter(|word| **word >> 16 != 0xFFFF).count() as u32;
@@ -220,6 +237,9 @@ fn makers() -> Vec<Maker> {
     for count in [63, 64, 65] {
         makers.push(Box::new(move |style| channels_case(count, style)));
     }
+    for nth in 0..IDENTIFIERS.len() {
+        makers.push(Box::new(move |style| identifier_case(nth, style)));
+    }
     for (name, words, code) in WORDS {
         makers.push(Box::new(move |style| {
             words_case(name, words.to_vec(), style, code)
@@ -248,11 +268,13 @@ pub fn limit_count() -> usize {
     makers().len() * 2
 }
 
-/// A limit case of at most about half a megabyte; each in both orders.
+/// A limit case of at most about half a megabyte; each in both orders, every
+/// other one with 44201 in its signature.
 pub fn limit(nth: usize) -> Case {
     let makers = makers();
     let order = Order::BOTH[nth % 2];
     let style = Style {
+        printed: nth / 2 % 2 == 1,
         rubbish: true,
         ..Style::plain(order)
     };

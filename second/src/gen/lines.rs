@@ -1,7 +1,7 @@
 //! Text inputs for the two programs.
 
-use super::draft::{render, Body, Draft, PingStyle, Rendered, Style};
-use super::faults::{fault, random_damage, FAULT_KINDS};
+use super::draft::{render, Body, Draft, Piece, PingStyle, Rendered, Style};
+use super::faults::{fault, random_damage, third_identifier, FAULT_KINDS};
 use super::sound::*;
 use super::Rng;
 use crate::layout::LAYOUTS;
@@ -65,6 +65,7 @@ fn one_tuple(rng: &mut Rng) -> (Draft, Style) {
             let samples = sample_list(rng, true);
             ping(rng, 9, samples)
         }
+        4 => signature(rng),
         _ => drafts[rng.index(drafts.len())].clone(),
     };
     (draft, style)
@@ -82,7 +83,7 @@ fn tuple_file(rng: &mut Rng) -> Vec<u8> {
 /// One tuple with something wrong, or something behind it.
 fn damaged_tuple_file(rng: &mut Rng) -> Vec<u8> {
     let mut bytes = tuple_file(rng);
-    match rng.below(8) {
+    match rng.below(9) {
         0 => bytes.truncate(4),
         1 => bytes.truncate(rng.index(bytes.len())),
         2 => bytes.extend([0]),
@@ -100,6 +101,12 @@ fn damaged_tuple_file(rng: &mut Rng) -> Vec<u8> {
             let data = 6 + 4 * rng.index(28);
             let data = rng.bytes(data);
             let draft = Draft::new(rng, layout.code, Body::Raw(data));
+            let style = Style::any(rng);
+            bytes = render(&[draft], &style, rng).bytes;
+        }
+        6 => {
+            let mut draft = signature(rng);
+            draft.pieces()[0] = Piece::Two(third_identifier(rng));
             let style = Style::any(rng);
             bytes = render(&[draft], &style, rng).bytes;
         }

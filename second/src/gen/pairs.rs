@@ -23,19 +23,40 @@ fn any_wish(rng: &mut Rng) -> Wish {
     }
 }
 
-/// Two files of the same drafts in two styles.
+/// Two files of the same drafts: in two styles, or in one and apart in the
+/// signature's identifier alone.
 pub fn equal_pair(rng: &mut Rng) -> (Vec<u8>, Vec<u8>) {
     let wish = any_wish(rng);
     let drafts = sound_drafts(rng, &wish);
-    let (one, other) = (any_style(rng, &wish), any_style(rng, &wish));
+    let one = any_style(rng, &wish);
+    if rng.chance(20) {
+        return identifier_pair(rng, &drafts, one);
+    }
+    let other = any_style(rng, &wish);
     let one = render(&drafts, &one, rng).bytes;
     (one, render(&drafts, &other, rng).bytes)
 }
 
-/// The pieces that no link and no other rule hangs on.
+/// The same bytes but for 44201 in the one and 44204 in the other.
+fn identifier_pair(rng: &mut Rng, drafts: &[Draft], one: Style) -> (Vec<u8>, Vec<u8>) {
+    let other = Style {
+        printed: !one.printed,
+        ..one.clone()
+    };
+    // The same stream for both, so that rubbish, cuts and index tuples are the same.
+    let again = &mut rng.clone();
+    let one = render(drafts, &one, rng).bytes;
+    (one, render(drafts, &other, again).bytes)
+}
+
+/// Whether the style alone says what a piece becomes.
+fn is_style(piece: &Piece) -> bool {
+    matches!(piece, Piece::Space | Piece::Identifier)
+}
+
+/// The pieces that are content and that no link and no other rule hangs on.
 fn free_pieces(draft: &Draft) -> Vec<usize> {
     let (pieces, bound): (&[Piece], &[usize]) = match (&draft.body, draft.code) {
-        (Body::Fields(pieces), 65535) => (pieces, &[0]),
         (Body::Fields(pieces), 100 | 1000) => (pieces, &[0, 1]),
         (Body::Fields(pieces), 40 | 10100) => (pieces, &[2]),
         (Body::Fields(pieces), _) => (pieces, &[]),
@@ -43,7 +64,7 @@ fn free_pieces(draft: &Draft) -> Vec<usize> {
         _ => (&[], &[]),
     };
     (0..pieces.len())
-        .filter(|at| !bound.contains(at) && pieces[*at] != Piece::Space)
+        .filter(|at| !bound.contains(at) && !is_style(&pieces[*at]))
         .collect()
 }
 
@@ -60,7 +81,7 @@ fn change_piece(rng: &mut Rng, draft: &mut Draft) -> bool {
             let at = rng.index(chars.len());
             chars[at] ^= 1 << rng.below(8);
         }
-        Piece::Space => return false,
+        Piece::Space | Piece::Identifier => return false,
     }
     true
 }

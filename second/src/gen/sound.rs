@@ -3,7 +3,7 @@
 use super::draft::{Body, Draft, Piece};
 use super::Rng;
 use crate::layout::{class, is_listed, Class};
-use Piece::{Chars, Four, Space, Two};
+use Piece::{Chars, Four, Identifier, Space, Two};
 
 /// What a sound file is to have.
 #[derive(Clone, Debug)]
@@ -35,7 +35,7 @@ impl Wish {
 }
 
 pub(super) fn signature(rng: &mut Rng) -> Draft {
-    let pieces = vec![Two(44204), Two(rng.two()), Two(rng.two()), Four(rng.four())];
+    let pieces = vec![Identifier, Two(rng.two()), Two(rng.two()), Four(rng.four())];
     Draft::fields(rng, 65535, pieces)
 }
 
