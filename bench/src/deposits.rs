@@ -53,16 +53,15 @@ impl Chance {
 }
 
 /// A deposit while tuples are put to it.
-struct Draft {
+pub struct Draft {
     order: Order,
     bytes: Vec<u8>,
     tuple: Vec<u8>,
 }
 
 impl Draft {
-    /// Mark, signature, sounder, channels, position and a ping, so that the
-    /// deposit is accepted whatever follows.
-    fn new(order: Order, channels: u16) -> Result<Draft, Refusal> {
+    /// Mark and signature.
+    pub fn begun(order: Order) -> Result<Draft, Refusal> {
         let bytes = order.mark().to_vec();
         let tuple = vec![0; TUPLE_LIMIT];
         let mut draft = Draft {
@@ -70,9 +69,23 @@ impl Draft {
             bytes,
             tuple,
         };
-        let remarks = [b' '; REMARK];
         let signature = Signature::default();
         draft.put(|tuple| signature.write(order, tuple))?;
+        Ok(draft)
+    }
+
+    /// The end of file behind all.
+    pub fn ended(mut self) -> Result<Vec<u8>, Refusal> {
+        let order = self.order;
+        self.put(|tuple| FileEnd::default().write(order, tuple))?;
+        Ok(self.bytes)
+    }
+
+    /// Mark, signature, sounder, channels, position and a ping, so that the
+    /// deposit is accepted whatever follows.
+    fn new(order: Order, channels: u16) -> Result<Draft, Refusal> {
+        let mut draft = Draft::begun(order)?;
+        let remarks = [b' '; REMARK];
         let sounder = Sounder {
             number_of_software_channels: channels,
             echosounder_document_identifier: SOUNDER,
@@ -93,7 +106,8 @@ impl Draft {
         Ok(draft)
     }
 
-    fn put(
+    /// Puts a tuple behind the others.
+    pub fn put(
         &mut self,
         write: impl FnOnce(&mut [u8]) -> Result<usize, Refusal>,
     ) -> Result<(), Refusal> {
@@ -110,8 +124,7 @@ impl Draft {
         mut write: impl FnMut(Order, u32, &mut [u8]) -> Result<usize, Refusal>,
     ) -> Result<Vec<u8>, Refusal> {
         let order = self.order;
-        let end = FileEnd::default();
-        let room = limit - end.write(order, &mut self.tuple)?;
+        let room = limit - FileEnd::default().write(order, &mut self.tuple)?;
         for count in 0.. {
             let length = write(order, count, &mut self.tuple)?;
             if self.bytes.len() + length > room {
@@ -119,8 +132,7 @@ impl Draft {
             }
             self.bytes.extend_from_slice(&self.tuple[..length]);
         }
-        self.put(|tuple| end.write(order, tuple))?;
-        Ok(self.bytes)
+        self.ended()
     }
 }
 

@@ -6,6 +6,7 @@
 
 mod count;
 mod deposits;
+mod limits;
 mod stack;
 
 use deposits::Deposit;
