@@ -11,6 +11,7 @@ use Rattle.layout.specs.declared.Kind.the-variants.{Signature, Sounder, Channel
 use Rattle.layout.specs.Fields.{Field, s, c, size}
 use Rattle.layout.specs.Types
 use Rattle.layout.specs.Types.{Shape, indexed, row, pairs, words, unlisted, kindOf, shapeOf, lengthsOf, fitting, inClass}
+use Rattle.layout.specs.Answers.{Breach, _byte_}
 use Rattle.turning.specs.Rows.{Value, number, text, valuesOf, identified}
 use Rattle.frame.specs.Frames.{Tup, lengthOf}
 use Rattle.samples.specs.Judging.{pairRules, wordRules}
@@ -50,21 +51,21 @@ identifiedBy words o t = true
 identifiedBy unlisted o t = true
 
 -- 9: length unfit for a listed type; 8: identifier is neither 44204 nor 44201
-abbrev pub headRules : Bool → Tup → List (Rule ℕ)
+abbrev pub headRules : Bool → Tup → List (Rule Breach)
 headRules o t =
-    (not (fitting (lengthsOf (t .kind)) (lengthOf t)) ⇒ 9)
-    ∷ (not (identifiedBy (shapeOf (t .kind)) o t) ⇒ 8)
+    (not (fitting (lengthsOf (t .kind)) (lengthOf t)) ⇒ 9 byte 0)
+    ∷ (not (identifiedBy (shapeOf (t .kind)) o t) ⇒ 8 byte 0)
     ∷ []
 
 -- 11: ping over 32,764 values; 10: samples break a rule
-abbrev pub innerBy : Shape → Bool → Tup → List (Rule ℕ)
+abbrev pub innerBy : Shape → Bool → Tup → List (Rule Breach)
 innerBy indexed o t = []
 innerBy (row fs x) o t = []
 innerBy pairs o t = pairRules (contentU o (t .body) .samples)
 innerBy words o t = wordRules (countIn o (t .body)) (wordsIn headC o (t .body))
 innerBy unlisted o t = []
 
-abbrev pub innerRules : Bool → Tup → List (Rule ℕ)
+abbrev pub innerRules : Bool → Tup → List (Rule Breach)
 innerRules o t = innerBy (shapeOf (t .kind)) o t
 
 -- ---- what a tuple says to the others, by its content alone

@@ -13,7 +13,7 @@ use Rattle.rules.proofs.Laws.{Silent, clear, all-pass}
 use Rattle.layout.specs.declared.Answer.{Answer}
 use Rattle.layout.specs.declared.Answer.the-variants.{Accepted, Refused}
 use Rattle.layout.specs.declared.Verdict.the-variants.{Fine}
-use Rattle.layout.specs.Answers.{judged}
+use Rattle.layout.specs.Answers.{judged, Breach, refusedAt}
 use Rattle.layout.proofs.Verdicts.{passed}
 use Rattle.frame.specs.Frames.{lenAt, kindAt, tupAt, frameRules, framing}
 use Rattle.frame.specs.Files.{limit, isMsb, fileRules}
@@ -59,7 +59,7 @@ said : {A : Type 0} {r s x : A} {P : Type 0} → r ≡ s → (s ≡ x) ↔ P →
 said q h = (λ e. h .0 (sym q ∙ e), λ k. q ∙ h .1 k)
 
 -- ---- lists of refusals accept nothing
-silent-saying : (p : ℕ) (rs : List (Rule ℕ)) → Silent isAccepted (saying (λ (c : ℕ). Refused c p) rs)
+silent-saying : (p : ℕ) (rs : List (Rule Breach)) → Silent isAccepted (saying (refusedAt p) rs)
 silent-saying p [] = tt
 silent-saying p ((b ⇒ c) ∷ rs) = (refl, silent-saying p rs)
 
@@ -113,19 +113,16 @@ module _ (f : List ℕ) (room : ℕ) where
 
 -- ---- one tuple
 module _ (f : List ℕ) (room : ℕ) where
-  abbrev at : ℕ → ℕ → Answer
-  at p c = Refused c p
-
-  abbrev own : List (Rule ℕ)
+  abbrev own : List (Rule Breach)
   own = let o = isMsb f in let t = tupAt o (drop 4 f) in headRules o t ++ innerRules o t
 
-  abbrev alone : List (Rule ℕ)
+  abbrev alone : List (Rule Breach)
   alone = frameRules (isMsb f) (drop 4 f) ++ own
 
   silent : Silent isAccepted (singleRules f room)
   silent =
-      silent-append (saying (at 0) (fileRules f)) (saying (at 4) alone ++ behindRules f room) (silent-saying 0 (fileRules f))
-      (silent-append (saying (at 4) alone) (behindRules f room) (silent-saying 4 alone) (refl, (refl, (refl, tt))))
+      silent-append (saying (refusedAt 0) (fileRules f)) (saying (refusedAt 4) alone ++ behindRules f room) (silent-saying 0 (fileRules f))
+      (silent-append (saying (refusedAt 4) alone) (behindRules f room) (silent-saying 4 alone) (refl, (refl, (refl, tt))))
 
   -- a tuple that keeps its rules is sound, and its form at most twice as long
   small : AllPass (singleRules f room) → length (singleForm f) ≤ limit
@@ -133,9 +130,9 @@ module _ (f : List ℕ) (room : ℕ) where
   small h =
       let o = isMsb f in
       let r = drop 4 f in
-      let a = kept-append (saying (at 0) (fileRules f)) (saying (at 4) alone ++ behindRules f room) h in
-      let file = kept-saying (at 0) (fileRules f) (a .0) in
-      let b = kept-append (frameRules o r) own (kept-saying (at 4) alone (kept-append (saying (at 4) alone) (behindRules f room) (a .1) .0)) in
+      let a = kept-append (saying (refusedAt 0) (fileRules f)) (saying (refusedAt 4) alone ++ behindRules f room) h in
+      let file = kept-saying (refusedAt 0) (fileRules f) (a .0) in
+      let b = kept-append (frameRules o r) own (kept-saying (refusedAt 4) alone (kept-append (saying (refusedAt 4) alone) (behindRules f room) (a .1) .0)) in
       let s : SoundHere o f 4 (lenAt o r) (kindAt o r) =
       record { within = marked-4 f (not-false _ (file .1 .0)); here = record { framed = passed (frameRules o r) (b .0); size = refl; kind = refl }; own = passed own (b .1) } in
       omega (arith, single-length f, at-most-twice s, most s)

@@ -3,7 +3,7 @@ use mathlib.Core.Path.{_≡_, refl, sym, ap, ap₂, subst, _∙_}
 use mathlib.Core.Bool.{Bool, true, false}
 use mathlib.Core.List.{List, [], _∷_, _++_}
 use mathlib.Core.Option.{Option, some, none}
-use Prim.Native.Nat.{ℕ, _≤_}
+use Prim.Native.Nat.{ℕ, _+_, _≤_}
 use borrow.Author.Tests.{ltb-false}
 use lib.ListN.{length, drop}
 use Rattle.order.specs.Order.{Bytes}
@@ -12,7 +12,7 @@ use Rattle.rules.specs.Rules.{Rule, _⇒_, firstOf, saying, AllPass}
 use Rattle.rules.proofs.Laws.{clear}
 use Rattle.layout.specs.declared.Answer.{Answer}
 use Rattle.layout.specs.declared.Answer.the-variants.{Accepted, Refused}
-use Rattle.layout.specs.Answers.{judged}
+use Rattle.layout.specs.Answers.{judged, Breach, refusedAt}
 use Rattle.layout.proofs.Verdicts.{passed, both-left, both-right, judged-append}
 use Rattle.frame.specs.Frames.{Tup, frames, tupAt, frameRules, framing}
 use Rattle.frame.specs.Files.{isMsb, fileRules}
@@ -62,11 +62,11 @@ file-written f b room n m e = by-answer (checkFile f) refl e
 
 -- ---- a mark and one tuple
 -- what is accepted behind refusals passes them
-through : (p : ℕ) (rs : List (Rule ℕ)) (behind : List (Rule Answer)) (d : Answer) (n m : ℕ)
-    → firstOf (saying (λ (c : ℕ). Refused c p) rs ++ behind) d ≡ Accepted n m → AllPass rs × (firstOf behind d ≡ Accepted n m)
+through : (p : ℕ) (rs : List (Rule Breach)) (behind : List (Rule Answer)) (d : Answer) (n m : ℕ)
+    → firstOf (saying (refusedAt p) rs ++ behind) d ≡ Accepted n m → AllPass rs × (firstOf behind d ≡ Accepted n m)
 through p [] behind d n m e = (tt, e)
-through p ((true ⇒ c) ∷ rs) behind d n m e = refusal c p n m e
-through p ((false ⇒ c) ∷ rs) behind d n m e = let r = through p rs behind d n m e in ((refl, r .0), r .1)
+through p ((true ⇒ b) ∷ rs) behind d n m e = refusal (b .code) (p + b .offset) n m e
+through p ((false ⇒ b) ∷ rs) behind d n m e = let r = through p rs behind d n m e in ((refl, r .0), r .1)
 
 -- the normal tuple of a sound one
 one-normal : (o : Bool) (t : Tup) → Sound o t → AllFramed (formsOf (itemOf o t))
@@ -98,7 +98,7 @@ tuple-written f b room n m e =
     let t = tupAt o r in
     let own = frameRules o r ++ (headRules o t ++ innerRules o t) in
     let d = Accepted 1 (length (singleForm f)) in
-    let filed = through 0 (fileRules f) (saying (λ (c : ℕ). Refused c 4) own ++ behindRules f room) d n m e in
+    let filed = through 0 (fileRules f) (saying (refusedAt 4) own ++ behindRules f room) d n m e in
     let judged = through 4 own (behindRules f room) d n m (filed .1) in
     let behind = clear isAccepted (behindRules f room) d (Accepted n m) (refl, (refl, (refl, tt))) (judged .1) refl in
     record {

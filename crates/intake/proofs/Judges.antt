@@ -13,7 +13,7 @@ use lib.Seq.{length-take-le}
 use Rattle.rules.specs.Rules.{Rule, _⇒_}
 use Rattle.layout.specs.declared.Verdict.{Verdict}
 use Rattle.layout.specs.declared.Verdict.the-variants.{Fine, Fault}
-use Rattle.layout.specs.Answers.{both, judged}
+use Rattle.layout.specs.Answers.{both, judged, Breach, _byte_}
 use Rattle.layout.specs.Fields.{known}
 use Rattle.layout.specs.Types.{classes, inClass, kindOf, lineOf, shapeOf, fitting}
 use Rattle.layout.proofs.Verdicts.{passes, judged-append}
@@ -44,11 +44,11 @@ abbrev pub Names : ℕ → Type 0
 Names k = (k ≡ 10000) ⊎ ((k ≡ 10010) ⊎ (k ≡ 10100))
 
 -- 7, then 9 and 8, of a tuple of n bytes and type code k
-abbrev pub headBy : Bool → List ℕ → ℕ → ℕ → ℕ → Bool → List (Rule ℕ)
+abbrev pub headBy : Bool → List ℕ → ℕ → ℕ → ℕ → Bool → List (Rule Breach)
 headBy o f at n k first =
-    (not (Bool·beq (eqb k 65535) first) ⇒ 7)
-    ∷ (not (fitting (lineOf (kindOf k) .length) n) ⇒ 9)
-    ∷ (not (identifiedIn o f at) ⇒ 8)
+    (not (Bool·beq (eqb k 65535) first) ⇒ 7 byte 0)
+    ∷ (not (fitting (lineOf (kindOf k) .length) n) ⇒ 9 byte 0)
+    ∷ (not (identifiedIn o f at) ⇒ 8 byte 0)
     ∷ []
 
 -- two tests differ
@@ -76,14 +76,14 @@ module _ {o : Bool} {f : List ℕ} {at n k : ℕ} (h : Here o f at n k) where
       let signs = by-code o t .signs ∙ ap (λ (j : ℕ). eqb j 65535) (h .kind) in
       let fits = fits-place o f at n whole ∙ ap (λ (j : ℕ). fitting (lineOf (kindOf j) .length) n) (h .kind) in
       sym (judged-append (signRules first (digest o t)) (headRules o t))
-      ∙ ap₂ (λ (a b : Bool). judged ((a ⇒ 7) ∷ (not b ⇒ 9) ∷ (not (identifiedIn o f at) ⇒ 8) ∷ []))
+      ∙ ap₂ (λ (a b : Bool). judged ((a ⇒ 7 byte 0) ∷ (not b ⇒ 9 byte 0) ∷ (not (identifiedIn o f at) ⇒ 8 byte 0) ∷ []))
       (ap (λ (a : Bool). cond first (not a) a) signs ∙ odd (eqb k 65535) first) fits
 
   pub head-fits : {v : Verdict} (first : Bool) → v ≡ headVerdict o first (tupIn o f at) → v ≡ Fine → Fits n k
   head-fits first e d = not-false _ (passes (headBy o f at n k first) (sym (e ∙ head-place first) ∙ d) .1 .0)
 
   -- where a signature may stand, its head breaks its own rules alone
-  signed : (b : Bool) (v : Verdict) → both (judged ((cond b (not b) b ⇒ 7) ∷ [])) v ≡ v
+  signed : (b : Bool) (v : Verdict) → both (judged ((cond b (not b) b ⇒ 7 byte 0) ∷ [])) v ≡ v
   signed true v = refl
   signed false v = refl
 
@@ -91,7 +91,7 @@ module _ {o : Bool} {f : List ℕ} {at n k : ℕ} (h : Here o f at n k) where
   unfolding headVerdict
   own-head =
       let signs = by-code o t .signs ∙ ap (λ (j : ℕ). eqb j 65535) (h .kind) in
-      ap (λ (a : Bool). both (judged ((cond (eqb k 65535) (not a) a ⇒ 7) ∷ [])) (judged (headRules o t))) signs ∙ signed (eqb k 65535) (judged (headRules o t))
+      ap (λ (a : Bool). both (judged ((cond (eqb k 65535) (not a) a ⇒ 7 byte 0) ∷ [])) (judged (headRules o t))) signs ∙ signed (eqb k 65535) (judged (headRules o t))
 
   -- 9 and 8, then 11 and 10
   pub own-parts : both (headVerdict o (eqb k 65535) (tupIn o f at)) (innerVerdict o (tupIn o f at)) ≡ ownVerdict o (tupIn o f at)

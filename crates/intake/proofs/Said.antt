@@ -1,11 +1,11 @@
--- What the code says of the tuple at a place: every fault is at its first byte, and a fine verdict tells that there is room for what
--- it declares. Assumes nothing.
-use mathlib.Core.Path.{_≡_, refl, subst}
-use mathlib.Core.List.{List, [], _∷_}
+-- What the code says of the tuple at a place: how far behind its first byte a fault is, and that a fine verdict tells that there is
+-- room for what it declares. Assumes nothing.
+use mathlib.Core.Path.{_≡_}
+use mathlib.Core.List.{List, [], _∷_, _++_}
 use mathlib.Core.Bool.{Bool, true, false, not}
-use Prim.Native.Nat.{ℕ, _<_}
+use Prim.Native.Nat.{ℕ, _≤_, _<_}
 use borrow.Author.Tests.{eqb-true, leb-false}
-use lib.Dec.{eqb, leb}
+use lib.Dec.{eqb, leb, lit≤}
 use lib.ListN.{length}
 use Rattle.rules.specs.Rules.{Rule, _⇒_}
 use Rattle.rules.proofs.Laws.{by-rules}
@@ -15,58 +15,85 @@ use Rattle.layout.specs.declared.DocumentId.{DocumentId}
 use Rattle.layout.specs.declared.SoftwareChannel.{SoftwareChannel}
 use Rattle.layout.specs.declared.Kind.{Kind}
 use Rattle.layout.specs.declared.Kind.the-variants.{Unlisted}
-use Rattle.layout.specs.Answers.{both, judged}
+use Rattle.layout.specs.Answers.{both, judged, Breach, _byte_}
 use Rattle.layout.specs.Types.{Shape, indexed, row, pairs, words, unlisted, kindRules, kindOf, shapeOf}
-use Rattle.layout.proofs.Verdicts.{both-left, both-right, passes}
+use Rattle.layout.proofs.Verdicts.{both-left, both-right, passes, Near, AllNear, near-rules, near-append, near-both, near-fault}
 use Rattle.turning.specs.Rows.{Value, valuesOf}
 use Rattle.frame.specs.Frames.{Tup, tupAt, frameRules, framing}
 use Rattle.links.specs.Links
 use Rattle.links.specs.Links.{Link, mostSounders, mostChannels, signRules}
 use Rattle.links.specs.inner.Tables.{member, sounderVerdict, channelVerdict, nameVerdict}
-use Rattle.content.specs.Items.{rowIn, itemBy, itemOf, unless, linkBy, numberAt, digestOf, digestItem, digest, headRules, innerRules}
+use Rattle.content.specs.Items.{rowIn, itemBy, itemOf, unless, linkBy, numberAt, digestOf, digestItem, digest, headRules, innerBy, innerRules}
 use Rattle.intake.specs.inner.Tallies
-use Rattle.intake.specs.inner.Tallies.{headVerdict, linkVerdict, innerVerdict, turnVerdict}
+use Rattle.intake.specs.inner.Tallies.{headVerdict, linkVerdict, innerVerdict, ownVerdict, turnVerdict}
 use Rattle.intake.proofs.Turns.{emptied}
 
--- ---- every fault is at the tuple's first byte
-abbrev AtFirst : Verdict → Type 0
-AtFirst Fine = Unit {0}
-AtFirst (Fault e p) = p ≡ 0
+-- ---- how far behind the tuple's first byte a fault is: no farther than a tuple's most bytes and a ping's header
+abbrev pub far : ℕ
+far = 262172
 
-rules-first : (rs : List (Rule ℕ)) → AtFirst (judged rs)
-rules-first [] = tt
-rules-first ((true ⇒ c) ∷ rs) = refl
-rules-first ((false ⇒ c) ∷ rs) = rules-first rs
-
-both-first : (a b : Verdict) → AtFirst a → AtFirst b → AtFirst (both a b)
-both-first Fine b p q = q
-both-first (Fault e p) b h q = h
+here-near : 0 ≤ far
+here-near = lit≤ tt
 
 -- the rules behind the verdicts on a link
-abbrev sounderRules : DocumentId → List ℕ → List (Rule ℕ)
-sounderRules d docs = (member (d .0) docs ⇒ 12) ∷ (leb mostSounders (length docs) ⇒ 14) ∷ []
+abbrev sounderRules : DocumentId → List ℕ → List (Rule Breach)
+sounderRules d docs = (member (d .0) docs ⇒ 12 byte 0) ∷ (leb mostSounders (length docs) ⇒ 14 byte 0) ∷ []
 
-abbrev channelRules : SoftwareChannel → DocumentId → List ℕ → List ℕ → List (Rule ℕ)
-channelRules i d ids docs = (member (i .0) ids ⇒ 12) ∷ (leb mostChannels (length ids) ⇒ 14) ∷ (not (member (d .0) docs) ⇒ 13) ∷ []
+abbrev channelRules : SoftwareChannel → DocumentId → List ℕ → List ℕ → List (Rule Breach)
+channelRules i d ids docs = (member (i .0) ids ⇒ 12 byte 0) ∷ (leb mostChannels (length ids) ⇒ 14 byte 0) ∷ (not (member (d .0) docs) ⇒ 13 byte 0) ∷ []
 
-link-first : (l : Link) (docs ids : List ℕ) → AtFirst (Tallies.linkBy l docs ids)
+link-near : (l : Link) (docs ids : List ℕ) → Near far (Tallies.linkBy l docs ids)
 unfolding sounderVerdict channelVerdict nameVerdict
-link-first Links.none docs ids = tt
-link-first (Links.sounder d n) docs ids = rules-first (sounderRules d docs)
-link-first (Links.channel i d) docs ids = rules-first (channelRules i d ids docs)
-link-first (Links.names i) docs ids = rules-first ((not (member (i .0) ids) ⇒ 13) ∷ [])
+link-near Links.none docs ids = tt
+link-near (Links.sounder d n) docs ids = near-rules far (sounderRules d docs) (here-near, (here-near, tt))
+link-near (Links.channel i d) docs ids = near-rules far (channelRules i d ids docs) (here-near, (here-near, (here-near, tt)))
+link-near (Links.names i) docs ids = near-rules far ((not (member (i .0) ids) ⇒ 13 byte 0) ∷ []) (here-near, tt)
 
-module _ (o first : Bool) (docs ids r : List ℕ) where
-  turn-first : AtFirst (turnVerdict o first docs ids r)
-  unfolding turnVerdict framing headVerdict linkVerdict innerVerdict
-  turn-first =
-      let t = tupAt o r in
-      let head = both-first (judged (signRules first (digest o t))) (judged (headRules o t)) (rules-first (signRules first (digest o t))) (rules-first (headRules o t)) in
-      let tail = both-first (Tallies.linkBy (digest o t .link) docs ids) (judged (innerRules o t)) (link-first (digest o t .link) docs ids) (rules-first (innerRules o t)) in
-      both-first (emptied r) _ (rules-first ((eqb (length r) 0 ⇒ 4) ∷ [])) (both-first (framing o r) _ (rules-first (frameRules o r)) (both-first (headVerdict o first t) _ head tail))
+module _ (o : Bool) (r : List ℕ) where
+  abbrev front : Tup
+  front = tupAt o r
 
-  pub fault-first : (e p : ℕ) → turnVerdict o first docs ids r ≡ Fault e p → p ≡ 0
-  fault-first e p h = subst AtFirst h turn-first
+  head-near : AllNear far (headRules o front)
+  head-near = (here-near, (here-near, tt))
+
+  -- of a tuple that is framed, and so has its most bytes at most
+  inner-near : framing o r ≡ Fine → AllNear far (innerRules o front)
+  inner-near e = by-shape (shapeOf (front .kind))
+    where
+      by-shape : (q : Shape) → AllNear far (innerBy q o front)
+      by-shape indexed = tt
+      by-shape (row fs x) = tt
+      by-shape pairs = (here-near, tt)
+      by-shape words = (here-near, (here-near, (here-near, tt)))
+      by-shape unlisted = tt
+
+  pub own-near : framing o r ≡ Fine → Near far (ownVerdict o front)
+  unfolding ownVerdict
+  own-near e = near-rules far (headRules o front ++ innerRules o front) (near-append far (headRules o front) (innerRules o front) head-near (inner-near e))
+
+  frame-near : Near far (framing o r)
+  unfolding framing
+  frame-near = near-rules far (frameRules o r) (here-near, (here-near, (here-near, (here-near, tt))))
+
+  pub alone-near : Near far (both (framing o r) (ownVerdict o front))
+  alone-near = near-both far (framing o r) (ownVerdict o front) frame-near own-near
+
+  module _ (first : Bool) (docs ids : List ℕ) where
+    turn-near : Near far (turnVerdict o first docs ids r)
+    unfolding turnVerdict headVerdict linkVerdict innerVerdict
+    turn-near =
+        let sign = judged (signRules first (digest o front)) in
+        let head = judged (headRules o front) in
+        let link = Tallies.linkBy (digest o front .link) docs ids in
+        let inner = judged (innerRules o front) in
+        near-both far (emptied r) (both (framing o r) (both (both sign head) (both link inner))) (near-rules far ((eqb (length r) 0 ⇒ 4 byte 0) ∷ []) (here-near, tt))
+        (λ _. near-both far (framing o r) (both (both sign head) (both link inner)) frame-near
+        (λ e. near-both far (both sign head) (both link inner)
+        (near-both far sign head (near-rules far (signRules first (digest o front)) (here-near, tt)) (λ _. near-rules far (headRules o front) head-near))
+        (λ _. near-both far link inner (link-near (digest o front .link) docs ids) (λ _. near-rules far (innerRules o front) (inner-near e)))))
+
+    pub fault-near : (c p : ℕ) → turnVerdict o first docs ids r ≡ Fault c p → p ≤ far
+    fault-near c p h = near-fault far turn-near h
 
 -- ---- a fine verdict, part by part
 pub record FineParts (o first : Bool) (docs ids r : List ℕ) : Type 0 where

@@ -6,7 +6,7 @@ use lib.Dec.{eqb, leb, ltb}
 use lib.ListN.{length}
 use Rattle.rules.specs.Rules.{Rule, _⇒_}
 use Rattle.layout.specs.declared.Verdict.{Verdict}
-use Rattle.layout.specs.Answers.{judged}
+use Rattle.layout.specs.Answers.{judged, Breach, _byte_}
 use Rattle.samples.specs.Words.{Sample, allWords, pairUp}
 use Rattle.samples.specs.Runs.{radix, isRun, isBad, values, firstBad}
 
@@ -29,15 +29,15 @@ abbrev pub dropping : List Sample → Bool
 dropping s = ltb (firstDrop 0 s) (length s)
 
 -- U-32: numbers strictly rise
-abbrev pub pairRules : List Sample → List (Rule ℕ)
-pairRules s = (dropping s ⇒ 10) ∷ []
+abbrev pub pairRules : List Sample → List (Rule Breach)
+pairRules s = (dropping s ⇒ 10 byte 0) ∷ []
 
 -- C-32: at most 32,764 values; each within its limits; the number of samples equals the number of value words
-abbrev pub wordRules : ℕ → List ℕ → List (Rule ℕ)
+abbrev pub wordRules : ℕ → List ℕ → List (Rule Breach)
 wordRules count ws =
-    (ltb most (values radix ws) ⇒ 11)
-    ∷ (ltb (firstBad radix ws) (length ws) ⇒ 10)
-    ∷ (not (eqb count (values radix ws)) ⇒ 10)
+    (ltb most (values radix ws) ⇒ 11 byte 0)
+    ∷ (ltb (firstBad radix ws) (length ws) ⇒ 10 byte 0)
+    ∷ (not (eqb count (values radix ws)) ⇒ 10 byte 0)
     ∷ []
 
 -- ---- the verdict on the part of a file that a ping's samples fill

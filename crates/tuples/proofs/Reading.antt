@@ -2,30 +2,32 @@
 use mathlib.Core.Path.{_≡_, refl, sym, ap, _∙_}
 use mathlib.Core.Bool.{Bool, true, false, not, _&&_}
 use mathlib.Core.List.{List, [], _∷_, _++_}
-use Prim.Native.Nat.{ℕ, _%_, _≤_}
+use Prim.Native.Nat.{ℕ, _+_, _%_, _≤_}
 use native.Mathlib.Omega.{arith}
 use borrow.Author.Tests.{leb-true, not-false}
 use lib.Dec.{eqb, leb}
-use lib.ListN.{length}
+use lib.ListN.{length, drop}
 use Rattle.rules.specs.Rules.{Rule, _⇒_, firstOf, saying, AllPass}
 use Rattle.rules.proofs.Laws.{Silent, clear}
 use Rattle.layout.specs.declared.Answer.{Answer}
 use Rattle.layout.specs.declared.Answer.the-variants.{Accepted, Refused}
-use Rattle.layout.proofs.Verdicts.{passed}
+use Rattle.layout.proofs.Verdicts.{passed, near-fault}
 use Rattle.layout.specs.declared.Verdict.the-variants.{Fine, Fault}
 use Rattle.frame.specs.declared.Walk.{Walk}
 use Rattle.frame.specs.declared.Step.{Step}
 use Rattle.frame.specs.declared.Step.the-variants.{End}
 use Rattle.frame.specs.declared.Step.the-variants as step
 use Rattle.frame.specs.Frames.{allowed}
-use Rattle.frame.specs.Files.{isMsb}
+use Rattle.frame.specs.Files.{limit, isMsb}
 use Rattle.frame.specs.Steps.{stepForward}
 use Rattle.rules.proofs.Bools.{both-true}
+use Rattle.layout.specs.Answers.{Breach, _byte_, refusedAt}
 use Rattle.frame.proofs.Places.{whole-framing}
 use Rattle.frame.proofs.Walks.{Stands, forward-stands}
 use Rattle.frame.proofs.Ways.{said, unsaid}
 use Rattle.content.specs.Items.{headRules, innerRules}
 use Rattle.intake.specs.inner.Tallies.{Here, ownVerdict}
+use Rattle.intake.proofs.Said.{far, own-near}
 use Rattle.tuples.specs.Readers.{tupleThere, ownRules, readBy, readAnswer}
 use Rattle.tuples.specs.inner.Opening.{Found, Readable}
 
@@ -58,20 +60,24 @@ module _ {f : List ℕ} {p n k : ℕ} (g : Found f p n k) where
   most = leb-true n 262144 (both-true (eqb (n % 4) 0 && leb 16 n) (leb n 262144) (stands .whole .allowed) .1)
 
   -- by what is asked for and by its own rules
-  by-own : (asked : ℕ → Bool) → firstOf (saying (λ (c : ℕ). Refused c p) ((not (asked k) ⇒ 9) ∷ headRules (isMsb f) (tupleThere f p) ++ innerRules (isMsb f) (tupleThere f p))) (Accepted 1 0) ≡ readAnswer asked f p
+  by-own : (asked : ℕ → Bool) → firstOf (saying (refusedAt p) ((not (asked k) ⇒ 9 byte 0) ∷ headRules (isMsb f) (tupleThere f p) ++ innerRules (isMsb f) (tupleThere f p))) (Accepted 1 0) ≡ readAnswer asked f p
   unfolding readAnswer
   by-own asked = rw (g .step, stands .kind)
 
   pub unasked : (asked : ℕ → Bool) → asked k ≡ false → Refused 9 p ≡ readAnswer asked f p
-  unasked asked e = rw e at (by-own asked)
+  unasked asked e = ap (Refused 9) (omega arith) ∙ rw e at (by-own asked)
 
-  pub faulty : (asked : ℕ → Bool) (c q : ℕ) → asked k ≡ true → ownVerdict (isMsb f) (tupleThere f p) ≡ Fault c q → Refused c p ≡ readAnswer asked f p
+  -- how far in the file a fault's place can be
+  pub fault-near : (c q : ℕ) → ownVerdict (isMsb f) (tupleThere f p) ≡ Fault c q → p + q ≤ limit + far
+  fault-near c q e = omega (arith, near-fault far (own-near (isMsb f) (drop p f) (here .framed)) e, stands .whole .fits, stands .small)
+
+  pub faulty : (asked : ℕ → Bool) (c q : ℕ) → asked k ≡ true → ownVerdict (isMsb f) (tupleThere f p) ≡ Fault c q → Refused c (p + q) ≡ readAnswer asked f p
   unfolding ownVerdict
-  faulty asked c q a e = sym (said (λ (x : ℕ). Refused x p) (headRules (isMsb f) (tupleThere f p) ++ innerRules (isMsb f) (tupleThere f p)) (Accepted 1 0) c q e) ∙ rw a at (by-own asked)
+  faulty asked c q a e = sym (said (refusedAt p) (headRules (isMsb f) (tupleThere f p) ++ innerRules (isMsb f) (tupleThere f p)) (Accepted 1 0) c q e) ∙ rw a at (by-own asked)
 
   pub fine : (asked : ℕ → Bool) → asked k ≡ true → ownVerdict (isMsb f) (tupleThere f p) ≡ Fine → Accepted 1 0 ≡ readAnswer asked f p
   unfolding ownVerdict
-  fine asked a e = sym (unsaid (λ (x : ℕ). Refused x p) (headRules (isMsb f) (tupleThere f p) ++ innerRules (isMsb f) (tupleThere f p)) (Accepted 1 0) e) ∙ rw a at (by-own asked)
+  fine asked a e = sym (unsaid (refusedAt p) (headRules (isMsb f) (tupleThere f p) ++ innerRules (isMsb f) (tupleThere f p)) (Accepted 1 0) e) ∙ rw a at (by-own asked)
 
 -- ---- and the other way round: where a reader accepts, it reads a tuple that was asked for and keeps its own rules
 pub record Opens (asked : ℕ → Bool) (f : List ℕ) (p : ℕ) : Type 0 where
@@ -83,11 +89,11 @@ abbrev taking : Answer → Bool
 taking (Accepted n m) = true
 taking (Refused c p) = false
 
-silent : (p : ℕ) (rs : List (Rule ℕ)) → Silent taking (saying (λ (c : ℕ). Refused c p) rs)
+silent : (p : ℕ) (rs : List (Rule Breach)) → Silent taking (saying (refusedAt p) rs)
 silent p [] = tt
 silent p ((b ⇒ c) ∷ rs) = (refl, silent p rs)
 
-kept : (p : ℕ) (rs : List (Rule ℕ)) → AllPass (saying (λ (c : ℕ). Refused c p) rs) → AllPass rs
+kept : (p : ℕ) (rs : List (Rule Breach)) → AllPass (saying (refusedAt p) rs) → AllPass rs
 kept p [] h = tt
 kept p ((b ⇒ c) ∷ rs) h = (h .0, kept p rs (h .1))
 
@@ -97,7 +103,7 @@ module _ (asked : ℕ → Bool) {f : List ℕ} {p : ℕ} (e : Accepted 1 0 ≡ r
   by-step (step.Tuple q n k w) h g =
       let o = isMsb f in
       let t = tupleThere f p in
-      let c = kept p (ownRules asked o t) (clear taking (saying (λ (x : ℕ). Refused x p) (ownRules asked o t)) (Accepted 1 0) (Accepted 1 0) (silent p (ownRules asked o t)) (sym g) refl .0) in
+      let c = kept p (ownRules asked o t) (clear taking (saying (refusedAt p) (ownRules asked o t)) (Accepted 1 0) (Accepted 1 0) (silent p (ownRules asked o t)) (sym g) refl .0) in
       let d = found-by f p q n k w h in
       record {
         size = n;

@@ -8,6 +8,7 @@ use lib.ListN.{drop, getD}
 use Rattle.rules.specs.Rules.{Rule, _⇒_, firstOf, saying}
 use Rattle.layout.specs.declared.Answer.{Answer}
 use Rattle.layout.specs.declared.Answer.the-variants.{Accepted, Refused}
+use Rattle.layout.specs.Answers.{Breach, _byte_, refusedAt}
 use Rattle.frame.specs.declared.Step.{Step}
 use Rattle.frame.specs.declared.Step.the-variants.{Tuple, End}
 use Rattle.frame.specs.declared.Step.the-variants
@@ -22,12 +23,12 @@ abbrev pub tupleThere : List ℕ → ℕ → Tup
 tupleThere f p = tupAt (isMsb f) (drop p f)
 
 -- 9 for a type not asked for, then 9, 8, 11, 10
-abbrev pub ownRules : (ℕ → Bool) → Bool → Tup → List (Rule ℕ)
-ownRules asked o t = (not (asked (t .kind)) ⇒ 9) ∷ headRules o t ++ innerRules o t
+abbrev pub ownRules : (ℕ → Bool) → Bool → Tup → List (Rule Breach)
+ownRules asked o t = (not (asked (t .kind)) ⇒ 9 byte 0) ∷ headRules o t ++ innerRules o t
 
--- a forward step's refusals, 3 at the end; then the tuple's own, all at the place; acceptance with 1 tuple
+-- a forward step's refusals, 3 at the end; then the tuple's own; acceptance with 1 tuple
 abbrev pub readBy : (ℕ → Bool) → List ℕ → ℕ → Step → Answer
-readBy asked f p (Tuple at n k w) = firstOf (saying (λ (c : ℕ). Refused c p) (ownRules asked (isMsb f) (tupleThere f p))) (Accepted 1 0)
+readBy asked f p (Tuple at n k w) = firstOf (saying (refusedAt p) (ownRules asked (isMsb f) (tupleThere f p))) (Accepted 1 0)
 readBy asked f p End = Refused 3 p
 readBy asked f p (the-variants.Refused c q) = Refused c q
 

@@ -73,7 +73,10 @@ fn open_found(file: &[u8], place: usize, msb: bool, whole: usize, code: u16, ask
         };
     }
     match intake::judge_own(file, place, msb, whole, code) {
-        Verdict::Fault { code, offset: _ } => Opened::Refused { code, place },
+        Verdict::Fault { code, offset } => {
+            let at = place + offset;
+            Opened::Refused { code, place: at }
+        }
         Verdict::Fine => Opened::Tuple { msb, whole, code },
     }
 }

@@ -8,7 +8,7 @@ use borrow.Author.Tests.{not-false}
 use lib.Dec.{eqb}
 use Rattle.rules.specs.Rules.{_⇒_}
 use Rattle.layout.specs.declared.Kind.{Kind}
-use Rattle.layout.specs.Answers.{judged}
+use Rattle.layout.specs.Answers.{judged, _byte_}
 use Rattle.layout.specs.Fields.{known}
 use Rattle.layout.specs.Types.{kindOf, lineOf, fitting}
 use Rattle.intake.specs.inner.Tallies.{Fits, headVerdict}
@@ -40,7 +40,7 @@ fits : (c : tie.Else2) → let a = c .before .before .before .before .before .ar
 fits c = tested (c .before) ∙ not-false _ (c .if2 .left)
 
 past2 : (c : tie.Else2) → let a = c .before .before .before .before .before .args in
-    headVerdict (a .msb) (a .first) (tupIn (a .msb) (a .file .now) (a .at)) ≡ judged ((not (identifiedIn (a .msb) (a .file .now) (a .at)) ⇒ 8) ∷ [])
+    headVerdict (a .msb) (a .first) (tupIn (a .msb) (a .file .now) (a .at)) ≡ judged ((not (identifiedIn (a .msb) (a .file .now) (a .at)) ⇒ 8 byte 0) ∷ [])
 past2 c =
     let s = c .before .before .before .before .before in
     rw (head-place (s .pre) (s .args .first), placed (c .before .before .before), fits c)

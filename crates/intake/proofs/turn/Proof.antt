@@ -7,7 +7,7 @@ use Rattle.layout.specs.declared.Verdict.the-variants.{Fine, Fault}
 use Rattle.frame.specs.Frames.{lenAt}
 use Rattle.frame.proofs.Places.{Whole, framing-whole}
 use Rattle.intake.specs.inner.Tallies.{Columns, columns, Here}
-use Rattle.intake.proofs.Said.{fault-first, fine-parts}
+use Rattle.intake.proofs.Said.{fault-near, fine-parts}
 use Rattle.intake.proofs.Judges.{whole}
 use Rattle.intake.proofs.Tallies.{said, stands-past, stands-ended, room-sounder, room-channel, turned-fault, turned-sounder, turned-channel, turned-end, turned-other}
 use Rattle.intake.proofs.turn.Statement.{statement}
@@ -27,7 +27,7 @@ faulty c = sym (c .before .before .judge .ensures) ∙ c .code .given .1
 
 add-refuse : tie.Need-add-refuse
 add-refuse c =
-    let z = fault-first _ _ _ _ _ _ _ (faulty (c .before)) in
+    let z = fault-near _ _ _ _ _ _ _ (faulty (c .before)) in
     let s = start (c .before .before .before) in
     omega (arith, s .pre .0 .within, s .pre .1 .0)
 

@@ -14,7 +14,7 @@ use Rattle.layout.specs.declared.Answer.the-variants.{Accepted}
 use Rattle.layout.specs.declared.Answer.the-variants as answers
 use Rattle.layout.specs.declared.Verdict.{Verdict}
 use Rattle.layout.specs.declared.Verdict.the-variants.{Fine}
-use Rattle.layout.specs.Answers.{both, judged}
+use Rattle.layout.specs.Answers.{both, judged, _byte_}
 use Rattle.layout.specs.Types.{kindOf, lineOf, fitting, inClass}
 use Rattle.layout.specs.Types
 use Rattle.frame.specs.Frames.{Tup, lenAt, kindAt, tupAt, framing}
@@ -123,7 +123,7 @@ ownVerdict o t = judged (headRules o t ++ innerRules o t)
 unfoldable pub turnVerdict : Bool → Bool → List ℕ → List ℕ → List ℕ → Verdict
 turnVerdict o first docs ids r =
     let t = tupAt o r in
-    both (judged ((eqb (length r) 0 ⇒ 4) ∷ []))
+    both (judged ((eqb (length r) 0 ⇒ 4 byte 0) ∷ []))
     (both (framing o r) (both (headVerdict o first t) (both (linkVerdict o t docs ids) (innerVerdict o t))))
 
 -- ---- the tally behind the mark, and past a tuple of n bytes and of a type code, before what it declares

@@ -6,11 +6,12 @@ use borrow.Author.Needs.{needs}
 use borrow.Author.Tests.{not-true, not-false}
 use lib.ListN.{drop}
 use Rattle.layout.specs.Answers.{both}
-use Rattle.layout.proofs.Verdicts.{both-left, both-right}
+use Rattle.layout.proofs.Verdicts.{both-left, both-right, near-fault}
 use Rattle.frame.specs.Frames.{tupAt, framing}
 use Rattle.frame.specs.Files.{isMsb, marked}
 use Rattle.frame.proofs.Files.{marked-4}
 use Rattle.intake.specs.inner.Tallies.{ownVerdict}
+use Rattle.intake.proofs.Said.{far, alone-near}
 use Rattle.normal.proofs.Singles.{single-limit, single-mark, single-fault, single-fine}
 use Rattle.normal.proofs.normalise_tuple.Statement.{statement}
 use Rattle.normal.proofs.normalise_tuple.Tie as tie
@@ -30,6 +31,12 @@ returns c = rw (c .refuse .ensures) (single-limit _ _ (c .before .if1 .taken))
 
 returns-2 : tie.Need-returns-2
 returns-2 c = rw (c .refuse2 .ensures) (single-mark _ _ (c .before .before .before .if1 .left) (sym (c .before .before .is-marked .ensures) ∙ not-true _ (c .before .if2 .taken)))
+
+add-refuse : tie.Need-add-refuse
+add-refuse c =
+    let j = c .before .before .before in
+    let z = near-fault far (alone-near _ _) (alone j ∙ c .before .code .given .1) in
+    search needs
 
 turn-tuple-requires : tie.Need-turn-tuple-requires
 turn-tuple-requires c κs =
@@ -62,6 +69,7 @@ normalise-tuple-spec =
     (λ c κs. marked-4 _ (marks c))
     (λ c κs. marked-4 _ (marks (c .before)))
     (λ c. search needs)
+    add-refuse
     (λ c κs. search needs)
     (λ c. search needs)
     turn-tuple-requires

@@ -5,14 +5,14 @@ use mathlib.Core.List.{[], _∷_}
 use borrow.Author.Needs.{needs}
 use Rattle.rules.specs.Rules.{_⇒_}
 use Rattle.layout.specs.declared.Verdict.{Verdict}
-use Rattle.layout.specs.Answers.{judged}
+use Rattle.layout.specs.Answers.{judged, _byte_}
 use Rattle.samples.specs.Judging.{judgedPairs}
 use Rattle.samples.proofs.judge_pairs.Statement.{statement}
 use Rattle.samples.proofs.judge_pairs.Tie as tie
 
 -- what the rule's test says
 abbrev said : Bool → Verdict
-said t = judged ((t ⇒ 10) ∷ [])
+said t = judged ((t ⇒ 10 byte 0) ∷ [])
 
 returns : tie.Need-returns
 unfolding judgedPairs

@@ -10,7 +10,7 @@ use borrow.Author.Tests.{lt-ltb, le-ltb, eq-eqb, ne-eqb}
 use lib.Dec.{ltb, eqb}
 use lib.ListN.{length}
 use Rattle.rules.specs.Rules.{_⇒_}
-use Rattle.layout.specs.Answers.{judged}
+use Rattle.layout.specs.Answers.{judged, _byte_}
 use Rattle.samples.specs.Words.{allWords}
 use Rattle.samples.specs.Runs.{radix, values}
 use Rattle.samples.specs.Judging.{most, judgedWords}
@@ -51,7 +51,7 @@ loop-again c =
 said : (c : tie.After-loop Inv-loop μ-loop) →
     let a = c .before .before .before .args in
     let l = c .before .loop in
-    judged ((ltb most (l .found) ⇒ 11) ∷ (l .bad ⇒ 10) ∷ (not (eqb (a .count) (l .found)) ⇒ 10) ∷ [])
+    judged ((ltb most (l .found) ⇒ 11 byte 0) ∷ (l .bad ⇒ 10 byte 0) ∷ (not (eqb (a .count) (l .found)) ⇒ 10 byte 0) ∷ [])
     ≡ judgedWords (a .msb) (a .count) (a .part .now)
 unfolding judgedWords
 said c =

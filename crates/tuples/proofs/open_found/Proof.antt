@@ -2,7 +2,7 @@
 use mathlib.Core.Path.{sym, _∙_}
 use borrow.Author.Needs.{needs}
 use borrow.Author.Tests.{not-true, not-false}
-use Rattle.tuples.proofs.Reading.{here, unasked, faulty, fine}
+use Rattle.tuples.proofs.Reading.{here, fault-near, unasked, faulty, fine}
 use Rattle.tuples.proofs.open_found.Statement.{statement}
 use Rattle.tuples.proofs.open_found.Tie as tie
 
@@ -11,6 +11,12 @@ returns c asks e = unasked (c .before .before .pre .found) asks (e ∙ not-true 
 
 judge-own-requires : tie.Need-judge-own-requires
 judge-own-requires c κs = let g = c .before .before .pre in rw (g .msb) (here (g .found))
+
+add-at : tie.Need-add-at
+add-at c =
+    let g = c .before .before .before .before .before .before .pre in
+    let z = fault-near (g .found) _ _ (rw (g .msb) at (sym (c .before .before .before .judge-own .ensures) ∙ c .before .code .given .1)) in
+    search needs
 
 returns-2 : tie.Need-returns-2
 returns-2 c asks e =
@@ -25,4 +31,4 @@ returns-3 c asks e =
     record { answer = fine (g .found) asks asked own; msb = g .msb; found = g .found; asks = asked; own = own }
 
 pub open-found-spec : {M : Type 1} → statement M
-open-found-spec = tie.close (tie.spec returns judge-own-requires (λ c. search needs) (λ c. search needs) returns-2 returns-3)
+open-found-spec = tie.close (tie.spec returns judge-own-requires (λ c. search needs) add-at (λ c. search needs) returns-2 returns-3)
