@@ -3,8 +3,7 @@ use mathlib.Core.List.{List, [], _∷_, _++_}
 use Prim.Native.Nat.{ℕ}
 use Rattle.order.specs.Order.{patternOf}
 use Rattle.layout.specs.declared.Answer.{Answer}
-use Rattle.layout.specs.declared.Answer.the-variants.{Accepted}
-use Rattle.layout.specs.Answers.{Numbers, numbers}
+use Rattle.layout.specs.Answers.{Numbers, numbers, accepting}
 use Rattle.frame.specs.declared.Step.{Step}
 use Rattle.frame.specs.declared.Step.the-variants as step
 use Rattle.frame.specs.Steps.{stepNumbers}
@@ -46,7 +45,7 @@ askedTold s = fourOf (askedNumbers s) ++ askedFields s
 
 -- ---- a record that was read: one tuple, then the numbers of its row in order, the attribute last
 abbrev pub recordTold : List ℕ → List ℕ
-recordTold ns = four (Accepted 1 0) ++ ns
+recordTold ns = four (accepting 1 0) ++ ns
 
 -- characters, behind the numbers: where they stand in the file, and how many they are
 abbrev pub partTold : Part → List ℕ

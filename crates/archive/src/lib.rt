@@ -56,8 +56,8 @@ fn tell_answer(answer: &mut [u64], said: Answer) -> u8
     ensures { λ _. ⌜ now (answer .exit) ≡ sets (now (answer .entry)) 0 (four said) ⌝ }
 {
     match said {
-        Answer::Accepted { tuples, written } => {
-            tell_four(answer, 0, 0, 0, tuples, written);
+        Answer::Accepted(counts) => {
+            tell_four(answer, 0, 0, 0, counts.tuples, counts.written);
             0
         }
         Answer::Refused { code, place } => tell_refusal(answer, code, place),

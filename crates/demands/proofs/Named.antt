@@ -12,6 +12,7 @@ use lib.Dec.{eqb}
 use lib.ListN.{length, drop, getD, length-append}
 use lib.Seq.{drop-at, drop-drop}
 use Rattle.order.specs.Order.{Bytes}
+use Rattle.layout.specs.declared.Counts.{Counts}
 use Rattle.layout.specs.declared.Answer.the-variants.{Accepted}
 use Rattle.layout.specs.declared.SoftwareChannel.{SoftwareChannel}
 use Rattle.layout.specs.declared.DocumentId.{DocumentId}
@@ -176,9 +177,9 @@ sound-at : (o : Bool) (xs : List Tup) (t : Tup) (ys : List Tup) → AllSound o (
 sound-at o [] t ys a = a .0
 sound-at o (x ∷ xs) t ys a = sound-at o xs t ys (a .1)
 
-module _ (f : List ℕ) (b : Bytes f) (n m : ℕ) (e : checkFile f ≡ Accepted n m) (a : Among (tuplesOf f)) where
-  d : Divided f n
-  d = divided f b n m e
+module _ (f : List ℕ) (b : Bytes f) (n : Counts) (e : checkFile f ≡ Accepted n) (a : Among (tuplesOf f)) where
+  d : Divided f (n .tuples)
+  d = divided f b n e
 
   -- what stands behind the mark
   behind-mark : drop 4 f ≡ frames (isMsb f) (a .before ++ (a .it ∷ a .behind))
@@ -226,19 +227,19 @@ module _ (f : List ℕ) (b : Bytes f) (n m : ℕ) (e : checkFile f ≡ Accepted 
     family = family-of (isMsb f) (tuplesOf f) (d .linked) (channelIn q) a (names-channel (isMsb f) (a .it) q i)
 
     -- asking gives these two, and where they stand
-    pub asked : (g : Family (isMsb f) (a .before) (channelIn q)) → askAt f (placeAfter (isMsb f) (a .before)) ≡ gives g n
+    pub asked : (g : Family (isMsb f) (a .before) (channelIn q)) → askAt f (placeAfter (isMsb f) (a .before)) ≡ gives g (n .tuples)
     unfolding askAt askAccepted
     asked g =
         let p = placeAfter (isMsb f) (a .before) in
         let w = courseAfter (isMsb f) begin (a .before) in
         ap (askChecked f p) e
-        ∙ ap (askCourse f p n) stands-course
-        ∙ ap (λ (t : Tup). askItem w p n (itemOf (isMsb f) t)) stands-there
-        ∙ ap (askItem w p n) i
-        ∙ given-parents (isMsb f) (tuplesOf f) (d .linked) a (channelIn q) g n
+        ∙ ap (askCourse f p (n .tuples)) stands-course
+        ∙ ap (λ (t : Tup). askItem w p (n .tuples) (itemOf (isMsb f) t)) stands-there
+        ∙ ap (askItem w p (n .tuples)) i
+        ∙ given-parents (isMsb f) (tuplesOf f) (d .linked) a (channelIn q) g (n .tuples)
 
   -- ---- each ping of a listed type
-  pub answered : Listed (a .it) → Answered f a n
+  pub answered : Listed (a .it) → Answered f a (n .tuples)
   answered l =
       let p = listed-ping (isMsb f) (a .it) l in
       let g = family (p .0) (p .1) in

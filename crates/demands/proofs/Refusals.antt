@@ -10,10 +10,11 @@ use lib.ListN.{length, drop}
 use Rattle.order.specs.Order.{Bytes}
 use Rattle.rules.specs.Rules.{Rule, _⇒_, firstOf, saying, AllPass}
 use Rattle.rules.proofs.Laws.{Silent, clear, all-pass}
+use Rattle.layout.specs.declared.Counts.{Counts}
 use Rattle.layout.specs.declared.Answer.{Answer}
 use Rattle.layout.specs.declared.Answer.the-variants.{Accepted, Refused}
 use Rattle.layout.specs.declared.Verdict.the-variants.{Fine}
-use Rattle.layout.specs.Answers.{judged, Breach, refusedAt}
+use Rattle.layout.specs.Answers.{judged, Breach, refusedAt, accepting, isAccepted}
 use Rattle.layout.proofs.Verdicts.{passed}
 use Rattle.frame.specs.Frames.{lenAt, kindAt, tupAt, frameRules, framing}
 use Rattle.frame.specs.Files.{limit, isMsb, fileRules}
@@ -24,11 +25,9 @@ use Rattle.intake.specs.declared.Asked.{Asked}
 use Rattle.intake.specs.Check.{checkFile, Checked}
 use Rattle.intake.specs.Asking.{askAccepted, askChecked, askAt, AskedFor}
 use Rattle.intake.specs.inner.Tallies.{ownVerdict}
-use Rattle.intake.proofs.Accepted.{isAccepted}
 use Rattle.forms.specs.inner.Sound.{SoundHere}
 use Rattle.forms.proofs.Placed.{at-most-twice, most}
-use Rattle.normal.specs.Contents.{normalOf}
-use Rattle.normal.specs.Normaliser.{normalRules, behindCheck, normalAnswer, Normalised}
+use Rattle.normal.specs.Normaliser.{normalRules, normalCounts, behindCheck, normalAnswer, Normalised}
 use Rattle.normal.specs.Single.{singleForm, behindRules, singleRules, singleAnswer, NormalisedTuple}
 use Rattle.normal.proofs.Singles.{single-length}
 use Rattle.demands.specs.Causes.{Broken, here, later, Cause, Keeps}
@@ -51,8 +50,8 @@ module _ (rs : List (Rule Answer)) (d : Answer) (t : isAccepted d ≡ true) (s :
     λ b. broken-first d b,
   )
 
-  accepted-by : {n m : ℕ} → (firstOf rs d ≡ Accepted n m) ↔ (AllPass rs × (d ≡ Accepted n m))
-  accepted-by {n} {m} = (λ e. clear isAccepted rs d (Accepted n m) s e refl, λ k. all-pass rs d (k .0) ∙ k .1)
+  accepted-by : {n : Counts} → (firstOf rs d ≡ Accepted n) ↔ (AllPass rs × (d ≡ Accepted n))
+  accepted-by {n} = (λ e. clear isAccepted rs d (Accepted n) s e refl, λ k. all-pass rs d (k .0) ∙ k .1)
 
 -- what holds of what is to be said holds of what is said
 said : {A : Type 0} {r s x : A} {P : Type 0} → r ≡ s → (s ≡ x) ↔ P → (r ≡ x) ↔ P
@@ -79,37 +78,38 @@ kept-saying g ((t ⇒ x) ∷ rs) h = (h .0, kept-saying g rs (h .1))
 -- ---- the normaliser
 module _ (f : List ℕ) (room : ℕ) where
   -- none of its rules accepts
-  refused-form : (n : ℕ) {c p : ℕ} → (firstOf (normalRules f room) (Accepted n (length (normalOf f))) ≡ Refused c p) ↔ Broken (normalRules f room) (Refused c p)
-  refused-form n = refused-by (normalRules f room) (Accepted n (length (normalOf f))) refl (refl, (refl, (refl, tt)))
+  refused-form : (n : Counts) {c p : ℕ} → (firstOf (normalRules f room) (Accepted (normalCounts f n)) ≡ Refused c p) ↔ Broken (normalRules f room) (Refused c p)
+  refused-form n = refused-by (normalRules f room) (Accepted (normalCounts f n)) refl (refl, (refl, (refl, tt)))
 
-  accepted-form : (n : ℕ) {i m : ℕ}
-      → (firstOf (normalRules f room) (Accepted n (length (normalOf f))) ≡ Accepted i m) ↔ (AllPass (normalRules f room) × (Accepted n (length (normalOf f)) ≡ Accepted i m))
-  accepted-form n = accepted-by (normalRules f room) (Accepted n (length (normalOf f))) refl (refl, (refl, (refl, tt)))
+  accepted-form : (n : Counts) {m : Counts}
+      → (firstOf (normalRules f room) (Accepted (normalCounts f n)) ≡ Accepted m) ↔ (AllPass (normalRules f room) × (Accepted (normalCounts f n) ≡ Accepted m))
+  accepted-form n = accepted-by (normalRules f room) (Accepted (normalCounts f n)) refl (refl, (refl, (refl, tt)))
 
   normal-refused : {c p : ℕ} → (normalAnswer f room ≡ Refused c p) ↔ NormalCause f room c p
   unfolding normalAnswer
   normal-refused {c} {p} = (by (checkFile f) refl, back)
     where
       by : (a : Answer) → checkFile f ≡ a → behindCheck f room a ≡ Refused c p → NormalCause f room c p
-      by (Accepted n m) h q = by-form (accepted-keeps f n m h .0) (refused-form n .0 q)
+      by (Accepted n) h q = by-form (accepted-keeps f n h) (refused-form n .0 q)
       by (Refused d i) h q = refusals.NormalCause.by-check (why f c p (h ∙ q))
 
       back : NormalCause f room c p → behindCheck f room (checkFile f) ≡ Refused c p
       back (refusals.NormalCause.by-check k) = ap (behindCheck f room) (because f k)
       back (by-form {n = n} k b) = ap (behindCheck f room) (keeps-accepted f k) ∙ refused-form n .1 b
 
-  normal-accepted : {n m : ℕ} → (normalAnswer f room ≡ Accepted n m) ↔ (NormalKeeps f room n × (m ≡ length (normalOf f)))
+  normal-accepted : {n : Counts} → (normalAnswer f room ≡ Accepted n) ↔ NormalKeeps f room n
   unfolding normalAnswer
-  normal-accepted {n} {m} = (by (checkFile f) refl, back)
+  normal-accepted {n} = (by (checkFile f) refl, back)
     where
-      by : (a : Answer) → checkFile f ≡ a → behindCheck f room a ≡ Accepted n m → NormalKeeps f room n × (m ≡ length (normalOf f))
-      by (Accepted i j) h q =
+      by : (a : Answer) → checkFile f ≡ a → behindCheck f room a ≡ Accepted n → NormalKeeps f room n
+      by (Accepted i) h q =
           let k = accepted-form i .0 q in
-          (record { check = subst (Keeps f) (cc (k .1)) (accepted-keeps f i j h .0); form = k .0 }, sym (cc (k .1)))
+          let z : normalCounts f i ≡ n = cc (k .1) in
+          subst (NormalKeeps f room) z (refusals.NormalKeeps.by-all (accepted-keeps f i h) (k .0))
       by (Refused d i) h q = absurd (let z : _≡_ {A = ℕ} 0 1 = cc in omega arith)
 
-      back : NormalKeeps f room n × (m ≡ length (normalOf f)) → behindCheck f room (checkFile f) ≡ Accepted n m
-      back k = ap (behindCheck f room) (keeps-accepted f (k .0 .check)) ∙ accepted-form n .1 (k .0 .form, ap (Accepted n) (sym (k .1)))
+      back : {m : Counts} → NormalKeeps f room m → behindCheck f room (checkFile f) ≡ Accepted m
+      back (refusals.NormalKeeps.by-all {n = i} k h) = ap (behindCheck f room) (keeps-accepted f k) ∙ accepted-form i .1 (h, refl)
 
 -- ---- one tuple
 module _ (f : List ℕ) (room : ℕ) where
@@ -141,26 +141,26 @@ module _ (f : List ℕ) (room : ℕ) where
 module _ (f : List ℕ) (b : Bytes f) (p : ℕ) where
   back : {c q : ℕ} → AskCause f p c q → askChecked f p (checkFile f) ≡ Asked.Refused c q
   back (refusals.AskCause.by-check k) = ap (askChecked f p) (because f k)
-  back (by-place {n = n} k nowhere) = ap (askChecked f p) (keeps-accepted f k) ∙ missed f b n 0 (keeps-accepted f k) p nowhere
+  back (by-place {n = n} k nowhere) = ap (askChecked f p) (keeps-accepted f k) ∙ missed f b n (keeps-accepted f k) p nowhere
 
   ask-refused : {c q : ℕ} → (askAt f p ≡ Asked.Refused c q) ↔ AskCause f p c q
   unfolding askAt
   ask-refused {c} {q} = (by (checkFile f) refl, back)
     where
       -- at a listed ping asking refuses nothing
-      no-ping : (n m : ℕ) → checkFile f ≡ Accepted n m → askAccepted f p n ≡ Asked.Refused c q → PingAt f p → ⊥
-      no-ping n m h z a =
-          let g = answered f b n m h (a .ping) (a .listed) in
-          let y : askAccepted f p n ≡ askAt f p = sym (ap (askChecked f p) h) in
+      no-ping : (n : Counts) → checkFile f ≡ Accepted n → askAccepted f p (n .tuples) ≡ Asked.Refused c q → PingAt f p → ⊥
+      no-ping n h z a =
+          let g = answered f b n h (a .ping) (a .listed) in
+          let y : askAccepted f p (n .tuples) ≡ askAt f p = sym (ap (askChecked f p) h) in
           let x = sym z ∙ y ∙ ap (askAt f) (sym (a .place)) ∙ g .answer in
           let w : _≡_ {A = ℕ} 0 1 = cc (x) in
           omega arith
 
       by : (a : Answer) → checkFile f ≡ a → askChecked f p a ≡ Asked.Refused c q → AskCause f p c q
-      by (Accepted n m) h z =
-          let nowhere = no-ping n m h z in
-          let y : Asked.Refused 9 p ≡ Asked.Refused c q = sym (missed f b n m h p nowhere) ∙ z in
-          subst₂ (AskCause f p) (cc) (cc) (by-place (accepted-keeps f n m h .0) nowhere)
+      by (Accepted n) h z =
+          let nowhere = no-ping n h z in
+          let y : Asked.Refused 9 p ≡ Asked.Refused c q = sym (missed f b n h p nowhere) ∙ z in
+          subst₂ (AskCause f p) (cc) (cc) (by-place (accepted-keeps f n h) nowhere)
       by (Refused d i) h z = refusals.AskCause.by-check (why f c q (h ∙ (cc)))
 
 pub demand1 : Demand1
@@ -168,11 +168,11 @@ unfolding singleAnswer
 demand1 =
     record {
       check = λ {f} {r} k {c} {p}. said (k .is) (why f c p, because f);
-      check-takes = λ {f} {r} k {n} {m}. said (k .is) (accepted-keeps f n m, λ h. keeps-accepted f (h .0) ∙ ap (Accepted n) (sym (h .1)));
+      check-takes = λ {f} {r} k {n}. said (k .is) (accepted-keeps f n, keeps-accepted f);
       normal = λ {f} {out} k. said (k .answer .is) (normal-refused f (length out));
       normal-takes = λ {f} {out} k. said (k .answer .is) (normal-accepted f (length out));
-      tuple = λ {f} {out} k. said (k .answer .is) (refused-by (singleRules f (length out)) (Accepted 1 (length (singleForm f))) refl (silent f (length out)));
-      tuple-takes = λ {f} {out} k. said (k .answer .is) (accepted-by (singleRules f (length out)) (Accepted 1 (length (singleForm f))) refl (silent f (length out)));
+      tuple = λ {f} {out} k. said (k .answer .is) (refused-by (singleRules f (length out)) (accepting 1 (length (singleForm f))) refl (silent f (length out)));
+      tuple-takes = λ {f} {out} k. said (k .answer .is) (accepted-by (singleRules f (length out)) (accepting 1 (length (singleForm f))) refl (silent f (length out)));
       tuple-small = small;
       asking = λ {f} {p} b k. said (k .is) (ask-refused f b p);
     }

@@ -7,15 +7,16 @@ use Prim.Native.Nat.{ℕ, _≤_}
 use lib.ListN.{length}
 use Rattle.order.specs.Order.{Bytes}
 use Rattle.rules.specs.Rules.{AllPass}
+use Rattle.layout.specs.declared.Counts.{Counts}
 use Rattle.layout.specs.declared.Answer.{Answer}
 use Rattle.layout.specs.declared.Answer.the-variants.{Accepted, Refused}
+use Rattle.layout.specs.Answers.{accepting}
 use Rattle.frame.specs.Files.{limit, isMsb}
 use Rattle.frame.specs.Tuples.{tuplesOf}
 use Rattle.intake.specs.declared.Asked.{Asked}
 use Rattle.intake.specs.Check.{Checked}
 use Rattle.intake.specs.Asking.{AskedFor}
-use Rattle.normal.specs.Contents.{normalOf}
-use Rattle.normal.specs.Normaliser.{normalRules, Normalised}
+use Rattle.normal.specs.Normaliser.{normalRules, normalCounts, Normalised}
 use Rattle.normal.specs.Single.{singleForm, singleRules, NormalisedTuple}
 use Rattle.demands.specs.Causes.{Broken, Cause, Keeps}
 use Rattle.demands.specs.Families.{Among, Listed, placeAfter}
@@ -23,12 +24,11 @@ use Rattle.demands.specs.Families.{Among, Listed, placeAfter}
 -- ---- the normaliser, in either byte order: the check's rules; then, of a file that keeps these, 18, 20 and 19
 pub data NormalCause (f : List ℕ) (room : ℕ) : ℕ → ℕ → Type 0 where
   by-check : {c p : ℕ} → Cause f c p → NormalCause f room c p
-  by-form : {n c p : ℕ} → Keeps f n → Broken (normalRules f room) (Refused c p) → NormalCause f room c p
+  by-form : {n : Counts} {c p : ℕ} → Keeps f n → Broken (normalRules f room) (Refused c p) → NormalCause f room c p
 
--- no rule is broken, and the file has n tuples
-pub record NormalKeeps (f : List ℕ) (room n : ℕ) : Type 0 where
-  pub check : Keeps f n
-  pub form : AllPass (normalRules f room)
+-- no rule is broken, and what is counted then
+pub data NormalKeeps (f : List ℕ) (room : ℕ) : Counts → Type 0 where
+  by-all : {n : Counts} → Keeps f n → AllPass (normalRules f room) → NormalKeeps f room (normalCounts f n)
 
 -- ---- asking: the check's rules; then 9 where no listed ping of the file starts at the place
 pub record PingAt (f : List ℕ) (p : ℕ) : Type 0 where
@@ -38,21 +38,20 @@ pub record PingAt (f : List ℕ) (p : ℕ) : Type 0 where
 
 pub data AskCause (f : List ℕ) (p : ℕ) : ℕ → ℕ → Type 0 where
   by-check : {c q : ℕ} → Cause f c q → AskCause f p c q
-  by-place : {n : ℕ} → Keeps f n → (PingAt f p → ⊥) → AskCause f p 9 p
+  by-place : {n : Counts} → Keeps f n → (PingAt f p → ⊥) → AskCause f p 9 p
 
 -- ---- of every outcome that a call's promise allows
 pub record Demand1 : Type 0 where
   -- the check
   pub check : {f : List ℕ} {r : Answer} → Checked f r → {c p : ℕ} → (r ≡ Refused c p) ↔ Cause f c p
-  pub check-takes : {f : List ℕ} {r : Answer} → Checked f r → {n m : ℕ} → (r ≡ Accepted n m) ↔ (Keeps f n × (m ≡ 0))
+  pub check-takes : {f : List ℕ} {r : Answer} → Checked f r → {n : Counts} → (r ≡ Accepted n) ↔ Keeps f n
   -- the normaliser
   pub normal : {f out left : List ℕ} {r : Answer} → Normalised f out r left → {c p : ℕ} → (r ≡ Refused c p) ↔ NormalCause f (length out) c p
-  pub normal-takes : {f out left : List ℕ} {r : Answer} → Normalised f out r left → {n m : ℕ}
-      → (r ≡ Accepted n m) ↔ (NormalKeeps f (length out) n × (m ≡ length (normalOf f)))
+  pub normal-takes : {f out left : List ℕ} {r : Answer} → Normalised f out r left → {n : Counts} → (r ≡ Accepted n) ↔ NormalKeeps f (length out) n
   -- one tuple's normal form; its rules have no 20, and need none
   pub tuple : {f out left : List ℕ} {r : Answer} → NormalisedTuple f out r left → {c p : ℕ} → (r ≡ Refused c p) ↔ Broken (singleRules f (length out)) (Refused c p)
-  pub tuple-takes : {f out left : List ℕ} {r : Answer} → NormalisedTuple f out r left → {n m : ℕ}
-      → (r ≡ Accepted n m) ↔ (AllPass (singleRules f (length out)) × (Accepted 1 (length (singleForm f)) ≡ Accepted n m))
+  pub tuple-takes : {f out left : List ℕ} {r : Answer} → NormalisedTuple f out r left → {n : Counts}
+      → (r ≡ Accepted n) ↔ (AllPass (singleRules f (length out)) × (accepting 1 (length (singleForm f)) ≡ Accepted n))
   pub tuple-small : (f : List ℕ) (room : ℕ) → AllPass (singleRules f room) → length (singleForm f) ≤ limit
   -- asking
   pub asking : {f : List ℕ} {p : ℕ} {r : Asked} → Bytes f → AskedFor f p r → {c q : ℕ} → (r ≡ Asked.Refused c q) ↔ AskCause f p c q

@@ -8,7 +8,7 @@ use Rattle.order.specs.Order.{signedOf, patternOf}
 use Rattle.layout.specs.declared.Answer.{Answer}
 use Rattle.layout.specs.declared.Answer.the-variants.{Accepted}
 use Rattle.layout.specs.declared.Answer.the-variants as answer
-use Rattle.layout.specs.Answers.{numbers, Tells}
+use Rattle.layout.specs.Answers.{numbers, Tells, accepting}
 use Rattle.turning.specs.Rows.{Value, number, text}
 use Rattle.content.specs.Items.{numberAt}
 use Rattle.tuples.specs.Readers.{only, readAnswer, readValues}
@@ -40,11 +40,11 @@ eventValues r t =
 
 -- ---- reading: 01's answer in each case, and the promise, which settles the outcome
 abbrev pub answerOf : EventRead → Answer
-answerOf (Read r t) = Accepted 1 0
+answerOf (Read r t) = accepting 1 0
 answerOf (Refused c p) = answer.Refused c p
 
 abbrev pub answered : Answer → Event → Part → EventRead
-answered (Accepted n m) r t = Read r t
+answered (Accepted n) r t = Read r t
 answered (answer.Refused c p) r t = Refused c p
 
 pub record EventAt (f : List ℕ) (p : ℕ) (r : EventRead) : Type 0 where

@@ -10,9 +10,10 @@ use Rattle.order.specs.Order.{Bytes}
 use Rattle.order.proofs.Laws.{bytes-drop}
 use Rattle.rules.specs.Rules.{Rule, _⇒_, firstOf, saying, AllPass}
 use Rattle.rules.proofs.Laws.{clear}
+use Rattle.layout.specs.declared.Counts.{Counts}
 use Rattle.layout.specs.declared.Answer.{Answer}
 use Rattle.layout.specs.declared.Answer.the-variants.{Accepted, Refused}
-use Rattle.layout.specs.Answers.{judged, Breach, refusedAt}
+use Rattle.layout.specs.Answers.{judged, Breach, refusedAt, accepting, isAccepted}
 use Rattle.layout.proofs.Verdicts.{passed, both-left, both-right, judged-append}
 use Rattle.frame.specs.Frames.{Tup, frames, tupAt, frameRules, framing}
 use Rattle.frame.specs.Files.{isMsb, fileRules}
@@ -25,7 +26,7 @@ use Rattle.content.specs.Forms.{formsOf}
 use Rattle.content.proofs.Fine.{Sound}
 use Rattle.content.proofs.Kept.{kept}
 use Rattle.intake.specs.Check.{checkFile}
-use Rattle.intake.proofs.Accepted.{isAccepted, refusal, Division, all-framed, accepted-file}
+use Rattle.intake.proofs.Accepted.{refusal, Division, all-framed, accepted-file}
 use Rattle.normal.specs.Contents.{items, contentOf, normalTuples, formed, normalOf}
 use Rattle.normal.specs.Normaliser.{normalRules, behindCheck, normalAnswer}
 use Rattle.normal.specs.Single.{singleTuples, singleForm, behindRules, singleAnswer}
@@ -46,27 +47,27 @@ all-normal f a =
     let content : contentOf f ≡ items (a .msb) (a .tuples) = ap contentOf (a .whole) ∙ ap₂ items (msb-mark (a .msb) (frames (a .msb) (a .tuples))) (tuples-of (a .msb) (a .tuples) g) in
     subst (λ (c : List Item). AllFramed (normalTuples c)) (sym content) (all-framed false (normalTuples (items (a .msb) (a .tuples))) (carried (a .msb) (a .tuples) (a .sound) .sound))
 
-pub file-written : (f : List ℕ) → Bytes f → (room n m : ℕ) → normalAnswer f room ≡ Accepted n m → Written (normalOf f) (normalTuples (contentOf f)) room m
+pub file-written : (f : List ℕ) → Bytes f → (room : ℕ) (n : Counts) → normalAnswer f room ≡ Accepted n → Written (normalOf f) (normalTuples (contentOf f)) room (n .written)
 unfolding normalAnswer
-file-written f b room n m e = by-answer (checkFile f) refl e
+file-written f b room n e = by-answer (checkFile f) refl e
   where
-    by-answer : (a : Answer) → checkFile f ≡ a → behindCheck f room a ≡ Accepted n m → Written (normalOf f) (normalTuples (contentOf f)) room m
-    by-answer (Refused c p) h q = refusal c p n m q
-    by-answer (Accepted i j) h q =
-        let c = clear isAccepted (normalRules f room) (Accepted i (length (normalOf f))) (Accepted n m) (refl, (refl, (refl, tt))) q refl in
+    by-answer : (a : Answer) → checkFile f ≡ a → behindCheck f room a ≡ Accepted n → Written (normalOf f) (normalTuples (contentOf f)) room (n .written)
+    by-answer (Refused c p) h q = refusal c p n q
+    by-answer (Accepted i) h q =
+        let c = clear isAccepted (normalRules f room) (accepting (i .tuples) (length (normalOf f))) (Accepted n) (refl, (refl, (refl, tt))) q refl in
         record {
           bytes = sym (cc (c .1));
           fits = ltb-false room (length (normalOf f)) (c .0 .1 .1 .0);
-          whole = record { whole = unfold normalOf formed in refl; framed = all-normal f (accepted-file f b i j h .0) };
+          whole = record { whole = unfold normalOf formed in refl; framed = all-normal f (accepted-file f b i h .0) };
         }
 
 -- ---- a mark and one tuple
 -- what is accepted behind refusals passes them
-through : (p : ℕ) (rs : List (Rule Breach)) (behind : List (Rule Answer)) (d : Answer) (n m : ℕ)
-    → firstOf (saying (refusedAt p) rs ++ behind) d ≡ Accepted n m → AllPass rs × (firstOf behind d ≡ Accepted n m)
-through p [] behind d n m e = (tt, e)
-through p ((true ⇒ b) ∷ rs) behind d n m e = refusal (b .code) (p + b .offset) n m e
-through p ((false ⇒ b) ∷ rs) behind d n m e = let r = through p rs behind d n m e in ((refl, r .0), r .1)
+through : (p : ℕ) (rs : List (Rule Breach)) (behind : List (Rule Answer)) (d : Answer) (n : Counts)
+    → firstOf (saying (refusedAt p) rs ++ behind) d ≡ Accepted n → AllPass rs × (firstOf behind d ≡ Accepted n)
+through p [] behind d n e = (tt, e)
+through p ((true ⇒ b) ∷ rs) behind d n e = refusal (b .code) (p + b .offset) n e
+through p ((false ⇒ b) ∷ rs) behind d n e = let r = through p rs behind d n e in ((refl, r .0), r .1)
 
 -- the normal tuple of a sound one
 one-normal : (o : Bool) (t : Tup) → Sound o t → AllFramed (formsOf (itemOf o t))
@@ -90,17 +91,17 @@ sound o r b p =
       inner = both-right (judged head) (judged inner) own;
     }
 
-pub tuple-written : (f : List ℕ) → Bytes f → (room n m : ℕ) → singleAnswer f room ≡ Accepted n m → Written (singleForm f) (singleTuples f) room m
+pub tuple-written : (f : List ℕ) → Bytes f → (room : ℕ) (n : Counts) → singleAnswer f room ≡ Accepted n → Written (singleForm f) (singleTuples f) room (n .written)
 unfolding singleAnswer
-tuple-written f b room n m e =
+tuple-written f b room n e =
     let o = isMsb f in
     let r = drop 4 f in
     let t = tupAt o r in
     let own = frameRules o r ++ (headRules o t ++ innerRules o t) in
-    let d = Accepted 1 (length (singleForm f)) in
-    let filed = through 0 (fileRules f) (saying (refusedAt 4) own ++ behindRules f room) d n m e in
-    let judged = through 4 own (behindRules f room) d n m (filed .1) in
-    let behind = clear isAccepted (behindRules f room) d (Accepted n m) (refl, (refl, (refl, tt))) (judged .1) refl in
+    let d = accepting 1 (length (singleForm f)) in
+    let filed = through 0 (fileRules f) (saying (refusedAt 4) own ++ behindRules f room) d n e in
+    let judged = through 4 own (behindRules f room) d n (filed .1) in
+    let behind = clear isAccepted (behindRules f room) d (Accepted n) (refl, (refl, (refl, tt))) (judged .1) refl in
     record {
       bytes = sym (cc (behind .1));
       fits = ltb-false room (length (singleForm f)) (behind .0 .1 .1 .0);

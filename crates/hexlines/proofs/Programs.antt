@@ -9,6 +9,7 @@ use native.Mathlib.Omega.{arith}
 use lib.ListN.{length, take, drop, length-append}
 use lib.Seq.{sets, take-at}
 use Rattle.order.specs.Order.{Bytes}
+use Rattle.layout.specs.declared.Counts.{Counts}
 use Rattle.layout.specs.declared.Answer.{Answer}
 use Rattle.layout.specs.declared.Answer.the-variants.{Accepted, Refused}
 use Rattle.layout.specs.Answers.{leftBy}
@@ -63,11 +64,12 @@ pub record Answered (text : List ℕ) (a : Answer) (left : List ℕ) : Type 0 wh
   pub ready : Ready a left
   pub says : printedBy a left ≡ text
 
-answered : (form lent left : List ℕ) (ts : List Tup) (a : Answer) → length lent ≡ room → ((n m : ℕ) → a ≡ Accepted n m → Written form ts room m)
+answered : (form lent left : List ℕ) (ts : List Tup) (a : Answer) → length lent ≡ room → ((n : Counts) → a ≡ Accepted n → Written form ts room (n .written))
     → left ≡ leftBy a form lent → Answered (printed ts a) a left
 answered form lent left ts (Refused c p) h w e = record { ready = tt; says = refl }
-answered form lent left ts (Accepted n m) h w e =
-    let g = w n m refl in
+answered form lent left ts (Accepted n) h w e =
+    let m = n .written in
+    let g = w n refl in
     let front : take m left ≡ form = ap (take m) e ∙ take-at form (drop (length form) lent) m (sym (g .bytes)) in
     let tuples : tuplesOf (take m left) ≡ ts = ap tuplesOf (front ∙ g .whole .whole) ∙ tuples-of false ts (g .whole .framed) in
     record {
@@ -85,13 +87,13 @@ module _ (f lent left : List ℕ) (b : Bytes f) (h : length lent ≡ room) (r : 
   file-answered n =
       let e : r ≡ normalAnswer f room = n .answer .is ∙ ap (normalAnswer f) h in
       subst (λ (a : Answer). Answered (printed (normalTuples (contentOf f)) a) r left) e
-      (answered (normalOf f) lent left (normalTuples (contentOf f)) r h (λ n m q. file-written f b room n m (sym e ∙ q)) (n .memory ∙ ap (λ (a : Answer). leftBy a (normalOf f) lent) (sym (n .answer .is))))
+      (answered (normalOf f) lent left (normalTuples (contentOf f)) r h (λ n q. file-written f b room n (sym e ∙ q)) (n .memory ∙ ap (λ (a : Answer). leftBy a (normalOf f) lent) (sym (n .answer .is))))
 
   pub tuple-answered : NormalisedTuple f lent r left → Answered (tupleProgram (bytes f)) r left
   tuple-answered n =
       let e : r ≡ singleAnswer f room = n .answer .is ∙ ap (singleAnswer f) h in
       subst (λ (a : Answer). Answered (printed (singleTuples f) a) r left) e
-      (answered (singleForm f) lent left (singleTuples f) r h (λ n m q. tuple-written f b room n m (sym e ∙ q)) (n .memory ∙ ap (λ (a : Answer). leftBy a (singleForm f) lent) (sym (n .answer .is))))
+      (answered (singleForm f) lent left (singleTuples f) r h (λ n q. tuple-written f b room n (sym e ∙ q)) (n .memory ∙ ap (λ (a : Answer). leftBy a (singleForm f) lent) (sym (n .answer .is))))
 
 -- ---- what is printed of the input is what is printed of the text
 prints : {out says whole left : List ℕ} {r : ℕ} → says ≡ whole → Put out 0 says r left → Prints whole out r left

@@ -29,7 +29,7 @@ fileLines ts = line (hex (mark false)) ++ tupleLines ts
 
 -- what is printed for an answer, with the tuples of an acceptance
 abbrev pub printed : List Tup → Answer → List ℕ
-printed ts (Accepted n m) = fileLines ts
+printed ts (Accepted n) = fileLines ts
 printed ts (Refused c p) = refusedLine c p
 
 -- ---- the first program prints a file's normal form

@@ -1,5 +1,6 @@
 // Intake: the check of a file, and asking for a ping's channel and sounder.
 use layout::Answer;
+use layout::Counts;
 use layout::DocumentId;
 use layout::SoftwareChannel;
 use layout::Verdict;
@@ -16,8 +17,8 @@ ghost use Rattle.order.specs.Order.{numOf};
 ghost use Rattle.frame.specs.Frames.{tupAt};
 ghost use Rattle.frame.specs.Files.{limit};
 ghost use Rattle.links.specs.inner.Tables.{nameVerdict};
-ghost use Rattle.intake.specs.inner.Tallies.{Here, Fits, headVerdict, linkVerdict, innerVerdict, ownVerdict, turnVerdict, tallyBegin, tallyPast, Standing, Ended, endAnswer, columns, Sized, TurnedTo, RunTo, AskIn, askColumns, AcceptedFile};
-ghost use Rattle.intake.specs.Check.{Checked};
+ghost use Rattle.intake.specs.inner.Tallies.{Here, Fits, headVerdict, linkVerdict, innerVerdict, ownVerdict, turnVerdict, tallyBegin, tallyPast, Standing, Ended, endAnswer, columns, Sized, TurnedTo, RunTo, AskIn, askColumns};
+ghost use Rattle.intake.specs.Check.{checkFile, Checked};
 ghost use Rattle.intake.specs.Asking.{AskedFor, askAccepted};
 
 // The places of the fields that link tuples, behind a tuple's first byte.
@@ -342,10 +343,7 @@ fn end(
         let place = places[wrong];
         return layout::refuse(codes::WRONG_COUNT, place);
     }
-    Answer::Accepted {
-        tuples: w.count,
-        written: 0,
-    }
+    layout::accept(w.count, 0)
 }
 
 // One turn: the tuple where the tally stands is judged, its declaration is kept, and the tally passes it.
@@ -516,9 +514,9 @@ fn ask_here(
 }
 
 // Goes to a place of an accepted file, tuple by tuple, keeping the declarations before it.
-fn ask_accepted(file: &[u8], place: usize, tuples: usize) -> Asked
-    requires { ⌜ AcceptedFile (now file) tuples ⌝ }
-    ensures { λ r. ⌜ r ≡ askAccepted (now (file .entry)) place tuples ⌝ }
+fn ask_accepted(file: &[u8], place: usize, counts: Counts) -> Asked
+    requires { ⌜ checkFile (now file) ≡ Answer.Accepted counts ⌝ }
+    ensures { λ r. ⌜ r ≡ askAccepted (now (file .entry)) place (counts .tuples) ⌝ }
 {
     let msb = frame::is_msb(file);
     let mut docs = [0u32; SOUNDERS];
@@ -542,7 +540,7 @@ fn ask_accepted(file: &[u8], place: usize, tuples: usize) -> Asked
             file,
             msb,
             w,
-            tuples,
+            counts.tuples,
             &docs,
             &sounder_places,
             &ids,
@@ -562,6 +560,6 @@ pub fn ask(file: &[u8], place: usize) -> Asked
 {
     match check(file) {
         Answer::Refused { code, place } => Asked::Refused { code, place },
-        Answer::Accepted { tuples, written: _ } => ask_accepted(file, place, tuples),
+        Answer::Accepted(counts) => ask_accepted(file, place, counts),
     }
 }

@@ -7,13 +7,20 @@ ghost use mathlib.Core.Path.{_≡_};
 ghost use Prim.Native.Nat.{_<_};
 ghost use mathlib.Core.List.{[]};
 ghost use lib.ListN.{getD};
+ghost use Rattle.layout.specs.Answers.{accepting};
 ghost use Rattle.layout.specs.Fields.{known};
 ghost use Rattle.layout.specs.Types.{inClass, kindOf, placeIn, lineOf, fitting};
 ghost use Rattle.layout.specs.inner.Codes.{leasts, steps, rowCodes};
 
-// What intake says: the tuples counted and the bytes written, or the code and the place of the first broken rule.
+// What an acceptance counts: the tuples of what was handed in, and the bytes or samples written.
+pub struct Counts {
+    pub tuples: usize,
+    pub written: usize,
+}
+
+// What intake says: it accepts and counts, or it refuses with the code and the place of the first broken rule.
 pub enum Answer {
-    Accepted { tuples: usize, written: usize },
+    Accepted(Counts),
     Refused { code: u8, place: usize },
 }
 
@@ -112,6 +119,13 @@ pub fn fault(code: u8) -> Verdict
     ensures { λ r. ⌜ r ≡ Verdict.Fault code 0 ⌝ }
 {
     Verdict::Fault { code, offset: 0 }
+}
+
+// An acceptance.
+pub fn accept(tuples: usize, written: usize) -> Answer
+    ensures { λ r. ⌜ r ≡ accepting tuples written ⌝ }
+{
+    Answer::Accepted(Counts { tuples, written })
 }
 
 // A refusal.

@@ -7,7 +7,7 @@ use Rattle.order.specs.Order.{signedOf, patternOf}
 use Rattle.layout.specs.declared.Answer.{Answer}
 use Rattle.layout.specs.declared.Answer.the-variants.{Accepted}
 use Rattle.layout.specs.declared.Answer.the-variants as answer
-use Rattle.layout.specs.Answers.{numbers, Tells}
+use Rattle.layout.specs.Answers.{numbers, Tells, accepting}
 use Rattle.turning.specs.Rows.{Value, number}
 use Rattle.content.specs.Items.{numberAt}
 use Rattle.tuples.specs.Readers.{only, readAnswer, readValues}
@@ -41,11 +41,11 @@ navigationValues r =
 
 -- ---- reading: 01's answer in each case, and the promise, which settles the outcome
 abbrev pub answerOf : NavigationRead → Answer
-answerOf (Read r) = Accepted 1 0
+answerOf (Read r) = accepting 1 0
 answerOf (Refused c p) = answer.Refused c p
 
 abbrev pub answered : Answer → Navigation → NavigationRead
-answered (Accepted n m) r = Read r
+answered (Accepted n) r = Read r
 answered (answer.Refused c p) r = Refused c p
 
 pub record NavigationAt (f : List ℕ) (p : ℕ) (r : NavigationRead) : Type 0 where

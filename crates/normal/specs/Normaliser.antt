@@ -6,9 +6,10 @@ use mathlib.Core.List.{List, [], _∷_}
 use lib.Dec.{ltb}
 use lib.ListN.{length}
 use Rattle.rules.specs.Rules.{Rule, _⇒_, firstOf}
+use Rattle.layout.specs.declared.Counts.{Counts}
 use Rattle.layout.specs.declared.Answer.{Answer}
 use Rattle.layout.specs.declared.Answer.the-variants.{Accepted, Refused}
-use Rattle.layout.specs.Answers.{numbers, Tells, leftBy}
+use Rattle.layout.specs.Answers.{numbers, Tells, leftBy, counts}
 use Rattle.layout.specs.Types.{Shape, indexed, row, pairs, words, unlisted, shapeOf}
 use Rattle.frame.specs.Frames.{Tup, lengthOf}
 use Rattle.frame.specs.Files.{limit, isMsb}
@@ -39,9 +40,13 @@ normalRules f room =
     ∷ (ltb room n ⇒ Refused 19 0)
     ∷ []
 
--- the check's refusals first; the tuples of the file handed in, and the bytes written
+-- the tuples of the file handed in, and the bytes written
+abbrev pub normalCounts : List ℕ → Counts → Counts
+normalCounts f n = counts (n .tuples) (length (normalOf f))
+
+-- the check's refusals first
 abbrev pub behindCheck : List ℕ → ℕ → Answer → Answer
-behindCheck f room (Accepted n m) = firstOf (normalRules f room) (Accepted n (length (normalOf f)))
+behindCheck f room (Accepted n) = firstOf (normalRules f room) (Accepted (normalCounts f n))
 behindCheck f room (Refused c p) = Refused c p
 
 unfoldable pub normalAnswer : List ℕ → ℕ → Answer

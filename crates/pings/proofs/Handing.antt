@@ -10,7 +10,8 @@ use lib.IntN.{ℤ}
 use lib.ListN.{length, drop}
 use lib.Seq.{sets, sets-eq}
 use Rattle.rules.proofs.Bools.{or-true}
-use Rattle.layout.specs.declared.Answer.the-variants.{Accepted, Refused}
+use Rattle.layout.specs.declared.Answer.the-variants.{Refused}
+use Rattle.layout.specs.Answers.{accepting}
 use Rattle.samples.specs.Words.{Sample, words, allWords, pairUp}
 use Rattle.samples.specs.Lists.{numbersOf, valuesOf}
 use Rattle.samples.specs.inner.Lists.{Room}
@@ -36,7 +37,7 @@ module _ (s : List Sample) (ns : List ℕ) (vs : List ℤ) where
   length-map g [] = refl
   length-map g (x ∷ xs) = ap suc (length-map g xs)
 
-  pub handed : Room s ns vs → {ms : List ℕ} {us : List ℤ} → ms ≡ sets ns 0 (numbersOf s) → us ≡ sets vs 0 (valuesOf s) → Handed s ns vs (Accepted 1 (length s)) ms us
+  pub handed : Room s ns vs → {ms : List ℕ} {us : List ℤ} → ms ≡ sets ns 0 (numbersOf s) → us ≡ sets vs 0 (valuesOf s) → Handed s ns vs (accepting 1 (length s)) ms us
   handed r a b =
       let e : ltb (length ns) (length s) || ltb (length vs) (length s) ≡ false = rw (le-ltb (length ns) (length s) (r .forNumbers), le-ltb (length vs) (length s) (r .forValues)) in
       record {

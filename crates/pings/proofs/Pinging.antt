@@ -15,8 +15,9 @@ use Rattle.rules.proofs.Laws.{first-eq}
 use Rattle.order.specs.Order.{bytesOf, patternOf}
 use Rattle.order.proofs.Laws.{length-bytesOf}
 use Rattle.layout.specs.declared.Answer.{Answer}
-use Rattle.layout.specs.declared.Answer.the-variants.{Accepted, Refused}
+use Rattle.layout.specs.declared.Answer.the-variants.{Refused}
 use Rattle.layout.specs.Types.{pingRow}
+use Rattle.layout.specs.Answers.{accepting}
 use Rattle.turning.specs.Rows.{encode}
 use Rattle.frame.specs.Frames.{lengthOf, frame}
 use Rattle.frame.proofs.Frames.{length-frame}
@@ -56,7 +57,7 @@ module _ (ns : List ℕ) (vs : List ℤ) (rest : List (Rule Answer)) (bytes out 
   abbrev W : Answer → List ℕ → Type 0
   W r left = Written (countRules ns vs ++ rest) bytes out r left
 
-  said : {x : Answer} → First (rules ++ ((ltb (length out) (length bytes) ⇒ Refused 19 0) ∷ [])) (Accepted 1 (length bytes)) x → x ≡ writeAnswer rules bytes (length out)
+  said : {x : Answer} → First (rules ++ ((ltb (length out) (length bytes) ⇒ Refused 19 0) ∷ [])) (accepting 1 (length bytes)) x → x ≡ writeAnswer rules bytes (length out)
   said w = first-eq w
 
   pub unequal : (length ns ≡ length vs → ⊥) → W (Refused 10 (min (length ns) (length vs))) out
@@ -70,14 +71,14 @@ module _ (ns : List ℕ) (vs : List ℤ) (rest : List (Rule Answer)) (bytes out 
     overfull m = unwritten rules bytes out 11 0 (said (pass same (here (lt-ltb most (length ns) m))))
 
     module _ (m : length ns ≤ 32764) where
-      passed : {x : Answer} → First own (Accepted 1 (length bytes)) x → x ≡ writeAnswer rules bytes (length out)
+      passed : {x : Answer} → First own (accepting 1 (length bytes)) x → x ≡ writeAnswer rules bytes (length out)
       passed w = said (pass same (pass (le-ltb most (length ns) m) w))
 
-      pub refuse : (c q : ℕ) → First own (Accepted 1 (length bytes)) (Refused c q) → W (Refused c q) out
+      pub refuse : (c q : ℕ) → First own (accepting 1 (length bytes)) (Refused c q) → W (Refused c q) out
       refuse c q w = unwritten rules bytes out c q (passed w)
 
-      pub accept : (n : ℕ) (left : List ℕ) → length bytes ≡ n → n ≤ length out → First own (Accepted 1 (length bytes)) (Accepted 1 (length bytes)) → left ≡ sets out 0 bytes → W (Accepted 1 n) left
-      accept n left l r w s = all-written rules bytes out n left l r (ap (Accepted 1) (sym l) ∙ passed w) s
+      pub accept : (n : ℕ) (left : List ℕ) → length bytes ≡ n → n ≤ length out → First own (accepting 1 (length bytes)) (accepting 1 (length bytes)) → left ≡ sets out 0 bytes → W (accepting 1 n) left
+      accept n left l r w s = all-written rules bytes out n left l r (ap (accepting 1) (sym l) ∙ passed w) s
 
 -- ---- numbers that rise, or drop at a place
 module _ (ns : List ℕ) (vs : List ℤ) (e : length ns ≡ length vs) (i : ℕ) (d : i ≡ firstDrop 0 (numbered ns)) where
@@ -153,13 +154,13 @@ module _ (o : Bool) (h : PingHeader) (a : ℤ) (ns : List ℕ) (vs : List ℤ) (
               ∙ ap (λ (n : ℕ). sets out 0 (bytesOf o 4 n ++ (bytesOf o 2 10000 ++ ((enc ++ (us ++ bytesOf o 4 (patternOf 4 a))) ++ bytesOf o 4 (32 + 8 * length ns))))) size
               ∙ ap (λ (n : ℕ). sets out 0 (bytesOf o 4 (length (dataU o (handedPing h a ns vs))) ++ (bytesOf o 2 10000 ++ ((enc ++ (us ++ bytesOf o 4 (patternOf 4 a))) ++ bytesOf o 4 n)))) whole
 
-          done : (left : List ℕ) → 32 + 8 * length ns ≤ length out → left ≡ sets out 0 bytes → U (Accepted 1 (32 + 8 * length ns)) left
+          done : (left : List ℕ) → 32 + 8 * length ns ≤ length out → left ≡ sets out 0 bytes → U (accepting 1 (32 + 8 * length ns)) left
           done left r =
               accept ns vs ownU bytes out e m (32 + 8 * length ns) left length-bytes r
               (pass some (pass (no-drop ns vs e i d l) (pass fits (pass (le-ltb (length out) (length bytes) (omega (arith, length-bytes, r))) none))))
 
           pub written : (n : ℕ) → n ≡ 32 + 8 * length ns → (left : List ℕ) → n ≤ length out
-              → left ≡ sets (sets (sets out 0 (openingBytes o n 10000 h)) 24 (unwords 4 o (unpair (paired ns vs)))) (n - 8) (closingBytes o n a) → U (Accepted 1 n) left
+              → left ≡ sets (sets (sets out 0 (openingBytes o n 10000 h)) 24 (unwords 4 o (unpair (paired ns vs)))) (n - 8) (closingBytes o n a) → U (accepting 1 n) left
           written n w left r s =
               let us = unwords 4 o (unpair (paired ns vs)) in
               let z : 32 + 8 * length ns - 8 ≡ 24 + 8 * length ns = omega arith in
@@ -265,7 +266,7 @@ module _ (o : Bool) (h : PingHeader) (a : ℤ) (ns : List ℕ) (vs : List ℤ) w
                 sound-C =
                     record { equal = sym e; rising = omega (arith, first-there ns vs e i d, drop-most (paired ns vs) 0, length-paired ns vs (sym e)); few = m; size = z; short = b; fits = r }
 
-                pub written-C : (left : List ℕ) → left ≡ sets out 0 (bytesC o (handedPing h a ns vs)) → C (Accepted 1 n) left
+                pub written-C : (left : List ℕ) → left ≡ sets out 0 (bytesC o (handedPing h a ns vs)) → C (accepting 1 n) left
                 written-C left =
                     accept ns vs ownC bytes-of out e m n left (length-bytes-C ∙ sym z) r
                     (pass rises (pass worded (pass fits-C (pass (le-ltb (length out) (length bytes-of) (omega (arith, length-bytes-C, z))) none))))

@@ -12,10 +12,10 @@ use lib.ListN.{length, take, drop, length-drop}
 use lib.Seq.{length-take-le}
 use Rattle.rules.specs.Rules.{AllPass}
 use Rattle.layout.specs.declared.Answer.{Answer}
-use Rattle.layout.specs.declared.Answer.the-variants.{Accepted, Refused}
+use Rattle.layout.specs.declared.Answer.the-variants.{Refused}
 use Rattle.layout.specs.declared.Verdict.the-variants.{Fine}
 use Rattle.layout.specs.Types.{classes, inClass, kindOf}
-use Rattle.layout.specs.Answers.{both, tells}
+use Rattle.layout.specs.Answers.{both, tells, accepting}
 use Rattle.layout.proofs.Verdicts.{both-left, both-right, passes}
 use Rattle.frame.specs.Files.{isMsb}
 use Rattle.samples.specs.Words.{allWords, pairUp}
@@ -39,7 +39,7 @@ module _ {f : List ℕ} {p : ℕ} (ns : List ℕ) (vs : List ℤ) where
   unfolding sampleAnswer
   refused c q e = record { answer = rw (← e) (tells refl); numbersLeft = rw (← e); valuesLeft = rw (← e) }
 
-  pub read : Accepted 1 0 ≡ readAnswer isPing f p → {r : Answer} {ms : List ℕ} {us : List ℤ} → Handed (samplesAt f p) ns vs r ms us → SamplesRead f p ns vs r ms us
+  pub read : accepting 1 0 ≡ readAnswer isPing f p → {r : Answer} {ms : List ℕ} {us : List ℤ} → Handed (samplesAt f p) ns vs r ms us → SamplesRead f p ns vs r ms us
   unfolding sampleAnswer
   read e h = record { answer = rw (← e) (tells (h .answer)); numbersLeft = rw (← e) (h .numbersLeft); valuesLeft = rw (← e) (h .valuesLeft) }
 

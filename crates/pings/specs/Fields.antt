@@ -10,7 +10,7 @@ use Rattle.order.specs.Order.{signedOf}
 use Rattle.layout.specs.declared.Answer.{Answer}
 use Rattle.layout.specs.declared.Answer.the-variants.{Accepted}
 use Rattle.layout.specs.declared.Answer.the-variants as answer
-use Rattle.layout.specs.Answers.{numbers, Tells}
+use Rattle.layout.specs.Answers.{numbers, Tells, accepting}
 use Rattle.turning.specs.Rows.{Value}
 use Rattle.content.specs.Pings.{Ping}
 use Rattle.content.specs.Items.{Item, plain, ping, raw, numberAt}
@@ -52,11 +52,11 @@ pingFields f p = fieldsBy (pingBy (readItem f p)) (tupleThere f p .kind)
 
 -- ---- 01's answer in each case, and the promise, which settles the outcome
 abbrev pub answerOf : PingRead → Answer
-answerOf (Read h a k n) = Accepted 1 0
+answerOf (Read h a k n) = accepting 1 0
 answerOf (Refused c p) = answer.Refused c p
 
 abbrev pub answered : Answer → PingRead → PingRead
-answered (Accepted n m) r = r
+answered (Accepted n) r = r
 answered (answer.Refused c p) r = Refused c p
 
 pub record PingAt (f : List ℕ) (p : ℕ) (r : PingRead) : Type 0 where

@@ -10,7 +10,7 @@ use lib.ListN.{length}
 use Rattle.rules.specs.Rules.{_⇒_, firstOf}
 use Rattle.layout.specs.declared.Answer.{Answer}
 use Rattle.layout.specs.declared.Answer.the-variants.{Accepted, Refused}
-use Rattle.layout.specs.Answers.{Tells, leftBy}
+use Rattle.layout.specs.Answers.{Tells, leftBy, accepting}
 use Rattle.layout.specs.Answers
 use Rattle.samples.specs.Words.{Sample}
 use Rattle.samples.specs.Lists.{numbersOf, valuesOf}
@@ -29,11 +29,11 @@ samplesAt f p = samplesBy (readItem f p)
 
 -- n samples are handed over: 19 where either slice is short
 abbrev pub handAnswer : ℕ → ℕ → ℕ → Answer
-handAnswer n numbers values = firstOf ((ltb numbers n || ltb values n ⇒ Refused 19 0) ∷ []) (Accepted 1 n)
+handAnswer n numbers values = firstOf ((ltb numbers n || ltb values n ⇒ Refused 19 0) ∷ []) (accepting 1 n)
 
 -- the ping's own refusals, then these
 abbrev pub behindRead : ℕ → ℕ → ℕ → Answer → Answer
-behindRead n numbers values (Accepted k m) = handAnswer n numbers values
+behindRead n numbers values (Accepted k) = handAnswer n numbers values
 behindRead n numbers values (Refused c p) = Refused c p
 
 unfoldable pub sampleAnswer : List ℕ → ℕ → ℕ → ℕ → Answer

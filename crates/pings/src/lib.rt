@@ -79,10 +79,7 @@ fn hand_pairs(part: &[u8], msb: bool, numbers: &mut [u32], values: &mut [i32]) -
         return layout::refuse(codes::NO_ROOM, 0);
     }
     samples::read_pairs(part, msb, numbers, values);
-    Answer::Accepted {
-        tuples: 1,
-        written: n,
-    }
+    layout::accept(1, n)
 }
 
 // Hands over the samples of a C-32 ping's words, as many as the ping counts; 19 where either slice is short.
@@ -98,10 +95,7 @@ fn hand_words(part: &[u8], msb: bool, n: usize, numbers: &mut [u32], values: &mu
         return layout::refuse(codes::NO_ROOM, 0);
     }
     samples::read_words(part, msb, numbers, values);
-    Answer::Accepted {
-        tuples: 1,
-        written: n,
-    }
+    layout::accept(1, n)
 }
 
 // Hands over the samples of a ping that keeps its own rules. A C-32 ping's number of samples is then the number of its values.
@@ -267,10 +261,7 @@ pub fn write_u32(
     write_opening(out, msb, whole, types::PING_U, header);
     samples::write::write_pairs(numbers, values, msb, out, intake::PAIRS);
     tuples::close_frame(out, msb, whole, attribute);
-    Answer::Accepted {
-        tuples: 1,
-        written: whole,
-    }
+    layout::accept(1, whole)
 }
 
 // Writes a C-32 ping, which is known to be sound and to have room.
@@ -326,8 +317,5 @@ pub fn write_c32(
         return layout::refuse(codes::NO_ROOM, 0);
     }
     put_c32(header, attribute, numbers, values, msb, whole, out);
-    Answer::Accepted {
-        tuples: 1,
-        written: whole,
-    }
+    layout::accept(1, whole)
 }

@@ -9,6 +9,7 @@ use borrow.Author.Tests.{le-leb, eq-eqb}
 use lib.Dec.{lit<}
 use lib.ListN.{length, take, drop}
 use Rattle.order.specs.Order.{Bytes}
+use Rattle.layout.specs.declared.Counts.{Counts}
 use Rattle.layout.specs.declared.Answer.{Answer}
 use Rattle.layout.specs.declared.Answer.the-variants.{Accepted}
 use Rattle.layout.specs.Types.{classes, inClass, kindOf, lineOf, upward, fitting}
@@ -71,8 +72,8 @@ module _ (r : Event) (g : EventTyped r) (t : List ℕ) (b : Bytes t) (l : TextFi
     event-text = ap (λ (n : ℕ). take n (drop (p + 12) f)) text-long ∙ ap (λ (vs : List Value). textAt vs 2) (row-places event-row h)
 
 -- what the writer wrote, the reader reads, and the characters stand at the part that it answers
-pub event-again : {r : Event} {t : List ℕ} {o : Bool} {out left f : List ℕ} {n m p : ℕ} {x : EventRead}
-    → EventTyped r → Bytes t → EventWritten o r t out (Accepted n m) left → Holds f p o (take m left)
+pub event-again : {r : Event} {t : List ℕ} {o : Bool} {out left f : List ℕ} {p : ℕ} {n : Counts} {x : EventRead}
+    → EventTyped r → Bytes t → EventWritten o r t out (Accepted n) left → Holds f p o (take (n .written) left)
     → EventAt f p x → (x ≡ event.Read r (record { place = p + 12; length = length t })) × (charactersAt f (record { place = p + 12; length = length t }) ≡ t)
 event-again {r} {t} {o = o} g b w h a =
     let l = text-fits o r t w in
@@ -95,7 +96,7 @@ module _ (r : RunStart) (g : RunStartTyped r) where
     run-start-read a = row-read run-start-row h runStarts.answered runStartOf run-start-back (a .outcome)
 
   -- what the writer wrote, the reader reads
-  pub run-start-again : {o : Bool} {out left f : List ℕ} {n m p : ℕ} {x : RunStartRead} → RunStartWritten o r out (Accepted n m) left → Holds f p o (take m left)
+  pub run-start-again : {o : Bool} {out left f : List ℕ} {p : ℕ} {n : Counts} {x : RunStartRead} → RunStartWritten o r out (Accepted n) left → Holds f p o (take (n .written) left)
       → RunStartAt f p x → x ≡ runStart.Read r
   run-start-again w h a = run-start-read (written-held (refl, tt) w h) a
 
@@ -115,7 +116,7 @@ module _ (r : RunEnd) (g : RunEndTyped r) where
     run-end-read a = row-read run-end-row h runEnds.answered runEndOf run-end-back (a .outcome)
 
   -- what the writer wrote, the reader reads
-  pub run-end-again : {o : Bool} {out left f : List ℕ} {n m p : ℕ} {x : RunEndRead} → RunEndWritten o r out (Accepted n m) left → Holds f p o (take m left)
+  pub run-end-again : {o : Bool} {out left f : List ℕ} {p : ℕ} {n : Counts} {x : RunEndRead} → RunEndWritten o r out (Accepted n) left → Holds f p o (take (n .written) left)
       → RunEndAt f p x → x ≡ runEnd.Read r
   run-end-again w h a = run-end-read (written-held (refl, tt) w h) a
 
@@ -142,6 +143,6 @@ module _ (r : FileEnd) (g : FileEndTyped r) where
     file-end-data = ap (λ (vs : List Value). textAt vs 3) (row-places file-end-row h)
 
   -- what the writer wrote, the reader reads
-  pub file-end-again : {o : Bool} {out left f : List ℕ} {n m p : ℕ} {x : FileEndRead} → FileEndWritten o r out (Accepted n m) left → Holds f p o (take m left)
+  pub file-end-again : {o : Bool} {out left f : List ℕ} {p : ℕ} {n : Counts} {x : FileEndRead} → FileEndWritten o r out (Accepted n) left → Holds f p o (take (n .written) left)
       → FileEndAt f p x → x ≡ fileEnd.Read r (record { place = p + 14; length = 2 })
   file-end-again w h a = file-end-read (written-held (refl, tt) w h) a

@@ -10,9 +10,10 @@ use borrow.Author.Tests.{ltb-false, le-ltb, le-leb, eq-eqb, eqb-true, eqb-false,
 use lib.Dec.{ltb, eqb, lit<}
 use lib.IntN.{ℤ}
 use lib.ListN.{length, take, drop}
+use Rattle.layout.specs.declared.Counts.{Counts}
 use Rattle.layout.specs.declared.Answer.{Answer}
 use Rattle.layout.specs.declared.Answer.the-variants.{Accepted}
-use Rattle.layout.specs.Answers.{judged, leftBy}
+use Rattle.layout.specs.Answers.{judged, leftBy, accepting}
 use Rattle.layout.specs.Types.{pairs, words, classes, inClass, kindOf, lineOf}
 use Rattle.layout.proofs.Verdicts.{passed}
 use Rattle.frame.specs.Frames.{Tup, lengthOf, frame}
@@ -158,7 +159,7 @@ module _ {h : PingHeader} {a : ℤ} {ns : List ℕ} {vs : List ℤ} (g : PingTyp
     says-samples : samplesAt f p ≡ paired ns vs
     says-samples = ap samplesBy (says-item s)
 
-    says-answer : readAnswer isPing f p ≡ Accepted 1 0
+    says-answer : readAnswer isPing f p ≡ accepting 1 0
     says-answer = read-answer (s .sound) (s .there) isPing (ap isPing (s .kind) ∙ q)
 
     says-fields : pingFields f p ≡ Read h a (kindOfPing k) (length ns)
@@ -168,12 +169,12 @@ module _ {h : PingHeader} {a : ℤ} {ns : List ℕ} {vs : List ℤ} (g : PingTyp
         ∙ (λ j. Read (header-back h (g .header) j) (signed-pattern 3 a (g .attribute) j) (kindOfPing k) (many j))
 
     says-handed : (numbers ms : List ℕ) (values us : List ℤ) (r : Answer) → length ns ≤ length numbers → length ns ≤ length values → SamplesRead f p numbers values r ms us
-        → (r ≡ Accepted 1 (length ns)) × (ms ≡ ns ++ drop (length ns) numbers) × (us ≡ vs ++ drop (length ns) values)
+        → (r ≡ accepting 1 (length ns)) × (ms ≡ ns ++ drop (length ns) numbers) × (us ≡ vs ++ drop (length ns) values)
     unfolding sampleAnswer
     says-handed numbers ms values us r m n e =
-        let room : handAnswer (length (paired ns vs)) (length numbers) (length values) ≡ Accepted 1 (length ns) =
+        let room : handAnswer (length (paired ns vs)) (length numbers) (length values) ≡ accepting 1 (length ns) =
         ap (λ (i : ℕ). handAnswer i (length numbers) (length values)) many ∙ rw (le-ltb (length numbers) (length ns) m, le-ltb (length values) (length ns) n) in
-        let is : sampleAnswer f p (length numbers) (length values) ≡ Accepted 1 (length ns) =
+        let is : sampleAnswer f p (length numbers) (length values) ≡ accepting 1 (length ns) =
         ap₂ (λ (x : List Sample) (y : Answer). behindRead (length x) (length numbers) (length values) y) says-samples says-answer ∙ room in (
           e .answer .is ∙ is,
           e .numbersLeft ∙ ap₂ (λ (y : Answer) (x : List Sample). leftBy y (numbersOf x) numbers) is says-samples ∙ ap (λ (x : List ℕ). x ++ drop (length x) numbers) (numbers-paired ns vs (l .equal)),
@@ -211,14 +212,14 @@ wordless-most (x ∷ s) =
     (λ t. omega (arith, wordless-here x s t))
     (λ t. omega (arith, wordless-later x s t, wordless-most s))
 
-module _ (o : Bool) (h : PingHeader) (a : ℤ) (ns : List ℕ) (vs : List ℤ) {out left : List ℕ} {n m : ℕ} where
-  pub accepted-U : WrittenU o h a ns vs out (Accepted n m) left → Listed ns vs × (0 < length ns)
+module _ (o : Bool) (h : PingHeader) (a : ℤ) (ns : List ℕ) (vs : List ℤ) {out left : List ℕ} {n : Counts} where
+  pub accepted-U : WrittenU o h a ns vs out (Accepted n) left → Listed ns vs × (0 < length ns)
   accepted-U w =
       let k = written-kept (refl, (refl, (refl, (refl, (refl, (refl, tt)))))) w in
       let z = eqb-false (length ns) 0 (k .1 .1 .0) in
       (listed ns vs (k .0) (k .1 .0) (k .1 .1 .1 .0), omega arith)
 
-  pub accepted-C : WrittenC o h a ns vs out (Accepted n m) left → Listed ns vs × Worded ns vs
+  pub accepted-C : WrittenC o h a ns vs out (Accepted n) left → Listed ns vs × Worded ns vs
   accepted-C w =
       let k = written-kept (refl, (refl, (refl, (refl, (refl, (refl, tt)))))) w in
       let l = listed ns vs (k .0) (k .1 .0) (k .1 .1 .0) in
@@ -233,8 +234,8 @@ module _ (o : Bool) (h : PingHeader) (a : ℤ) (ns : List ℕ) (vs : List ℤ) {
 
   -- what a writer wrote, both readers read
   module _ {f : List ℕ} {p : ℕ} (g : PingTyped h a ns vs) where
-    pub again-U : WrittenU o h a ns vs out (Accepted n m) left → Holds f p o (take m left) → PingBack h a ns vs U32 f p
+    pub again-U : WrittenU o h a ns vs out (Accepted n) left → Holds f p o (take (n .written) left) → PingBack h a ns vs U32 f p
     again-U w b = let l = accepted-U w in back-U g (l .0) (l .1) (written-held (refl, (refl, (refl, (refl, (refl, (refl, tt)))))) w b)
 
-    pub again-C : WrittenC o h a ns vs out (Accepted n m) left → Holds f p o (take m left) → PingBack h a ns vs C32 f p
+    pub again-C : WrittenC o h a ns vs out (Accepted n) left → Holds f p o (take (n .written) left) → PingBack h a ns vs C32 f p
     again-C w b = let l = accepted-C w in back-C g (l .0) (l .1) (written-held (refl, (refl, (refl, (refl, (refl, (refl, tt)))))) w b)

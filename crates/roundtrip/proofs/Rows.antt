@@ -15,9 +15,9 @@ use mir.Syntax.{Width}
 use mir.Val.{hbits, SFits}
 use Rattle.order.specs.Order.{signedOf, patternOf, bytesOf, Bytes}
 use Rattle.layout.specs.declared.Answer.{Answer}
-use Rattle.layout.specs.declared.Answer.the-variants.{Accepted}
 use Rattle.layout.specs.Fields.{Field, size}
 use Rattle.layout.specs.Types.{Shape, row, fitting, shapeOf, lengthFrom}
+use Rattle.layout.specs.Answers.{accepting}
 use Rattle.frame.specs.Frames.{lengthOf, allowed}
 use Rattle.frame.proofs.Frames.{past-6}
 use Rattle.turning.specs.Rows.{Value, valuesOf, encode, identified, Fit, Lettered}
@@ -86,7 +86,7 @@ filled k m {fs} {x} c e f a v l = record { fields = fs; characters = x; size = m
 
 -- ---- read back
 module _ {k : ℕ} {vs : List Value} (g : Filled k vs) {f : List ℕ} {p : ℕ} {o : Bool} (h : Holds f p o (plainBytes o k vs)) where
-  pub row-answer : readAnswer (only k) f p ≡ Accepted 1 0
+  pub row-answer : readAnswer (only k) f p ≡ accepting 1 0
   row-answer = read-answer (sound-row g o) h (only k) (eq-eqb k k refl)
 
   pub row-values : readValues f p ≡ vs
@@ -106,5 +106,5 @@ module _ {k : ℕ} {vs : List Value} (g : Filled k vs) {f : List ℕ} {p : ℕ} 
 
   -- what a reader makes of the values and of its answer, it makes of these
   pub row-read : {R O : Type 0} (answered : Answer → R → O) (of : List Value → R) {r : R} {out : O} → of vs ≡ r
-      → out ≡ answered (readAnswer (only k) f p) (of (readValues f p)) → out ≡ answered (Accepted 1 0) r
+      → out ≡ answered (readAnswer (only k) f p) (of (readValues f p)) → out ≡ answered (accepting 1 0) r
   row-read answered of e a = a ∙ ap₂ answered row-answer (ap of row-values ∙ e)

@@ -7,6 +7,7 @@ use mathlib.Core.List.{List}
 use lib.Dec.{lit<}
 use lib.ListN.{length, take}
 use Rattle.order.specs.Order.{Bytes}
+use Rattle.layout.specs.declared.Counts.{Counts}
 use Rattle.layout.specs.declared.Answer.{Answer}
 use Rattle.layout.specs.declared.Answer.the-variants.{Accepted}
 use Rattle.layout.specs.Types.{classes, inClass, kindOf, lineOf}
@@ -56,7 +57,7 @@ module _ (r : Signature) (g : SignatureTyped r) where
     signature-read a = row-read signature-row h signatures.answered signatureOf signature-back (a .outcome)
 
   -- what the writer wrote, the reader reads
-  pub signature-again : {o : Bool} {out left f : List ℕ} {n m p : ℕ} {x : SignatureRead} → SignatureWritten o r out (Accepted n m) left → Holds f p o (take m left)
+  pub signature-again : {o : Bool} {out left f : List ℕ} {p : ℕ} {n : Counts} {x : SignatureRead} → SignatureWritten o r out (Accepted n) left → Holds f p o (take (n .written) left)
       → SignatureAt f p x → x ≡ signature.Read r
   signature-again w h a = signature-read (written-held (refl, tt) w h) a
 
@@ -93,8 +94,8 @@ module _ (r : Sounder) (g : SounderTyped r) (t : List ℕ) (b : Bytes t) (l : le
     sounder-remarks = ap (λ (vs : List Value). textAt vs 12) (row-places sounder-row h)
 
 -- what the writer wrote, the reader reads, and the characters stand at the part that it answers
-pub sounder-again : {r : Sounder} {t : List ℕ} {o : Bool} {out left f : List ℕ} {n m p : ℕ} {x : SounderRead}
-    → SounderTyped r → Bytes t → SounderWritten o r t out (Accepted n m) left → Holds f p o (take m left)
+pub sounder-again : {r : Sounder} {t : List ℕ} {o : Bool} {out left f : List ℕ} {p : ℕ} {n : Counts} {x : SounderRead}
+    → SounderTyped r → Bytes t → SounderWritten o r t out (Accepted n) left → Holds f p o (take (n .written) left)
     → SounderAt f p x → (x ≡ sounder.Read r (record { place = p + 32; length = 30 })) × (charactersAt f (record { place = p + 32; length = 30 }) ≡ t)
 sounder-again {r} {t} g b w h a =
     let l = remark-long t w in
@@ -142,8 +143,8 @@ module _ (r : Channel) (g : ChannelTyped r) (t : List ℕ) (b : Bytes t) (l : le
     channel-remarks = ap (λ (vs : List Value). textAt vs 24) (row-places channel-row h)
 
 -- what the writer wrote, the reader reads, and the characters stand at the part that it answers
-pub channel-again : {r : Channel} {t : List ℕ} {o : Bool} {out left f : List ℕ} {n m p : ℕ} {x : ChannelRead}
-    → ChannelTyped r → Bytes t → ChannelWritten o r t out (Accepted n m) left → Holds f p o (take m left)
+pub channel-again : {r : Channel} {t : List ℕ} {o : Bool} {out left f : List ℕ} {p : ℕ} {n : Counts} {x : ChannelRead}
+    → ChannelTyped r → Bytes t → ChannelWritten o r t out (Accepted n) left → Holds f p o (take (n .written) left)
     → ChannelAt f p x → (x ≡ channel.Read r (record { place = p + 68; length = 30 })) × (charactersAt f (record { place = p + 68; length = 30 }) ≡ t)
 channel-again {r} {t} g b w h a =
     let l = remark-long t w in
@@ -167,6 +168,6 @@ module _ (r : Threshold) (g : ThresholdTyped r) where
     threshold-read a = row-read threshold-row h thresholds.answered thresholdOf threshold-back (a .outcome)
 
   -- what the writer wrote, the reader reads
-  pub threshold-again : {o : Bool} {out left f : List ℕ} {n m p : ℕ} {x : ThresholdRead} → ThresholdWritten o r out (Accepted n m) left → Holds f p o (take m left)
+  pub threshold-again : {o : Bool} {out left f : List ℕ} {p : ℕ} {n : Counts} {x : ThresholdRead} → ThresholdWritten o r out (Accepted n) left → Holds f p o (take (n .written) left)
       → ThresholdAt f p x → x ≡ threshold.Read r
   threshold-again w h a = threshold-read (written-held (refl, tt) w h) a

@@ -7,9 +7,9 @@ use mathlib.Core.List.{List, [], _++_, append-nil}
 use native.Mathlib.Omega.{arith}
 use lib.ListN.{length, drop}
 use lib.Seq.{drop-at, drop-drop}
-use Rattle.layout.specs.declared.Answer.the-variants.{Accepted}
 use Rattle.layout.specs.declared.Verdict.the-variants.{Fine}
 use Rattle.layout.proofs.Verdicts.{both-fine, judged-append}
+use Rattle.layout.specs.Answers.{accepting}
 use Rattle.frame.specs.Files.{limit, mark, isMsb}
 use Rattle.frame.specs.Frames.{Tup, kindAt, lenAt, tupAt, frame, framing}
 use Rattle.frame.proofs.Files.{length-mark, msb-mark, marked-mark}
@@ -50,7 +50,7 @@ module _ {f : List ℕ} {p : ℕ} {o : Bool} {t : Tup} (g : Sound o t) (h : Hold
   found-there = record { walk = record { at = p + lenAt (isMsb f) (drop p f) }; step = stands-forward f stands-there }
 
   -- a reader that asks for its type accepts it
-  pub read-answer : (asked : ℕ → Bool) → asked (t .kind) ≡ true → readAnswer asked f p ≡ Accepted 1 0
+  pub read-answer : (asked : ℕ → Bool) → asked (t .kind) ≡ true → readAnswer asked f p ≡ accepting 1 0
   read-answer asked a = sym (fine found-there asked a (ap₂ ownVerdict (h .order) read-tuple ∙ sound-own g))
 
   pub read-item : readItem f p ≡ itemOf o t

@@ -6,6 +6,7 @@ use mathlib.Core.Bool.{Bool}
 use mathlib.Core.List.{List}
 use lib.Dec.{lit<}
 use lib.ListN.{take}
+use Rattle.layout.specs.declared.Counts.{Counts}
 use Rattle.layout.specs.declared.Answer.the-variants.{Accepted}
 use Rattle.layout.specs.Types.{classes, inClass, kindOf, lineOf}
 use Rattle.frame.specs.Frames.{allowed}
@@ -55,7 +56,7 @@ module _ (r : Position) (g : PositionTyped r) where
     position-read a = row-read position-row h positions.answered positionOf position-back (a .outcome)
 
   -- what the writer wrote, the reader reads
-  pub position-again : {o : Bool} {out left f : List ℕ} {n m p : ℕ} {x : PositionRead} → PositionWritten o r out (Accepted n m) left → Holds f p o (take m left)
+  pub position-again : {o : Bool} {out left f : List ℕ} {p : ℕ} {n : Counts} {x : PositionRead} → PositionWritten o r out (Accepted n) left → Holds f p o (take (n .written) left)
       → PositionAt f p x → x ≡ position.Read r
   position-again w h a = position-read (written-held (refl, tt) w h) a
 
@@ -76,7 +77,7 @@ module _ (r : Navigation) (g : NavigationTyped r) where
     navigation-read a = row-read navigation-row h navigations.answered navigationOf navigation-back (a .outcome)
 
   -- what the writer wrote, the reader reads
-  pub navigation-again : {o : Bool} {out left f : List ℕ} {n m p : ℕ} {x : NavigationRead} → NavigationWritten o r out (Accepted n m) left → Holds f p o (take m left)
+  pub navigation-again : {o : Bool} {out left f : List ℕ} {p : ℕ} {n : Counts} {x : NavigationRead} → NavigationWritten o r out (Accepted n) left → Holds f p o (take (n .written) left)
       → NavigationAt f p x → x ≡ navigation.Read r
   navigation-again w h a = navigation-read (written-held (refl, tt) w h) a
 
@@ -107,6 +108,6 @@ module _ (r : Attitude) (g : AttitudeTyped r) where
     attitude-read a = row-read attitude-row h attitudes.answered attitudeOf attitude-back (a .outcome)
 
   -- what the writer wrote, the reader reads
-  pub attitude-again : {o : Bool} {out left f : List ℕ} {n m p : ℕ} {x : AttitudeRead} → AttitudeWritten o r out (Accepted n m) left → Holds f p o (take m left)
+  pub attitude-again : {o : Bool} {out left f : List ℕ} {p : ℕ} {n : Counts} {x : AttitudeRead} → AttitudeWritten o r out (Accepted n) left → Holds f p o (take (n .written) left)
       → AttitudeAt f p x → x ≡ attitude.Read r
   attitude-again w h a = attitude-read (written-held (refl, tt) w h) a

@@ -11,9 +11,10 @@ use lib.ListN.{length, take, drop}
 use lib.Seq.{take-at}
 use Rattle.rules.specs.Rules.{Rule, _⇒_, AllPass}
 use Rattle.rules.proofs.Laws.{Silent, clear}
+use Rattle.layout.specs.declared.Counts.{Counts}
 use Rattle.layout.specs.declared.Answer.{Answer}
 use Rattle.layout.specs.declared.Answer.the-variants.{Accepted, Refused}
-use Rattle.layout.specs.Answers.{leftBy}
+use Rattle.layout.specs.Answers.{leftBy, accepting, isAccepted}
 use Rattle.layout.specs.Types.{classes, inClass, kindOf, lineOf}
 use Rattle.frame.specs.Frames.{lengthOf}
 use Rattle.rules.proofs.Bools.{both-true}
@@ -24,35 +25,31 @@ use Rattle.event.specs.Event.{eventValues, EventWritten}
 use Rattle.event.proofs.Texts.{text-length}
 use Rattle.roundtrip.specs.Held.{Holds, TextFits}
 
-abbrev pub accepts : Answer → Bool
-accepts (Accepted n m) = true
-accepts (Refused c p) = false
-
 -- a writer's rules, then 19
 abbrev pub allRules : List (Rule Answer) → List ℕ → List ℕ → List (Rule Answer)
 allRules rs bytes out = rs ++ ((ltb (length out) (length bytes) ⇒ Refused 19 0) ∷ [])
 
 -- a writer whose rules all refuse, and that accepts
-module _ {rs : List (Rule Answer)} {bytes out left : List ℕ} {n m : ℕ} (q : Silent accepts (allRules rs bytes out)) (w : Written rs bytes out (Accepted n m) left) where
-  cleared : AllPass (allRules rs bytes out) × (Accepted 1 (length bytes) ≡ Accepted n m)
-  cleared = clear accepts (allRules rs bytes out) (Accepted 1 (length bytes)) (Accepted n m) q (sym (w .answer .is)) refl
+module _ {rs : List (Rule Answer)} {bytes out left : List ℕ} {n : Counts} (q : Silent isAccepted (allRules rs bytes out)) (w : Written rs bytes out (Accepted n) left) where
+  cleared : AllPass (allRules rs bytes out) × (accepting 1 (length bytes) ≡ Accepted n)
+  cleared = clear isAccepted (allRules rs bytes out) (accepting 1 (length bytes)) (Accepted n) q (sym (w .answer .is)) refl
 
   pub written-kept : AllPass (allRules rs bytes out)
   written-kept = cleared .0
 
-  pub written-bytes : take m left ≡ bytes
+  pub written-bytes : take (n .written) left ≡ bytes
   written-bytes =
-      let long : length bytes ≡ m = cc (cleared .1) in
-      ap (take m) (w .memory ∙ ap (λ (a : Answer). leftBy a bytes out) (sym (w .answer .is))) ∙ take-at bytes (drop (length bytes) out) m long
+      let long : length bytes ≡ n .written = cc (cleared .1) in
+      ap (take (n .written)) (w .memory ∙ ap (λ (a : Answer). leftBy a bytes out) (sym (w .answer .is))) ∙ take-at bytes (drop (length bytes) out) (n .written) long
 
-  pub written-held : {f : List ℕ} {p : ℕ} {o : Bool} → Holds f p o (take m left) → Holds f p o bytes
+  pub written-held : {f : List ℕ} {p : ℕ} {o : Bool} → Holds f p o (take (n .written) left) → Holds f p o bytes
   written-held {f} {p} {o} h = subst (λ (l : List ℕ). Holds f p o l) written-bytes h
 
 -- ---- what an acceptance tells of the characters handed over
-pub remark-long : (t : List ℕ) {bytes out left : List ℕ} {n m : ℕ} → Written (remarkRules t) bytes out (Accepted n m) left → length t ≡ 30
+pub remark-long : (t : List ℕ) {bytes out left : List ℕ} {n : Counts} → Written (remarkRules t) bytes out (Accepted n) left → length t ≡ 30
 remark-long t w = eqb-true (length t) 30 (not-false _ (written-kept (refl, (refl, tt)) w .0))
 
-pub text-fits : (o : Bool) (r : Event) (t : List ℕ) {out left : List ℕ} {n m : ℕ} → EventWritten o r t out (Accepted n m) left → TextFits t
+pub text-fits : (o : Bool) (r : Event) (t : List ℕ) {out left : List ℕ} {n : Counts} → EventWritten o r t out (Accepted n) left → TextFits t
 unfolding classes inClass kindOf lineOf
 text-fits o r t w =
     let k = written-kept (refl, (refl, (refl, tt))) w in

@@ -6,7 +6,7 @@ use mathlib.Core.List.{List, [], _∷_, _++_}
 use lib.IntN.{ℤ}
 use lib.ListN.{length, drop}
 use Rattle.layout.specs.declared.Answer.{Answer}
-use Rattle.layout.specs.declared.Answer.the-variants.{Accepted}
+use Rattle.layout.specs.Answers.{accepting}
 use Rattle.samples.specs.Lists.{paired}
 use Rattle.samples.specs.Runs.{radix, fewest}
 use Rattle.samples.specs.Judging.{most, firstDrop, firstWordless}
@@ -51,4 +51,4 @@ pub record PingBack (h : PingHeader) (a : ℤ) (ns : List ℕ) (vs : List ℤ) (
   pub fields : (out : PingRead) → PingAt f p out → out ≡ Read h a kind (length ns)
   pub samples : samplesAt f p ≡ paired ns vs
   pub handed : (numbers ms : List ℕ) (values us : List ℤ) (r : Answer) → length ns ≤ length numbers → length ns ≤ length values → SamplesRead f p numbers values r ms us
-      → (r ≡ Accepted 1 (length ns)) × (ms ≡ ns ++ drop (length ns) numbers) × (us ≡ vs ++ drop (length ns) values)
+      → (r ≡ accepting 1 (length ns)) × (ms ≡ ns ++ drop (length ns) numbers) × (us ≡ vs ++ drop (length ns) values)

@@ -7,7 +7,7 @@ use Rattle.order.specs.Order.{signedOf, patternOf}
 use Rattle.layout.specs.declared.Answer.{Answer}
 use Rattle.layout.specs.declared.Answer.the-variants.{Accepted}
 use Rattle.layout.specs.declared.Answer.the-variants as answer
-use Rattle.layout.specs.Answers.{numbers, Tells}
+use Rattle.layout.specs.Answers.{numbers, Tells, accepting}
 use Rattle.turning.specs.Rows.{Value, number}
 use Rattle.content.specs.Items.{numberAt}
 use Rattle.tuples.specs.Readers.{only, readAnswer, readValues}
@@ -53,11 +53,11 @@ thresholdValues r =
 
 -- ---- reading: 01's answer in each case, and the promise, which settles the outcome
 abbrev pub answerOf : ThresholdRead → Answer
-answerOf (Read r) = Accepted 1 0
+answerOf (Read r) = accepting 1 0
 answerOf (Refused c p) = answer.Refused c p
 
 abbrev pub answered : Answer → Threshold → ThresholdRead
-answered (Accepted n m) r = Read r
+answered (Accepted n) r = Read r
 answered (answer.Refused c p) r = Refused c p
 
 pub record ThresholdAt (f : List ℕ) (p : ℕ) (r : ThresholdRead) : Type 0 where

@@ -10,7 +10,7 @@ use lib.ListN.{length, drop}
 use Rattle.rules.specs.Rules.{Rule, _⇒_, firstOf, saying, AllPass}
 use Rattle.rules.proofs.Laws.{Silent, clear}
 use Rattle.layout.specs.declared.Answer.{Answer}
-use Rattle.layout.specs.declared.Answer.the-variants.{Accepted, Refused}
+use Rattle.layout.specs.declared.Answer.the-variants.{Refused}
 use Rattle.layout.proofs.Verdicts.{passed, near-fault}
 use Rattle.layout.specs.declared.Verdict.the-variants.{Fine, Fault}
 use Rattle.frame.specs.declared.Walk.{Walk}
@@ -21,7 +21,7 @@ use Rattle.frame.specs.Frames.{allowed}
 use Rattle.frame.specs.Files.{limit, isMsb}
 use Rattle.frame.specs.Steps.{stepForward}
 use Rattle.rules.proofs.Bools.{both-true}
-use Rattle.layout.specs.Answers.{Breach, _byte_, refusedAt}
+use Rattle.layout.specs.Answers.{Breach, _byte_, refusedAt, accepting, isAccepted}
 use Rattle.frame.proofs.Places.{whole-framing}
 use Rattle.frame.proofs.Walks.{Stands, forward-stands}
 use Rattle.frame.proofs.Ways.{said, unsaid}
@@ -60,7 +60,7 @@ module _ {f : List ℕ} {p n k : ℕ} (g : Found f p n k) where
   most = leb-true n 262144 (both-true (eqb (n % 4) 0 && leb 16 n) (leb n 262144) (stands .whole .allowed) .1)
 
   -- by what is asked for and by its own rules
-  by-own : (asked : ℕ → Bool) → firstOf (saying (refusedAt p) ((not (asked k) ⇒ 9 byte 0) ∷ headRules (isMsb f) (tupleThere f p) ++ innerRules (isMsb f) (tupleThere f p))) (Accepted 1 0) ≡ readAnswer asked f p
+  by-own : (asked : ℕ → Bool) → firstOf (saying (refusedAt p) ((not (asked k) ⇒ 9 byte 0) ∷ headRules (isMsb f) (tupleThere f p) ++ innerRules (isMsb f) (tupleThere f p))) (accepting 1 0) ≡ readAnswer asked f p
   unfolding readAnswer
   by-own asked = rw (g .step, stands .kind)
 
@@ -73,11 +73,11 @@ module _ {f : List ℕ} {p n k : ℕ} (g : Found f p n k) where
 
   pub faulty : (asked : ℕ → Bool) (c q : ℕ) → asked k ≡ true → ownVerdict (isMsb f) (tupleThere f p) ≡ Fault c q → Refused c (p + q) ≡ readAnswer asked f p
   unfolding ownVerdict
-  faulty asked c q a e = sym (said (refusedAt p) (headRules (isMsb f) (tupleThere f p) ++ innerRules (isMsb f) (tupleThere f p)) (Accepted 1 0) c q e) ∙ rw a at (by-own asked)
+  faulty asked c q a e = sym (said (refusedAt p) (headRules (isMsb f) (tupleThere f p) ++ innerRules (isMsb f) (tupleThere f p)) (accepting 1 0) c q e) ∙ rw a at (by-own asked)
 
-  pub fine : (asked : ℕ → Bool) → asked k ≡ true → ownVerdict (isMsb f) (tupleThere f p) ≡ Fine → Accepted 1 0 ≡ readAnswer asked f p
+  pub fine : (asked : ℕ → Bool) → asked k ≡ true → ownVerdict (isMsb f) (tupleThere f p) ≡ Fine → accepting 1 0 ≡ readAnswer asked f p
   unfolding ownVerdict
-  fine asked a e = sym (unsaid (refusedAt p) (headRules (isMsb f) (tupleThere f p) ++ innerRules (isMsb f) (tupleThere f p)) (Accepted 1 0) e) ∙ rw a at (by-own asked)
+  fine asked a e = sym (unsaid (refusedAt p) (headRules (isMsb f) (tupleThere f p) ++ innerRules (isMsb f) (tupleThere f p)) (accepting 1 0) e) ∙ rw a at (by-own asked)
 
 -- ---- and the other way round: where a reader accepts, it reads a tuple that was asked for and keeps its own rules
 pub record Opens (asked : ℕ → Bool) (f : List ℕ) (p : ℕ) : Type 0 where
@@ -85,11 +85,7 @@ pub record Opens (asked : ℕ → Bool) (f : List ℕ) (p : ℕ) : Type 0 where
   pub code : ℕ
   pub readable : Readable asked f p (isMsb f) size code
 
-abbrev taking : Answer → Bool
-taking (Accepted n m) = true
-taking (Refused c p) = false
-
-silent : (p : ℕ) (rs : List (Rule Breach)) → Silent taking (saying (refusedAt p) rs)
+silent : (p : ℕ) (rs : List (Rule Breach)) → Silent isAccepted (saying (refusedAt p) rs)
 silent p [] = tt
 silent p ((b ⇒ c) ∷ rs) = (refl, silent p rs)
 
@@ -97,13 +93,13 @@ kept : (p : ℕ) (rs : List (Rule Breach)) → AllPass (saying (refusedAt p) rs)
 kept p [] h = tt
 kept p ((b ⇒ c) ∷ rs) h = (h .0, kept p rs (h .1))
 
-module _ (asked : ℕ → Bool) {f : List ℕ} {p : ℕ} (e : Accepted 1 0 ≡ readAnswer asked f p) where
-  by-step : (s : Step) → stepForward f p ≡ s → Accepted 1 0 ≡ readBy asked f p s → Opens asked f p
+module _ (asked : ℕ → Bool) {f : List ℕ} {p : ℕ} (e : accepting 1 0 ≡ readAnswer asked f p) where
+  by-step : (s : Step) → stepForward f p ≡ s → accepting 1 0 ≡ readBy asked f p s → Opens asked f p
   unfolding ownVerdict
   by-step (step.Tuple q n k w) h g =
       let o = isMsb f in
       let t = tupleThere f p in
-      let c = kept p (ownRules asked o t) (clear taking (saying (refusedAt p) (ownRules asked o t)) (Accepted 1 0) (Accepted 1 0) (silent p (ownRules asked o t)) (sym g) refl .0) in
+      let c = kept p (ownRules asked o t) (clear isAccepted (saying (refusedAt p) (ownRules asked o t)) (accepting 1 0) (accepting 1 0) (silent p (ownRules asked o t)) (sym g) refl .0) in
       let d = found-by f p q n k w h in
       record {
         size = n;

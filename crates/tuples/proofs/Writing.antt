@@ -8,14 +8,14 @@ use native.Mathlib.Omega.{arith}
 use borrow.Author.Tests.{lt-ltb, le-ltb}
 use lib.ListN.{length, drop, getD, length-append}
 use lib.Seq.{sets, sets-eq}
-use Rattle.layout.specs.Answers.{tells}
+use Rattle.layout.specs.Answers.{tells, accepting}
 use Rattle.rules.specs.Rules.{Rule, _⇒_}
 use Rattle.rules.specs.Rules.First.{none, here, pass}
 use Rattle.rules.proofs.Laws.{first-eq}
 use Rattle.order.specs.Order.{bytesOf}
 use Rattle.order.proofs.Laws.{length-bytesOf}
 use Rattle.layout.specs.declared.Answer.{Answer}
-use Rattle.layout.specs.declared.Answer.the-variants.{Accepted, Refused}
+use Rattle.layout.specs.declared.Answer.the-variants.{Refused}
 use Rattle.layout.specs.declared.Kind.{Kind}
 use Rattle.layout.specs.Fields.{Field, num, txt, gap, ident, s, size}
 use Rattle.layout.specs.Types.{Shape, indexed, row, pairs, words, unlisted, kindOf, shapeOf, lineOf, placeIn}
@@ -36,7 +36,7 @@ module _ (rs : List (Rule Answer)) (bytes out : List ℕ) where
   pub unwritten : (c q : ℕ) → Refused c q ≡ writeAnswer rs bytes (length out) → Written rs bytes out (Refused c q) out
   unwritten c q e = record { answer = tells e; memory = rw (← e) }
 
-  pub all-written : (n : ℕ) (left : List ℕ) → length bytes ≡ n → n ≤ length out → Accepted 1 n ≡ writeAnswer rs bytes (length out) → left ≡ sets out 0 bytes → Written rs bytes out (Accepted 1 n) left
+  pub all-written : (n : ℕ) (left : List ℕ) → length bytes ≡ n → n ≤ length out → accepting 1 n ≡ writeAnswer rs bytes (length out) → left ≡ sets out 0 bytes → Written rs bytes out (accepting 1 n) left
   all-written n left l h e s =
       let z : 0 + length bytes ≡ length bytes = omega arith in
       record { answer = tells e; memory = rw (← e) (s ∙ sets-eq bytes out 0 (omega arith) ∙ ap (λ (k : ℕ). bytes ++ drop k out) z) }
@@ -55,11 +55,11 @@ as-values o k {out = out} {left = left} {r = r} e w = subst (λ (xs : List Value
 -- ---- a writer that refuses by 19 alone
 module _ (bytes out : List ℕ) (n : ℕ) (l : length bytes ≡ n) where
   pub no-room : length out < n → Written [] bytes out (Refused 19 0) out
-  no-room h = unwritten [] bytes out 19 0 (first-eq {d = Accepted 1 (length bytes)} (here {rs = []} (lt-ltb (length out) (length bytes) (omega (arith, l)))))
+  no-room h = unwritten [] bytes out 19 0 (first-eq {d = accepting 1 (length bytes)} (here {rs = []} (lt-ltb (length out) (length bytes) (omega (arith, l)))))
 
-  pub with-room : n ≤ length out → (left : List ℕ) → left ≡ sets out 0 bytes → Written [] bytes out (Accepted 1 n) left
+  pub with-room : n ≤ length out → (left : List ℕ) → left ≡ sets out 0 bytes → Written [] bytes out (accepting 1 n) left
   with-room h left e =
-      all-written [] bytes out n left l h (ap (Accepted 1) (sym l) ∙ first-eq (pass (le-ltb (length out) (length bytes) (omega (arith, l))) none)) e
+      all-written [] bytes out n left l h (ap (accepting 1) (sym l) ∙ first-eq (pass (le-ltb (length out) (length bytes) (omega (arith, l))) none)) e
 
 -- ---- the values of a row, and more behind them
 pub encode-behind : (o : Bool) (fs gs : List Field) (ns t : List ℕ) (vs : List Value) → encode o (fs ++ gs) (woven fs ns t ++ vs) ≡ encode o fs (woven fs ns t) ++ encode o gs vs

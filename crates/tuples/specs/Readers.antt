@@ -7,8 +7,8 @@ use lib.Dec.{eqb}
 use lib.ListN.{drop, getD}
 use Rattle.rules.specs.Rules.{Rule, _⇒_, firstOf, saying}
 use Rattle.layout.specs.declared.Answer.{Answer}
-use Rattle.layout.specs.declared.Answer.the-variants.{Accepted, Refused}
-use Rattle.layout.specs.Answers.{Breach, _byte_, refusedAt}
+use Rattle.layout.specs.declared.Answer.the-variants.{Refused}
+use Rattle.layout.specs.Answers.{Breach, _byte_, refusedAt, accepting}
 use Rattle.frame.specs.declared.Step.{Step}
 use Rattle.frame.specs.declared.Step.the-variants.{Tuple, End}
 use Rattle.frame.specs.declared.Step.the-variants
@@ -28,7 +28,7 @@ ownRules asked o t = (not (asked (t .kind)) ⇒ 9 byte 0) ∷ headRules o t ++ i
 
 -- a forward step's refusals, 3 at the end; then the tuple's own; acceptance with 1 tuple
 abbrev pub readBy : (ℕ → Bool) → List ℕ → ℕ → Step → Answer
-readBy asked f p (Tuple at n k w) = firstOf (saying (refusedAt p) (ownRules asked (isMsb f) (tupleThere f p))) (Accepted 1 0)
+readBy asked f p (Tuple at n k w) = firstOf (saying (refusedAt p) (ownRules asked (isMsb f) (tupleThere f p))) (accepting 1 0)
 readBy asked f p End = Refused 3 p
 readBy asked f p (the-variants.Refused c q) = Refused c q
 

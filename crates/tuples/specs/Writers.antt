@@ -7,8 +7,8 @@ use lib.Dec.{ltb, eqb}
 use lib.ListN.{length}
 use Rattle.rules.specs.Rules.{Rule, _⇒_, firstOf}
 use Rattle.layout.specs.declared.Answer.{Answer}
-use Rattle.layout.specs.declared.Answer.the-variants.{Accepted, Refused}
-use Rattle.layout.specs.Answers.{numbers, Tells, leftBy}
+use Rattle.layout.specs.declared.Answer.the-variants.{Refused}
+use Rattle.layout.specs.Answers.{numbers, Tells, leftBy, accepting}
 use Rattle.layout.specs.Types.{fitting, lengthsOf}
 use Rattle.frame.specs.Frames.{Tup, lengthOf, frame}
 use Rattle.turning.specs.Rows.{Value, number, text}
@@ -16,7 +16,7 @@ use Rattle.content.specs.Forms.{plainTuple}
 
 -- a writer's rules, then 19; acceptance with 1 tuple and the bytes written
 abbrev pub writeAnswer : List (Rule Answer) → List ℕ → ℕ → Answer
-writeAnswer rs bytes room = firstOf (rs ++ ((ltb room (length bytes) ⇒ Refused 19 0) ∷ [])) (Accepted 1 (length bytes))
+writeAnswer rs bytes room = firstOf (rs ++ ((ltb room (length bytes) ⇒ Refused 19 0) ∷ [])) (accepting 1 (length bytes))
 
 -- the promise of a writer with these rules and these bytes, and that it settles answer and memory
 pub record Written (rs : List (Rule Answer)) (bytes out : List ℕ) (r : Answer) (left : List ℕ) : Type 0 where

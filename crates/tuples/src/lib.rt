@@ -180,8 +180,5 @@ pub fn write_tuple(
         return layout::refuse(codes::NO_ROOM, 0);
     }
     put_tuple(code, whole, numbers, remark, behind, attribute, msb, out);
-    Answer::Accepted {
-        tuples: 1,
-        written: whole,
-    }
+    layout::accept(1, whole)
 }

@@ -5,8 +5,8 @@ use mathlib.Core.Bool.{true}
 use mathlib.Core.List.{List, [], _∷_, map}
 use Prim.Native.Nat.{ℕ}
 use Prim.Native.String.{String}
-use Rattle.layout.specs.declared.Answer.the-variants.{Accepted}
 use Rattle.layout.specs.Types.{classes, inClass, kindOf, lineOf}
+use Rattle.layout.specs.Answers.{accepting}
 use Rattle.frame.specs.Frames.{allowed, frame, sizeAt, kindAt, backAt, framing}
 use Rattle.frame.specs.Files.{mark, isMsb, marked}
 use Rattle.frame.specs.Steps.{stepForward}
@@ -39,7 +39,7 @@ abbrev variants : List (List String)
 variants = lsb ∷ lsbOtherCut ∷ msb ∷ msbOtherCut ∷ []
 
 -- each variant is accepted, with its mark and six tuples
-pub accepted : map (λ (v : List String). checkFile (fileOf v)) variants ≡ Accepted 6 0 ∷ Accepted 6 0 ∷ Accepted 6 0 ∷ Accepted 6 0 ∷ []
+pub accepted : map (λ (v : List String). checkFile (fileOf v)) variants ≡ accepting 6 0 ∷ accepting 6 0 ∷ accepting 6 0 ∷ accepting 6 0 ∷ []
 unfolding lsb lsbOtherCut msb msbOtherCut normalFile normalTuple linesOf allDigits bytesIn inputFrom hex decimals normalAnswer singleForm singleAnswer firstUnlisted items contentOf normalTuples formed normalOf ending turn checkFrom checkFile formOf itemOf digestOf wordsIn attributeIn countIn contentU contentC dataU dataC has naming firstWrong words allWords unwords pairUp unpair isRun runLength decodeFrom isBad values firstBad firstDrop allowed frame sizeAt kindAt backAt framing mark isMsb marked stepForward tuplesFrom tuplesOf classes inClass kindOf lineOf
 accepted = refl
 

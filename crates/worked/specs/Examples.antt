@@ -9,8 +9,8 @@ use lib.IntN.{ℤ, pos, negsuc}
 use Rattle.order.specs.Order.{signedOf}
 use Rattle.layout.specs.Text.{ascii}
 use Rattle.layout.specs.declared.Answer.{Answer}
-use Rattle.layout.specs.declared.Answer.the-variants.{Accepted}
 use Rattle.layout.specs.declared.Answer.the-variants as answer
+use Rattle.layout.specs.Answers.{isAccepted}
 use Rattle.frame.specs.declared.Step.{Step}
 use Rattle.frame.specs.declared.Step.the-variants.{Tuple, End, Refused}
 use Rattle.frame.specs.Steps.{stepForward, stepNumbers}
@@ -83,11 +83,6 @@ navigationIn f = answered (readAnswer (only 30) f 4) (navigationOf (readValues f
 abbrev pub hasHeading : ℤ → NavigationRead → Bool
 hasHeading z (Read r) = sameInt (r .heading) z
 hasHeading z (navigation.Refused c p) = false
-
--- what the sample reader says there, given room for so many samples
-abbrev pub isAccepted : Answer → Bool
-isAccepted (Accepted n m) = true
-isAccepted (answer.Refused c p) = false
 
 -- the example holds
 unfoldable pub holds : Example → Bool

@@ -1,7 +1,7 @@
 -- `archive::tell_record` meets its contract. Assumes nothing.
 use mathlib.Core.Path.{refl}
 use borrow.Author.Needs.{needs}
-use Rattle.layout.specs.declared.Answer.the-variants.{Accepted}
+use Rattle.layout.specs.Answers.{accepting}
 use Rattle.archive.specs.Numbers.{four}
 use Rattle.archive.proofs.Telling.{told-behind}
 use Rattle.archive.proofs.tell_record.Statement.{statement}
@@ -10,7 +10,7 @@ use Rattle.archive.proofs.tell_record.Tie as tie
 returns : tie.Need-returns
 returns c =
     let a = c .before .before .before .before .before .before .before .before .before .before .args in
-    (refl, told-behind (four (Accepted 1 0)) (a .numbers .now) (a .answer .now) 4 refl (c .before .before .before .before .before .before .tell-four .ensures) (c .before .before .tell-numbers .ensures))
+    (refl, told-behind (four (accepting 1 0)) (a .numbers .now) (a .answer .now) 4 refl (c .before .before .before .before .before .before .tell-four .ensures) (c .before .before .tell-numbers .ensures))
 
 pub tell-record-spec : {M : Type 1} → statement M
 tell-record-spec =

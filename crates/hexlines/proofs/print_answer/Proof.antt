@@ -12,10 +12,10 @@ use Rattle.hexlines.proofs.print_answer.Statement.{statement}
 use Rattle.hexlines.proofs.print_answer.Tie as tie
 
 -- what is accepted is within the lent bytes
-within : (c : tie.After-answer2) → Within (c .answer2 .given .0 .1 .0) (c .before .before .before .before .args .form .now)
+within : (c : tie.After-answer2) → Within (c .answer2 .given .0 .0 .written) (c .before .before .before .before .args .form .now)
 within c = subst (λ (a : Answer). Ready a (c .before .before .before .before .args .form .now)) (c .answer2 .given .1) (c .before .before .before .before .pre .1)
 
-counted : (c : tie.After-answer2) → let m = c .answer2 .given .0 .1 .0 in length (take m (c .before .before .before .before .args .form .now)) ≡ m
+counted : (c : tie.After-answer2) → let m = c .answer2 .given .0 .0 .written in length (take m (c .before .before .before .before .args .form .now)) ≡ m
 counted c = length-take-le _ _ (within c .long)
 
 print-form-requires : tie.Need-print-form-requires

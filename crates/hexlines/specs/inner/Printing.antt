@@ -26,7 +26,7 @@ pub record Form (f : List ℕ) (ts : List Tup) : Type 0 where
 
 -- ---- an answer with the lent bytes of its normal form
 abbrev pub formIn : Answer → List ℕ → List ℕ
-formIn (Accepted n m) lent = take m lent
+formIn (Accepted n) lent = take (n .written) lent
 formIn (Refused c p) lent = []
 
 -- the bytes that an acceptance counts are a form of at most 65,536 bytes
@@ -36,7 +36,7 @@ pub record Within (m : ℕ) (lent : List ℕ) : Type 0 where
   pub form : Form (take m lent) (tuplesOf (take m lent))
 
 abbrev pub Ready : Answer → List ℕ → Type 0
-Ready (Accepted n m) lent = Within m lent
+Ready (Accepted n) lent = Within (n .written) lent
 Ready (Refused c p) lent = Unit {0}
 
 abbrev pub printedBy : Answer → List ℕ → List ℕ

@@ -14,6 +14,6 @@ ask-spec =
     (λ c κs. search needs)
     (λ c. search needs)
     (λ c. search needs)
-    (λ c κs. record { written = _; answer = sym (c .before .before .before .check .ensures .is) ∙ c .before .tuples .given .1 })
+    (λ c κs. sym (c .before .before .before .check .ensures .is) ∙ c .before .counts .given .1)
     (λ c. tells (sym (ap (askChecked _ _) (sym (c .before .before .before .check .ensures .is) ∙ c .before .code .given .1))))
-    (λ c. tells (c .ask-accepted .ensures ∙ sym (ap (askChecked _ _) (sym (c .before .before .before .before .check .ensures .is) ∙ c .before .before .tuples .given .1)))))
+    (λ c. tells (c .ask-accepted .ensures ∙ sym (ap (askChecked _ _) (sym (c .before .before .before .before .check .ensures .is) ∙ c .before .before .counts .given .1)))))

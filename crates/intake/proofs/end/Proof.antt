@@ -11,7 +11,7 @@ use lib.ListN.{take}
 use lib.Seq.{getD-take}
 use Rattle.rules.specs.Rules.First.{none, here, pass}
 use Rattle.rules.proofs.Laws.{Passed}
-use Rattle.layout.specs.declared.Answer.the-variants.{Accepted}
+use Rattle.layout.specs.Answers.{accepting}
 use Rattle.links.specs.inner.Tables.{firstOff}
 use Rattle.intake.specs.inner.Tallies.{endBy}
 use Rattle.intake.proofs.Tallies.{ends}
@@ -23,7 +23,7 @@ abbrev off : tie.Start → ℕ
 off s = let a = s .args in firstOff (take (a .w .sounders) (a .docs .now)) (take (a .w .sounders) (a .says .now)) (take (a .w .channels) (a .parents .now))
 
 abbrev Past : ℕ → tie.Start → Type 0
-Past k s = let a = s .args in Passed k (endBy (a .file .now) (a .w) (a .places .now) (off s)) (Accepted (a .w .count) 0)
+Past k s = let a = s .args in Passed k (endBy (a .file .now) (a .w) (a .places .now) (off s)) (accepting (a .w .count) 0)
 
 returns : tie.Need-returns
 returns c = c .refuse .ensures ∙ ends _ _ _ _ _ _ (here (lt-ltb _ _ (c .before .if1 .taken)))
@@ -56,7 +56,9 @@ returns-3 c =
     ∙ rw (← getD-take _ _ _ _ (t .if3 .taken), e) (ends _ _ _ _ _ _ (past2 (t .before .before .before) _ (here (ap not (tested (t .before) ∙ lt-leb _ _ (t .if3 .taken))))))
 
 returns-4 : tie.Need-returns-4
-returns-4 c = ends _ _ _ _ _ _ (past2 (c .before .before .before) _ (pass (ap not (tested (c .before) ∙ le-leb _ _ (c .if3 .left))) none))
+returns-4 c =
+    let d = c .before in
+    c .accept .ensures ∙ ends _ _ _ _ _ _ (past2 (d .before .before .before) _ (pass (ap not (tested (d .before) ∙ le-leb _ _ (d .if3 .left))) none))
 
 pub end-spec : {M : Type 1} → statement M
 end-spec =
@@ -72,4 +74,5 @@ end-spec =
     (λ c. search needs)
     (λ c κs. search needs)
     returns-3
+    (λ c κs. search needs)
     returns-4)

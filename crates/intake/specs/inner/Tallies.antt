@@ -10,11 +10,10 @@ use lib.ListN.{length, take, drop, getD, set}
 use Rattle.order.specs.Order.{numOf}
 use Rattle.rules.specs.Rules.{Rule, _⇒_, firstOf}
 use Rattle.layout.specs.declared.Answer.{Answer}
-use Rattle.layout.specs.declared.Answer.the-variants.{Accepted}
 use Rattle.layout.specs.declared.Answer.the-variants as answers
 use Rattle.layout.specs.declared.Verdict.{Verdict}
 use Rattle.layout.specs.declared.Verdict.the-variants.{Fine}
-use Rattle.layout.specs.Answers.{both, judged, _byte_}
+use Rattle.layout.specs.Answers.{both, judged, _byte_, accepting}
 use Rattle.layout.specs.Types.{kindOf, lineOf, fitting, inClass}
 use Rattle.layout.specs.Types
 use Rattle.frame.specs.Frames.{Tup, lenAt, kindAt, tupAt, framing}
@@ -193,7 +192,7 @@ endBy f w places wrong =
 
 unfoldable pub endAnswer : List ℕ → Tally → List ℕ → List ℕ → List ℕ → List ℕ → Answer
 endAnswer f w docs says places parents =
-    firstOf (endBy f w places (firstOff (take (w .sounders) docs) (take (w .sounders) says) (take (w .channels) parents))) (Accepted (w .count) 0)
+    firstOf (endBy f w places (firstOff (take (w .sounders) docs) (take (w .sounders) says) (take (w .channels) parents))) (accepting (w .count) 0)
 
 -- ---- what a turn takes and hands back
 pub record TurnedTo (o : Bool) (f : List ℕ) (w : Tally) (c : Columns) (r : Turned) (d : Columns) : Type 0 where
@@ -250,8 +249,3 @@ pub record AskIn (o : Bool) (f : List ℕ) (w : Tally) (docs sounders ids parent
   pub sounderRoom : (w .sounders ≤ length docs) × (w .sounders ≤ length sounders)
   pub channelRoom : (w .channels ≤ length ids) × (w .channels ≤ length parents) × (w .channels ≤ length channels)
   pub declared : pingAt o f (w .at) ≡ true → (channelLineOf o f w ids < w .channels) × (sounderLineOf o f w docs ids parents < w .sounders)
-
--- the check accepts a file of n tuples
-pub record AcceptedFile (f : List ℕ) (n : ℕ) : Type 0 where
-  pub written : ℕ
-  pub answer : checkFile f ≡ Accepted n written

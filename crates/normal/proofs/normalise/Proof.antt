@@ -13,15 +13,14 @@ use Rattle.normal.proofs.normalise.Statement.{statement}
 use Rattle.normal.proofs.normalise.Tie as tie
 
 -- the check accepts
-abbrev accepts : (c : tie.After-tuples) → Accepts (c .before .before .before .before .before .args .file .now)
-accepts c = record { count = c .tuples .given .0 .0; written = c .tuples .given .0 .1 .0; answer = sym (c .before .before .check .ensures .is) ∙ c .tuples .given .1 }
+abbrev accepts : (c : tie.After-counts) → Accepts (c .before .before .before .before .before .args .file .now)
+accepts c = record { counts = _; answer = sym (c .before .before .check .ensures .is) ∙ c .counts .given .1 }
 
 -- what is measured
-found : (c : tie.After-measure-file) → FoundOf (c .before .before .before .before .before .before .before .args .file .now) (c .before .before .tuples .given .0 .0) (c .measure-file .result .bytes) (c .measure-file .result .unlisted)
+found : (c : tie.After-measure-file) → FoundOf (c .before .before .before .before .before .before .before .args .file .now) (accepts (c .before .before) .counts) (c .measure-file .result .bytes) (c .measure-file .result .unlisted)
 found c =
     let a = accepts (c .before .before) in
     record {
-      written = a .written;
       accepted = a .answer;
       bytes = ap (λ (m : Measure). m .bytes) (c .measure-file .ensures);
       unlisted = ap (λ (m : Measure). m .unlisted) (c .measure-file .ensures);
@@ -50,7 +49,10 @@ returns-4 : tie.Need-returns-4
 returns-4 c = rw (c .refuse .ensures) (refused-of _ _ _ _ (sym (c .before .before .code .given .1) ∙ c .before .before .before .before .check .ensures .is))
 
 returns-5 : tie.Need-returns-5
-returns-5 c = found-written _ _ _ _ _ (found (c .before .before .before .before .before .before .before .before .before .before .before .before)) (sym (turns (c .before .before .before .before .before .before .before .before .before)) ∙ c .before .before .before .before .before .before .before .before .if1 .left) (c .before .before .before .before .before .before .if2 .left) (c .before .before .before .before .if3 .left) _ (c .before .before .write-normal .ensures)
+returns-5 c =
+    let d = c .before in
+    rw (c .accept .ensures)
+    (found-written _ _ _ _ _ (found (d .before .before .before .before .before .before .before .before .before .before .before .before)) (sym (turns (d .before .before .before .before .before .before .before .before .before)) ∙ d .before .before .before .before .before .before .before .before .if1 .left) (d .before .before .before .before .before .before .if2 .left) (d .before .before .before .before .if3 .left) _ (d .before .before .write-normal .ensures))
 
 pub normalise-spec : {M : Type 1} → statement M
 normalise-spec =
@@ -70,6 +72,7 @@ normalise-spec =
     (λ c κs. search needs)
     returns-3
     write-normal-requires
+    (λ c κs. search needs)
     returns-4
     (λ c. search needs)
     returns-5)

@@ -51,10 +51,12 @@ write-form-requires c κs = (sound (c .before .before .before .before .before .b
 returns-4 : tie.Need-returns-4
 unfolding mark
 returns-4 c =
-    let u = c .before .before .before .before .before .before .before .before .before .before .before in
+    let d = c .before in
+    let u = d .before .before .before .before .before .before .before .before .before .before .before in
     let k = u .before .before .before in
-    single-written _ (c .before .before .before .before .before .before .before .before .before .before .before .before .before .before .before .before .before .before .before .args .out .now) _ _ _ (k .before .before .is-msb .ensures) (k .before .length-at .ensures) (k .kind-at .ensures) (u .before .before .if1 .left) (sym (turns u) ∙ c .before .before .before .before .before .before .before .before .before .before .if2 .left) _
-    (c .before .before .before .before .before .before .before .before .before .form-length .ensures .0) (c .before .before .before .before .before .before .before .before .if3 .left) _ _ (c .before .before .before .before .before .before .store4 .ensures) (c .before .before .write-form .ensures .1)
+    rw (c .accept .ensures)
+    (single-written _ (d .before .before .before .before .before .before .before .before .before .before .before .before .before .before .before .before .before .before .before .args .out .now) _ _ _ (k .before .before .is-msb .ensures) (k .before .length-at .ensures) (k .kind-at .ensures) (u .before .before .if1 .left) (sym (turns u) ∙ d .before .before .before .before .before .before .before .before .before .before .if2 .left) _
+    (d .before .before .before .before .before .before .before .before .before .form-length .ensures .0) (d .before .before .before .before .before .before .before .before .if3 .left) _ _ (d .before .before .before .before .before .before .store4 .ensures) (d .before .before .write-form .ensures .1))
 
 pub turn-tuple-spec : {M : Type 1} → statement M
 turn-tuple-spec =
@@ -76,5 +78,6 @@ turn-tuple-spec =
     returns-3
     (λ c κs. search needs)
     write-form-requires
+    (λ c κs. search needs)
     (λ c. search needs)
     returns-4)

@@ -27,10 +27,11 @@ read-pairs-requires c κs = room (c .before .before)
 
 returns-3 : tie.Need-returns-3
 returns-3 c =
-    let r = c .before .before .before in
+    let d = c .before in
+    let r = d .before .before .before in
     let k = r .before .before .before in
     let a = k .before .before .before .before .args in
-    rw (length-pairs (a .msb) (a .part .now)) (handed _ (a .numbers .now) (a .values .now) (room k) (r .read-pairs .ensures .0) (r .read-pairs .ensures .1))
+    rw (c .accept .ensures, length-pairs (a .msb) (a .part .now)) (handed _ (a .numbers .now) (a .values .now) (room k) (r .read-pairs .ensures .0) (r .read-pairs .ensures .1))
 
 pub hand-pairs-spec : {M : Type 1} → statement M
 hand-pairs-spec =
@@ -41,6 +42,7 @@ hand-pairs-spec =
     (λ c κs. search needs)
     returns-2
     read-pairs-requires
+    (λ c κs. search needs)
     (λ c. search needs)
     (λ c. search needs)
     returns-3)

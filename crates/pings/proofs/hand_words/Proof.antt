@@ -31,11 +31,12 @@ read-words-requires c κs = let k = c .before .before in (k .before .before .bef
 
 returns-3 : tie.Need-returns-3
 returns-3 c =
-    let r = c .before .before .before in
+    let d = c .before in
+    let r = d .before .before .before in
     let k = r .before .before .before in
     let start = k .before .before .before .before in
     let a = start .args in
-    rw (start .pre .1) (handed _ (a .numbers .now) (a .values .now) (room k) (r .read-words .ensures .0) (r .read-words .ensures .1))
+    rw (c .accept .ensures, start .pre .1) (handed _ (a .numbers .now) (a .values .now) (room k) (r .read-words .ensures .0) (r .read-words .ensures .1))
 
 pub hand-words-spec : {M : Type 1} → statement M
 hand-words-spec =
@@ -46,6 +47,7 @@ hand-words-spec =
     (λ c κs. search needs)
     returns-2
     read-words-requires
+    (λ c κs. search needs)
     (λ c. search needs)
     (λ c. search needs)
     returns-3)

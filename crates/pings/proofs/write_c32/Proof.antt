@@ -101,7 +101,8 @@ put-c32-requires c κs =
 
 returns-7 : tie.Need-returns-7
 returns-7 c =
-    let put = c .before .before in
+    let d = c .before in
+    let put = d .before .before in
     let fits = put .before .before in
     let short = fits .before in
     let count = short .before in
@@ -112,8 +113,9 @@ returns-7 c =
     let few = first .before in
     let start = few .before .before .before .before in
     let a = start .args in
-    written-C (a .msb) (a .header) (a .attribute) (a .numbers .now) (a .values .now) (a .out .now) (few .before .if1 .left) (few .if2 .left) _ (first .first-drop .ensures) (rise .if3 .left) _ (wordless .first-wordless .ensures) (worded .if4 .left) _ (size count) (short .if5 .left) (fits .if6 .left) _
-    (put .put-c32 .ensures ∙ ap (λ (z : ℤ). sets (a .out .now) 0 (bytesC (a .msb) (handedPing (a .header) z (a .numbers .now) (a .values .now)))) (toZ-ofZ {w = w32} {z = a .attribute} (start .fits .attribute)))
+    rw (c .accept .ensures)
+    (written-C (a .msb) (a .header) (a .attribute) (a .numbers .now) (a .values .now) (a .out .now) (few .before .if1 .left) (few .if2 .left) _ (first .first-drop .ensures) (rise .if3 .left) _ (wordless .first-wordless .ensures) (worded .if4 .left) _ (size count) (short .if5 .left) (fits .if6 .left) _
+    (put .put-c32 .ensures ∙ ap (λ (z : ℤ). sets (a .out .now) 0 (bytesC (a .msb) (handedPing (a .header) z (a .numbers .now) (a .values .now)))) (toZ-ofZ {w = w32} {z = a .attribute} (start .fits .attribute))))
 
 pub write-c32-spec : {M : Type 1} → statement M
 write-c32-spec =
@@ -139,5 +141,6 @@ write-c32-spec =
     (λ c κs. search needs)
     returns-6
     put-c32-requires
+    (λ c κs. search needs)
     (λ c. search needs)
     returns-7)

@@ -45,7 +45,8 @@ returns-5 c =
 
 returns-6 : tie.Need-returns-6
 returns-6 c =
-    let close = c .before .before in
+    let d = c .before in
+    let close = d .before .before in
     let pairs = close .before .before .before .before in
     let opening = pairs .before .before .before .before in
     let fits = opening .before .before in
@@ -55,9 +56,10 @@ returns-6 c =
     let few = some .before in
     let start = few .before .before .before .before in
     let a = start .args in
-    written (a .msb) (a .header) (a .attribute) (a .numbers .now) (a .values .now) (a .out .now) (few .before .if1 .left) (few .if2 .left) (some .if3 .left) _ (first .first-drop .ensures) (rise .if4 .left)
+    rw (c .accept .ensures)
+    (written (a .msb) (a .header) (a .attribute) (a .numbers .now) (a .values .now) (a .out .now) (few .before .if1 .left) (few .if2 .left) (some .if3 .left) _ (first .first-drop .ensures) (rise .if4 .left)
     _ (omega arith) _ (fits .if5 .left)
-    (rw (close .close-frame .ensures, pairs .write-pairs .ensures, opening .write-opening .ensures, toZ-ofZ {w = w32} {z = a .attribute} (start .fits .attribute)))
+    (rw (close .close-frame .ensures, pairs .write-pairs .ensures, opening .write-opening .ensures, toZ-ofZ {w = w32} {z = a .attribute} (start .fits .attribute))))
 
 pub write-u32-spec : {M : Type 1} → statement M
 write-u32-spec =
@@ -78,6 +80,7 @@ write-u32-spec =
     (λ c. search needs)
     (λ c κs. search needs)
     returns-5
+    (λ c κs. search needs)
     (λ c κs. search needs)
     (λ c κs. search needs)
     (λ c κs. search needs)

@@ -30,12 +30,15 @@ returns c =
 
 returns-2 : tie.Need-returns-2
 returns-2 c =
-    let d = c .before .before .before .before .before .before .before .before .before in
+    let put = c .before .before .before in
+    let fits = put .before .before in
+    let d = fits .before .before .before .before .before in
     let a = d .args in
-    with-room (bytes d) (a .out .now) (a .whole) (many d) (c .before .before .before .before .if1 .left) _
-    (c .before .before .put-tuple .ensures
-    ∙ ap (λ (z : ℤ). sets (a .out .now) 0 (plainBytes (a .msb) (a .code) (handedValues (shapeOf (a .code)) (a .numbers .now) (a .remark .now) (a .behind .now) (patternOf 4 z)))) (toZ-ofZ {w = w32} {z = a .attribute} (d .fits .attribute)))
+    rw (c .accept .ensures)
+    (with-room (bytes d) (a .out .now) (a .whole) (many d) (fits .if1 .left) _
+    (put .put-tuple .ensures
+    ∙ ap (λ (z : ℤ). sets (a .out .now) 0 (plainBytes (a .msb) (a .code) (handedValues (shapeOf (a .code)) (a .numbers .now) (a .remark .now) (a .behind .now) (patternOf 4 z)))) (toZ-ofZ {w = w32} {z = a .attribute} (d .fits .attribute))))
 
 pub write-tuple-spec : {M : Type 1} → statement M
 write-tuple-spec =
-    tie.close (tie.spec (λ c κs. search needs) returns (λ c κs. search needs) (λ c. search needs) returns-2)
+    tie.close (tie.spec (λ c κs. search needs) returns (λ c κs. search needs) (λ c κs. search needs) (λ c. search needs) returns-2)

@@ -3,10 +3,11 @@ use mathlib.Core.Path.{_≡_}
 use Prim.Native.Nat.{ℕ, _-_}
 use mathlib.Core.Bool.{Bool, true}
 use mathlib.Core.List.{List, []}
-use Rattle.layout.specs.declared.Answer.the-variants.{Accepted, Refused}
+use Rattle.layout.specs.declared.Answer.the-variants.{Refused}
 use Rattle.layout.specs.declared.Verdict.the-variants.{Fine}
 use Rattle.layout.specs.Fields.{Field}
 use Rattle.layout.specs.Types.{Shape, indexed, row, pairs, words, unlisted, shapeOf}
+use Rattle.layout.specs.Answers.{accepting}
 use Rattle.frame.specs.declared.Walk.{Walk}
 use Rattle.frame.specs.declared.Step.the-variants.{Tuple}
 use Rattle.frame.specs.declared.Step.the-variants
@@ -47,7 +48,7 @@ FoundAs f p (opened.Refused c q) = (asked : ℕ → Bool) → Refused c q ≡ re
 
 -- it is a tuple that was asked for and that keeps its own rules, n bytes of type k in the byte order o
 pub record Readable (asked : ℕ → Bool) (f : List ℕ) (p : ℕ) (o : Bool) (n k : ℕ) : Type 0 where
-  pub answer : Accepted 1 0 ≡ readAnswer asked f p
+  pub answer : accepting 1 0 ≡ readAnswer asked f p
   pub msb : o ≡ isMsb f
   pub found : Found f p n k
   pub asks : asked k ≡ true
