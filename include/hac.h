@@ -50,7 +50,14 @@ enum {
     HAC_FIRST_PLACE = 4         /* the place of a file's first tuple, behind the mark */
 };
 
-/* ---- codes: what a call returns, and what answer[HAC_CODE] holds; HAC_UNFIT is also a reader's for a type not asked for */
+/* ---- codes: what a call returns, and what answer[HAC_CODE] holds; HAC_UNFIT is also a reader's for a type not asked for.
+
+   23, 24 and 25 are about the samples of a ping. Their place is the byte of the first offender, for the check, the question, the
+   normal forms and both readers of a ping alike, whatever place these are handed. With i counted from 0:
+   - 23, U-32: the first sample number that isn't above the one before it, at ping + 24 + 8 i, i the place of its pair.
+   - 24, C-32: the first word outside the limits, at ping + 28 + 4 i, i its place among the words.
+   - 25, C-32: the number of samples, at ping + 24, where it isn't the number of words that are no runs.
+   Of one ping 11 comes first, at the ping; then 24; then 25. */
 enum {
     HAC_ACCEPTED = 0,
     HAC_OVER_LIMIT = 1,          /* file over the limit */
@@ -62,7 +69,7 @@ enum {
     HAC_MISPLACED_SIGNATURE = 7, /* first is no signature, or a later one is */
     HAC_UNKNOWN_IDENTIFIER = 8,  /* identifier is neither 44204 nor 44201 */
     HAC_UNFIT = 9,               /* length unfit for a listed type */
-    HAC_BROKEN_SAMPLES = 10,     /* samples break a rule */
+    HAC_BROKEN_SAMPLES = 10,     /* no longer given: 23, 24 and 25 stand in its place */
     HAC_OVERFULL = 11,           /* ping over 32,764 values, or writer's tuple over 262,144 */
     HAC_DECLARED_TWICE = 12,     /* identifier declared twice */
     HAC_NO_PARENT = 13,          /* parent not declared earlier */
@@ -74,7 +81,10 @@ enum {
     HAC_NO_ROOM = 19,            /* lent output too short */
     HAC_NORMAL_OVER_LIMIT = 20,  /* normal form over 16,777,216 */
     HAC_NO_WORD = 21,            /* C-32 writer: value in -65536..-1 or outside the limits */
-    HAC_NO_SAMPLES = 22          /* writer: U-32 ping without samples */
+    HAC_NO_SAMPLES = 22,         /* writer: U-32 ping without samples */
+    HAC_NOT_RISING = 23,         /* sample number not rising */
+    HAC_BAD_WORD = 24,           /* word outside the limits */
+    HAC_MISCOUNTED = 25          /* number of samples wrong */
 };
 
 /* ---- type codes of the listed types */
@@ -102,7 +112,7 @@ enum {
     HAC_LENGTH = 3  /* bytes or samples written, else 0 */
 };
 
-/* ---- the check: 1, 2; tuple by tuple 4, 3, 5, 3, 6, 7, 9, 8, 12, 14, 13, 11, 10; behind the end of file 15, 16, 17 */
+/* ---- the check: 1, 2; tuple by tuple 4, 3, 5, 3, 6, 7, 9, 8, 12, 14, 13, 11, 23, 24, 25; behind the end of file 15, 16, 17 */
 enum { HAC_CHECK_ENTRIES = 4 };
 
 uint8_t hac_check(const uint8_t *file, size_t length, uint64_t *answer, size_t entries);
@@ -141,7 +151,7 @@ enum { HAC_NORMALISE_ENTRIES = 4 };
 uint8_t hac_normalise(const uint8_t *file, size_t length, uint8_t *out, size_t out_length, uint64_t *answer, size_t entries);
 
 /* ---- the normal form of a mark and one tuple, whatever would stand around it; the mark alone for a tuple of the index class.
-   1, 2; then 3, 5, 3, 6, 9, 8, 11, 10 at 4; 15 for bytes behind it; 18; 19. */
+   1, 2; then 3, 5, 3, 6, 9, 8, 11 at 4; 23, 24, 25 at their bytes; 15 for bytes behind it; 18; 19. */
 enum { HAC_NORMALISE_TUPLE_ENTRIES = 4 };
 
 uint8_t hac_normalise_tuple(const uint8_t *file, size_t length, uint8_t *out, size_t out_length, uint64_t *answer,
@@ -149,7 +159,8 @@ uint8_t hac_normalise_tuple(const uint8_t *file, size_t length, uint8_t *out, si
 
 /* ---- pings, U-32 and C-32 */
 
-/* Header, attribute, kind and number of values. Refused as a forward step is, 3 at the end; 9 for another type; 9, 11, 10. */
+/* Header, attribute, kind and number of values. Refused as a forward step is, 3 at the end; 9 for another type; 9, 11, all at
+   the place; then 23, 24, 25 at their bytes. */
 enum { HAC_READ_PING_ENTRIES = 13 };
 
 enum { HAC_KIND_U32 = 0, HAC_KIND_C32 = 1 };
@@ -179,10 +190,10 @@ uint8_t hac_read_samples(const uint8_t *file, size_t length, size_t place, uint3
    its bytes. Every writer has the same least number of entries. */
 enum { HAC_WRITE_ENTRIES = 4 };
 
-/* A ping as pairs, or in the fewest words. Numbers rise strictly; both slices have the same length. Refused by 10 at the smaller
-   of unequal lengths; 11 (over HAC_VALUE_LIMIT values); 22 (U-32 without samples); 10 at the first number not above the one
+/* A ping as pairs, or in the fewest words. Numbers rise strictly; both slices have the same length. Refused by 23 at the smaller
+   of unequal lengths; 11 (over HAC_VALUE_LIMIT values); 22 (U-32 without samples); 23 at the first number not above the one
    before it; 21 at the first value that has no word (C-32 alone: only -2147418112 .. -65537 and 0 .. 2147418111 have words); 11
-   (the tuple over HAC_TUPLE_LIMIT); 19. The places of 10 and 21 are places in the list, all others 0. */
+   (the tuple over HAC_TUPLE_LIMIT); 19. The places of 23 and 21 are places in the list, from 0; all others are 0. */
 uint8_t hac_write_u32(uint16_t time_fraction, uint32_t time_cpu, uint16_t software_channel_identifier,
     uint16_t transmitter_mode, uint32_t ping_number, int32_t detected_bottom_range, int32_t tuple_attribute,
     const uint32_t *numbers, size_t numbers_length, const int32_t *values, size_t values_length, bool msb, uint8_t *out,

@@ -67,8 +67,29 @@ fn full(order: Order, sounders: u32, channels: u16) -> Result<Vec<u8>, Refusal> 
     draft.ended()
 }
 
+/// The first tuple of a type in a file.
+fn first_of(file: &[u8], kind: u16) -> Option<Tuple> {
+    let mut tuples = Walk::START.forwards(file).map_while(Result::ok);
+    tuples.find(|tuple| tuple.kind == kind)
+}
+
+/// The file with four bytes of its first ping of a type altered, which stand so
+/// far before that ping's end.
+fn spoiled(file: &[u8], order: Order, kind: u16, before_end: usize, word: u32) -> Vec<u8> {
+    let mut spoiled = file.to_vec();
+    if let Some(ping) = first_of(file, kind) {
+        let at = ping.place + ping.length - before_end;
+        spoiled[at..at + 4].copy_from_slice(&match order {
+            Order::Lsb => word.to_le_bytes(),
+            Order::Msb => word.to_be_bytes(),
+        });
+    }
+    spoiled
+}
+
 /// In both orders: a file at both limits, one with a sounder too many, one with
-/// a channel too many, and the first with its last backlink altered.
+/// a channel too many, and the first with its last backlink altered, with the
+/// last number of its U-32 ping and with the last word of its C-32 ping wrong.
 pub fn files() -> Result<Vec<Deposit>, Refusal> {
     let mut all = Vec::new();
     for order in [Order::Lsb, Order::Msb] {
@@ -77,6 +98,9 @@ pub fn files() -> Result<Vec<Deposit>, Refusal> {
         if let Some(last) = altered.last_mut() {
             *last ^= 1;
         }
+        // the last number and the last word stand before attribute and backlink
+        let falling = spoiled(&most, order, types::PING_U, 16, 0);
+        let outside = spoiled(&most, order, types::PING_C, 12, 0x7FFF_0000);
         let named = [
             ("at the limits", most, true),
             (
@@ -90,6 +114,8 @@ pub fn files() -> Result<Vec<Deposit>, Refusal> {
                 false,
             ),
             ("a backlink altered", altered, false),
+            ("a number that falls", falling, false),
+            ("a word outside the limits", outside, false),
         ];
         all.extend(named.map(|(name, bytes, taken)| Deposit { name, bytes, taken }));
     }

@@ -1,8 +1,9 @@
 //! Compares every export of the archive with the second program, on the cases
 //! of a seed: `compare SEED CASES RUNNER..`, the last being the command that
 //! starts the runner. Ends with status 1 where a code handed back, an entry
-//! or a byte of lent memory differs, where the runner ends with a fault and,
-//! of cases enough, where something that must be met was not.
+//! or a byte of lent memory differs, where the runner ends with a fault, where
+//! a code comes that is no longer given and, of cases enough, where something
+//! that must be met was not.
 
 mod batch;
 mod cases;
@@ -80,6 +81,10 @@ fn report(job: &Job, found: &[Found], seconds: u64) -> bool {
     let verdict = if same { "the same" } else { "DIFFERENT" };
     let (seed, told) = (job.seed, tally.tell());
     println!("compare: seed {seed}, {verdict} ({seconds} s), {told}");
+    let gone = tally.gone();
+    if let Some(gone) = &gone {
+        println!("compare: {gone}");
+    }
     let missing = tally.missing();
     for missing in &missing {
         println!("compare: {missing}");
@@ -88,7 +93,7 @@ fn report(job: &Job, found: &[Found], seconds: u64) -> bool {
     if !enough && !missing.is_empty() {
         println!("compare: that is no failure, for too few cases were asked for");
     }
-    same && (missing.is_empty() || !enough)
+    same && gone.is_none() && (missing.is_empty() || !enough)
 }
 
 fn main() -> io::Result<()> {

@@ -5,8 +5,27 @@ use crate::exports::{Export, EXPORTS};
 use second::layout::FILE_LIMIT;
 use second::Order;
 
-/// The codes of 01's table, and 0 for acceptance.
-const CODES: usize = 23;
+/// The codes of 01 and 02, and 0 for acceptance.
+const CODES: usize = 26;
+
+/// The code that no call gives any more: request c of 02.
+const GONE: usize = 10;
+
+/// The codes that a call can refuse with.
+fn refusals() -> impl Iterator<Item = usize> {
+    (1..CODES).filter(|code| *code != GONE)
+}
+
+/// The codes of a ping's samples that a call gives, by its export's name.
+fn sample_codes(name: &str) -> &'static [usize] {
+    match name {
+        "check" | "ask" | "normalise" | "normalise_tuple" | "read_ping" | "read_samples" => {
+            &[11, 23, 24, 25]
+        }
+        "write_u32" | "write_c32" => &[11, 23],
+        _ => &[],
+    }
+}
 
 /// Of one export.
 #[derive(Clone, Default)]
@@ -146,7 +165,7 @@ impl Tally {
             let told = given.map(|(kind, count)| format!("{kind} {}", count.codes[code]));
             format!("{code}: {}", told.collect::<Vec<_>>().join(", "))
         };
-        (1..CODES).map(of_code).collect::<Vec<_>>().join("; ")
+        refusals().map(of_code).collect::<Vec<_>>().join("; ")
     }
 
     /// The exports' counts summed up by kind.
@@ -162,12 +181,24 @@ impl Tally {
         kinds
     }
 
+    /// How many calls gave a code.
+    fn given(&self, code: usize) -> u64 {
+        self.exports.iter().map(|count| count.codes[code]).sum()
+    }
+
+    /// How many calls gave the code that none may give.
+    pub fn gone(&self) -> Option<String> {
+        let times = self.given(GONE);
+        (times > 0)
+            .then(|| format!("code {GONE}, which is no longer given, was given {times} times"))
+    }
+
     /// What was not compared: codes that no call gave; exports never accepted,
-    /// never refused or never called with too few entries; files at the limit
-    /// and past it in either order.
+    /// never refused or never called with too few entries; those that judge
+    /// samples and never gave a code of them; files at the limit and past it in
+    /// either order.
     pub fn missing(&self) -> Vec<String> {
-        let never = |code: &usize| self.exports.iter().all(|count| count.codes[*code] == 0);
-        let codes = (1..CODES).filter(never);
+        let codes = refusals().filter(|code| self.given(*code) == 0);
         let mut missing: Vec<String> = codes
             .map(|code| format!("no call gave code {code}"))
             .collect();
@@ -180,6 +211,11 @@ impl Tally {
             ] {
                 if times == 0 {
                     missing.push(format!("{name} was never {what}"));
+                }
+            }
+            for code in sample_codes(name) {
+                if count.codes[*code] == 0 {
+                    missing.push(format!("{name} never gave code {code}"));
                 }
             }
         }

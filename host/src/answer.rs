@@ -3,10 +3,11 @@
 use std::error::Error;
 use std::fmt;
 
-/// The codes, each with document 01's words.
+/// The codes, each with the words of document 01, or of 02 for the last three.
 macro_rules! codes {
     ($($number:literal $code:ident $words:literal)*) => {
-        /// The rule that was broken. Document 01 has them in a table.
+        /// The rule that was broken. Document 01 has them in a table; 02 put 23, 24 and
+        /// 25 in the place of 10, which is no longer given.
         #[derive(Clone, Copy, Debug, PartialEq, Eq, PartialOrd, Ord, Hash)]
         pub enum Code {
             $(#[doc = concat!(stringify!($number), ": ", $words, ".")] $code = $number,)*
@@ -44,7 +45,6 @@ codes! {
     7 MisplacedSignature "first is no signature, or a later one is"
     8 UnknownIdentifier "identifier is neither 44204 nor 44201"
     9 Unfit "length unfit for a listed type"
-    10 BrokenSamples "samples break a rule"
     11 Overfull "ping over 32,764 values, or writer's tuple over 262,144"
     12 DeclaredTwice "identifier declared twice"
     13 NoParent "parent not declared earlier"
@@ -57,10 +57,13 @@ codes! {
     20 NormalOverLimit "normal form over 16,777,216"
     21 NoWord "C-32 writer: value in -65536..-1 or outside the limits"
     22 NoSamples "writer: U-32 ping without samples"
+    23 NotRising "sample number not rising"
+    24 BadWord "word outside the limits"
+    25 Miscounted "number of samples wrong"
 }
 
 impl Code {
-    /// Document 01's number.
+    /// The number of documents 01 and 02.
     pub const fn number(self) -> u8 {
         self as u8
     }
@@ -77,8 +80,8 @@ impl fmt::Display for Code {
 pub struct Refusal {
     /// The rule.
     pub code: Code,
-    /// The byte offset that document 01 gives with the code; a ping writer's 10
-    /// and 21 have a place in the list of samples.
+    /// The byte offset that documents 01 and 02 give with the code; a ping writer's
+    /// 23 and 21 have a place in the list of samples.
     pub place: usize,
 }
 
@@ -95,14 +98,15 @@ mod tests {
     use super::*;
 
     #[test]
-    fn numbers_run_from_1_to_22() {
+    fn numbers_run_from_1_to_25_without_10() {
         let numbers: Vec<u8> = Code::ALL.iter().map(|code| code.number()).collect();
-        assert_eq!(numbers, (1..=22).collect::<Vec<u8>>());
+        assert_eq!(numbers, (1..=9).chain(11..=25).collect::<Vec<u8>>());
         for &code in Code::ALL {
             assert_eq!(Code::of(code.number()), Some(code));
         }
         assert_eq!(Code::of(0), None);
-        assert_eq!(Code::of(23), None);
+        assert_eq!(Code::of(10), None);
+        assert_eq!(Code::of(26), None);
     }
 
     #[test]

@@ -29,7 +29,7 @@ fn answered<const ENTRIES: usize>(call: impl FnOnce(*mut u64, usize) -> u8) -> A
     match call(answer.as_mut_ptr(), ENTRIES) {
         0 => Ok(answer),
         number => Err(Refusal {
-            code: Code::of(number).expect("the archive gives document 01's codes alone"),
+            code: Code::of(number).expect("the archive gives the codes of 01 and 02 alone"),
             place: answer[PLACE] as usize,
         }),
     }

@@ -37,10 +37,28 @@ impl Order {
     pub(crate) fn is_msb(self) -> bool {
         self == Order::Msb
     }
+
+    /// The order of a file that begins with a mark.
+    pub(crate) fn of(file: &[u8]) -> Order {
+        if file.starts_with(&Order::Msb.mark()) {
+            Order::Msb
+        } else {
+            Order::Lsb
+        }
+    }
+
+    /// The number that four bytes stand for.
+    pub(crate) fn four(self, bytes: [u8; 4]) -> u32 {
+        match self {
+            Order::Lsb => u32::from_le_bytes(bytes),
+            Order::Msb => u32::from_be_bytes(bytes),
+        }
+    }
 }
 
 /// Checks a whole file and counts its tuples. Refuses by 1, 2; tuple by tuple 4,
-/// 3, 5, 3, 6, 7, 9, 8, 12, 14, 13, 11, 10; behind the end of file 15, 16, 17.
+/// 3, 5, 3, 6, 7, 9, 8, 12, 14, 13, 11, 23, 24, 25; behind the end of file 15, 16,
+/// 17. [`crate::wrong_sample`] tells more of 23, 24 and 25.
 pub fn check(file: &[u8]) -> Result<usize, Refusal> {
     let answer = call::hac_check(file)?;
     Ok(Field::of_entry(answer[TUPLES]))

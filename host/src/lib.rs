@@ -49,6 +49,7 @@ mod ping;
 mod record;
 pub mod types;
 mod walk;
+mod wrong;
 
 pub use answer::{Code, Refusal};
 pub use field::{DocumentId, SoftwareChannel, Transceiver};
@@ -62,3 +63,4 @@ pub use record::{
     Threshold, REMARK,
 };
 pub use walk::{Step, Tuple, Tuples, Walk};
+pub use wrong::{wrong_sample, SampleFault, WrongSample};

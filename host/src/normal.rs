@@ -30,8 +30,8 @@ pub fn normalise(file: &[u8], out: &mut [u8]) -> Result<Normal, Refusal> {
 }
 
 /// Writes the normal form of a mark and one tuple into lent memory: the mark
-/// alone for a tuple of the index class. Refuses by 1, 2; 3, 5, 3, 6, 9, 8, 11,
-/// 10 at 4; 15 for bytes behind the tuple; 18; 19.
+/// alone for a tuple of the index class. Refuses by 1, 2; 3, 5, 3, 6, 9, 8, 11 at
+/// 4; 23, 24, 25 at their bytes; 15 for bytes behind the tuple; 18; 19.
 pub fn normalise_tuple(file: &[u8], out: &mut [u8]) -> Result<Normal, Refusal> {
     call::hac_normalise_tuple(file, out).map(Normal::of)
 }

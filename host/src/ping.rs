@@ -50,7 +50,8 @@ pub struct Ping {
 }
 
 /// Reads the ping at a place. Refuses as a forward step is refused, by 3 at the
-/// end; by 9 for another type; then by 9, 11, 10.
+/// end; by 9 for another type; then by 9, 11, all at the place; by 23, 24, 25 at
+/// the byte of the first number or word that is wrong, or of the number of samples.
 pub fn read_ping(file: &[u8], place: usize) -> Result<Ping, Refusal> {
     let answer = call::hac_read_ping(file, place)?;
     let mut fields = Fields::of(&answer);
@@ -121,13 +122,13 @@ macro_rules! writers {
 }
 
 writers! {
-    /// Writes a ping as pairs, and gives its length. Refuses by 10 at the smaller
-    /// of unequal counts; 11 (count); 22 without samples; 10 at the first number
+    /// Writes a ping as pairs, and gives its length. Refuses by 23 at the smaller
+    /// of unequal counts; 11 (count); 22 without samples; 23 at the first number
     /// not above the one before it; 11 (length); 19.
     write_u32 hac_write_u32
 
-    /// Writes a ping in the fewest words, and gives its length. Refuses by 10 at
-    /// the smaller of unequal counts; 11 (count); 10 at the first number not above
+    /// Writes a ping in the fewest words, and gives its length. Refuses by 23 at
+    /// the smaller of unequal counts; 11 (count); 23 at the first number not above
     /// the one before it; 21 at the first value that has no word; 11 (length); 19.
     write_c32 hac_write_c32
 }

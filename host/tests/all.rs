@@ -1,6 +1,6 @@
 //! The library, the header and the program, on the samples, the vectors and
-//! copies of them that are damaged by rule. Known answers come from document 01
-//! and from the samples' lines.
+//! copies of them that are damaged by rule. Known answers come from documents 01
+//! and 02 and from the samples' lines.
 
 mod arguments;
 mod check;
@@ -17,3 +17,4 @@ mod records;
 mod room;
 mod streams;
 mod walk;
+mod wrong;

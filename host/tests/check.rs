@@ -39,7 +39,7 @@ fn damaged_copies_are_refused() {
         let answer = check(&copy.bytes);
         assert_eq!(answer, Err(refused(copy.code, copy.place)), "{}", copy.name);
     }
-    for code in 1..=17 {
+    for code in (1..=9).chain(11..=17).chain(23..=25) {
         assert!(damaged.iter().any(|copy| copy.code == code), "{code}");
     }
 }
@@ -75,8 +75,10 @@ fn refused_vectors() {
         );
         seen.insert(code);
     }
-    // the others need longer files than the vectors have, or are a writer's
-    assert!(seen.into_iter().eq((2..=18).filter(|code| *code != 11)));
+    // the others need longer files than the vectors have, are a writer's, or are
+    // no longer given
+    let codes = (2..=9).chain(12..=18).chain(23..=25);
+    assert_eq!(seen, codes.collect());
 }
 
 #[test]
@@ -91,8 +93,8 @@ fn one_accepted_file() {
     assert_eq!((ran.status, ran.out, ran.err), (0, line, String::new()));
 }
 
-/// One refused file: its line has the code, 01's words and the place, and nothing
-/// stands behind it.
+/// One refused file: its line has the code, its words and the place, then which
+/// sample is wrong, if one is, and nothing stands behind it.
 #[test]
 fn one_refused_file() {
     let room = Room::new();
@@ -101,10 +103,11 @@ fn one_refused_file() {
         let ran = run(hac(["check"]).arg(&path));
         let words = Code::of(copy.code).expect("a code").words();
         let line = format!(
-            "{}: refused, {}: {words}, at {}\n",
+            "{}: refused, {}: {words}, at {}{}\n",
             path.display(),
             copy.code,
-            copy.place
+            copy.place,
+            copy.sample
         );
         assert_eq!((ran.status, ran.out, ran.err), (1, line, String::new()));
     }

@@ -1,15 +1,17 @@
 //! Copies of a sample that break one rule each: for every code that a file can be
-//! refused by, document 01 tells which it is and where.
+//! refused by, documents 01 and 02 tell which it is and where.
 
 use crate::known::{Known, Tuple};
 use hac::Order;
 
-/// A damaged file, and the refusal that 01 gives it.
+/// A damaged file, and the refusal that 01 or 02 gives it.
 pub struct Damaged {
     pub name: &'static str,
     pub bytes: Vec<u8>,
     pub code: u8,
     pub place: usize,
+    /// What the program says behind the place: which sample is wrong, if one is.
+    pub sample: &'static str,
 }
 
 /// A file that is being put together.
@@ -35,7 +37,7 @@ impl Draft {
     }
 
     /// Where the n-th tuple starts.
-    fn place(&self, nth: usize) -> usize {
+    pub fn place(&self, nth: usize) -> usize {
         hac::FIRST_PLACE + self.tuples[..nth].iter().map(Vec::len).sum::<usize>()
     }
 
@@ -58,12 +60,31 @@ impl Draft {
         self.refused(name, code, place)
     }
 
+    /// Puts a word into the n-th tuple. The refusal stands at that word, and the
+    /// program says which sample is wrong.
+    fn miswritten(
+        mut self,
+        name: &'static str,
+        code: u8,
+        nth: usize,
+        (at, word): (usize, u32),
+        sample: &'static str,
+    ) -> Damaged {
+        self.tuples[nth][at..at + 4].copy_from_slice(&word.to_le_bytes());
+        let place = self.place(nth) + at;
+        Damaged {
+            sample,
+            ..self.refused(name, code, place)
+        }
+    }
+
     fn refused(self, name: &'static str, code: u8, place: usize) -> Damaged {
         Damaged {
             name,
             bytes: self.bytes(),
             code,
             place,
+            sample: "",
         }
     }
 }
@@ -72,6 +93,7 @@ impl Draft {
 const NAVIGATION: u16 = 30;
 const SOUNDER: u16 = 100;
 const CHANNEL: u16 = 1000;
+const PING_U: u16 = 10000;
 const PING_C: u16 = 10010;
 
 /// 01's limits: sounders and channels of a file, values of a ping.
@@ -109,6 +131,7 @@ fn frames(known: &Known) -> Vec<Damaged> {
         bytes,
         code,
         place,
+        sample: "",
     };
     let length = known.bytes.len();
     let last = known.tuples.last().expect("a tuple").place;
@@ -148,10 +171,40 @@ fn tuples(known: &Known) -> Vec<Damaged> {
         twice.refused("07-later", 7, again),
         draft().broken("08-identifier", 8, 0, |tuple| tuple[6] = 0xA8),
         draft().broken("09-unfit", 9, find(NAVIGATION), |tuple| tuple[4] = 20),
-        draft().broken("10-count", 10, find(PING_C), |tuple| tuple[24] += 1),
         overfull.broken("11-values", 11, find(PING_C), |_| ()),
         draft().broken("13-channel", 13, find(PING_C), |tuple| tuple[12] = 99),
         draft().broken("13-parent", 13, find(CHANNEL), |tuple| tuple[8] += 9),
+    ]
+}
+
+/// Damage to the samples of the sample's first U-32 ping, at 1072, whose fourth
+/// number becomes the third, and of its first C-32 ping, at 780, which has twelve
+/// values, three of them before its only run, which is of 837.
+fn samples(known: &Known) -> Vec<Damaged> {
+    let draft = || Draft::of(known);
+    let (pairs, words) = (draft().find(PING_U), draft().find(PING_C));
+    vec![
+        draft().miswritten(
+            "23-number",
+            23,
+            pairs,
+            (24 + 8 * 3, 840),
+            ": ping at 1072, pair 3 has number 840 behind 840",
+        ),
+        draft().miswritten(
+            "24-word",
+            24,
+            words,
+            (28 + 4 * 4, 0x7FFF_0000),
+            ": ping at 780, word 4 is 7FFF0000 for sample 840",
+        ),
+        draft().miswritten(
+            "25-count",
+            25,
+            words,
+            (24, 13),
+            ": ping at 780, 13 said and 12 found",
+        ),
     ]
 }
 
@@ -191,6 +244,7 @@ fn links(known: &Known) -> Vec<Damaged> {
 pub fn all(known: &Known) -> Vec<Damaged> {
     let mut all = frames(known);
     all.extend(tuples(known));
+    all.extend(samples(known));
     all.extend(links(known));
     all
 }

@@ -1,5 +1,6 @@
 //! The header: by itself, and in C programs linked with the archive.
 
+use crate::damage;
 use crate::known::{repository, Known, Tuple, NORMAL, SPELLINGS};
 use crate::room::{run, Ran, Room};
 use std::fmt::Write;
@@ -126,9 +127,16 @@ fn face() {
         let ran = run(Command::new(&program).arg(&known.path));
         assert_eq!((ran.status, ran.out, ran.err), (0, expected, String::new()));
     }
-    let cut = room.put("cut.hac", &normal.bytes[..4]);
-    let ran = run(Command::new(&program).arg(cut));
-    assert_eq!((ran.status, ran.out.as_str()), (1, "refused 4 at 4\n"));
+    for copy in damage::all(&Known::sample("cruise-lsb")) {
+        // face.c reads no byte more than a file may have
+        if copy.code == 1 {
+            continue;
+        }
+        let path = room.put(copy.name, &copy.bytes);
+        let ran = run(Command::new(&program).arg(path));
+        let said = format!("refused {} at {}\n", copy.code, copy.place);
+        assert_eq!((ran.status, ran.out), (1, said), "{}", copy.name);
+    }
 }
 
 /// All calls of the header are tried, and each refuses too few entries.

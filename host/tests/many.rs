@@ -11,8 +11,8 @@ use std::os::unix::fs::symlink;
 use std::path::{Path, PathBuf};
 use std::process::Command;
 
-/// What is known of a deposit: its tuples, or its refusal.
-type Expected = Result<usize, (u8, usize)>;
+/// What is known of a deposit: its tuples, or its refusal with what is said behind.
+type Expected = Result<usize, (u8, usize, &'static str)>;
 
 /// A deposit that many copies are made of.
 struct Master {
@@ -33,7 +33,7 @@ fn masters() -> Vec<Master> {
     let damaged = damaged
         .filter(|copy| copy.bytes.len() < hac::TUPLE_LIMIT)
         .map(|copy| Master {
-            expected: Err((copy.code, copy.place)),
+            expected: Err((copy.code, copy.place, copy.sample)),
             bytes: copy.bytes,
         });
     sound.chain(damaged).collect()
@@ -65,9 +65,9 @@ fn line(path: &Path, expected: &Expected) -> String {
     let path = path.display();
     match expected {
         Ok(tuples) => format!("{path}: accepted, {tuples} tuples"),
-        Err((code, place)) => {
+        Err((code, place, sample)) => {
             let code = Code::of(*code).expect("a code");
-            format!("{path}: refused, {code}, at {place}")
+            format!("{path}: refused, {code}, at {place}{sample}")
         }
     }
 }
@@ -75,7 +75,7 @@ fn line(path: &Path, expected: &Expected) -> String {
 /// How many deposits are refused by each code.
 fn by_code(deposits: &BTreeMap<PathBuf, Expected>) -> BTreeMap<u8, usize> {
     let mut codes = BTreeMap::new();
-    for (code, _) in deposits.values().filter_map(|expected| expected.err()) {
+    for (code, ..) in deposits.values().filter_map(|expected| expected.err()) {
         *codes.entry(code).or_default() += 1;
     }
     codes
@@ -122,7 +122,7 @@ fn a_thousand_objects() {
         assert_eq!(object.text("file"), path.to_str().expect("a plain name"));
         match expected {
             Ok(tuples) => assert_eq!(object.number("tuples"), *tuples as i128),
-            Err((code, place)) => {
+            Err((code, place, _)) => {
                 assert_eq!(object.number("code"), (*code).into());
                 assert_eq!(object.number("place"), *place as i128);
             }

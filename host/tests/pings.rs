@@ -113,8 +113,8 @@ fn words() {
     assert_eq!(value("tuple-e7-most.txt"), Ok(vec![2_147_418_111]));
     assert_eq!(value("tuple-e7-least.txt"), Ok(vec![-2_147_418_112]));
     let refusal = Refusal {
-        code: Code::BrokenSamples,
-        place: FIRST_PLACE,
+        code: Code::BadWord,
+        place: FIRST_PLACE + 28,
     };
     assert_eq!(value("tuple-e7-above.txt"), Err(refusal));
     assert_eq!(value("tuple-e7-below.txt"), Err(refusal));
@@ -123,7 +123,7 @@ fn words() {
     assert_eq!((first(1), first(65_536)), (1, 65_536));
 }
 
-/// Every refusal of the ping writers, in 01's order, each with its place.
+/// Every refusal of the ping writers, in their order, each with its place.
 #[test]
 fn refused_writers() {
     type Writer = fn(&PingHeader, i32, &[u32], &[i32], Order, &mut [u8]) -> Result<usize, Refusal>;
@@ -135,9 +135,12 @@ fn refused_writers() {
     };
     let many: Vec<u32> = (0..=VALUE_LIMIT as u32).collect();
     for write in [write_u32 as Writer, write_c32] {
-        refuses(write, &[5, 4, 3], &[-1, -1], Code::BrokenSamples, 2);
+        refuses(write, &[5, 4, 3], &[-1, -1], Code::NotRising, 2);
+        refuses(write, &[], &[-1], Code::NotRising, 0);
         refuses(write, &many, &vec![0; many.len()], Code::Overfull, 0);
-        refuses(write, &[5, 6, 6], &[1, 1, 1], Code::BrokenSamples, 2);
+        refuses(write, &[5, 6, 6], &[1, 1, 1], Code::NotRising, 2);
+        refuses(write, &[5, 5, 4], &[-1, 1, 1], Code::NotRising, 1);
+        refuses(write, &[0, 9, 10, 2], &[1; 4], Code::NotRising, 3);
         refuses(write, &[5], &[1], Code::NoRoom, 0);
     }
     refuses(write_u32, &[], &[], Code::NoSamples, 0);

@@ -240,7 +240,15 @@ fn two_identifiers() {
         let read = Signature::read(&printed, FIRST_PLACE);
         assert_eq!(read, Signature::read(&known, FIRST_PLACE));
         assert_eq!(normal_form(&printed).expect("a normal form"), normal);
-        for number in [0, 44200, 44202, 44203, 44205, 0xACA9_u16.swap_bytes(), u16::MAX] {
+        for number in [
+            0,
+            44200,
+            44202,
+            44203,
+            44205,
+            0xACA9_u16.swap_bytes(),
+            u16::MAX,
+        ] {
             let refused = Refusal {
                 code: Code::UnknownIdentifier,
                 place: FIRST_PLACE,

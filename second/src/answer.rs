@@ -35,5 +35,31 @@ impl Answer {
     }
 }
 
+/// What a tuple is refused for: a code, and how far behind the tuple's first
+/// byte the place lies.
+#[derive(Clone, Copy, PartialEq, Eq, Debug)]
+pub(crate) struct Fault {
+    code: u32,
+    offset: usize,
+}
+
+impl Fault {
+    pub fn new(code: u32, offset: usize) -> Fault {
+        Fault { code, offset }
+    }
+
+    /// The refusal, where the tuple lies in a file at this place.
+    pub fn at(self, tuple: u64) -> Answer {
+        Answer::refused(self.code, tuple + self.offset as u64)
+    }
+}
+
+/// All but 23, 24 and 25 have the tuple's own place.
+impl From<u32> for Fault {
+    fn from(code: u32) -> Fault {
+        Fault::new(code, 0)
+    }
+}
+
 /// What a reader gives: the acceptance with what was read, or the refusal.
 pub type Reply<T> = Result<(Answer, T), Answer>;

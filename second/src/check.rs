@@ -1,6 +1,6 @@
 //! The whole check, in one pass.
 
-use crate::answer::Answer;
+use crate::answer::{Answer, Fault};
 use crate::layout::{self, class, Class};
 use crate::links::{DocumentId, Links, SoftwareChannel};
 use crate::order::{four_at, two_at, Order};
@@ -66,9 +66,9 @@ fn judge_links(links: &mut Links, tuple: &Tuple, bytes: &[u8], order: Order) -> 
     }
 }
 
-/// Length of a tuple's normal form, 0 for the index class: 11 and 10 of a
-/// ping are judged on the way.
-pub(crate) fn normal_length(bytes: &[u8], code: u16, order: Order) -> Result<u64, u32> {
+/// Length of a tuple's normal form, 0 for the index class: 11 and 23 to 25 of
+/// a ping are judged on the way.
+pub(crate) fn normal_length(bytes: &[u8], code: u16, order: Order) -> Result<u64, Fault> {
     match code {
         layout::PING_U32 | layout::PING_C32 => Ok(match judge_ping(bytes, code, order)? {
             0 => SILENT_LENGTH,
@@ -102,7 +102,7 @@ pub(crate) fn survey(file: &[u8]) -> Result<Survey, Answer> {
         }
         let tuple = survey
             .take_tuple(file, place, &mut seen)
-            .map_err(|code| Answer::refused(code, place as u64))?;
+            .map_err(|fault| fault.at(place as u64))?;
         place += tuple.length as usize;
         if tuple.code == layout::END_OF_FILE {
             break;
@@ -121,14 +121,14 @@ pub(crate) fn survey(file: &[u8]) -> Result<Survey, Answer> {
 }
 
 impl Survey {
-    /// One tuple: 3, 5, 3, 6, 7, 9, 8, 12, 14, 13, 11, 10.
-    fn take_tuple(&mut self, file: &[u8], place: usize, seen: &mut Seen) -> Result<Tuple, u32> {
+    /// One tuple: 3, 5, 3, 6, 7, 9, 8, 12, 14, 13, 11, then 24 and 25, or 23.
+    fn take_tuple(&mut self, file: &[u8], place: usize, seen: &mut Seen) -> Result<Tuple, Fault> {
         let order = self.order;
         let tuple = frame(file, order, place)?;
         let bytes = &file[place..place + tuple.length as usize];
         let first = self.tuples == 0;
         if first != (tuple.code == layout::SIGNATURE) {
-            return Err(7);
+            return Err(7.into());
         }
         judge_fields(bytes, tuple.code, order)?;
         judge_links(&mut self.links, &tuple, bytes, order)?;

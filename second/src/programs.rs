@@ -90,8 +90,9 @@ pub fn program_two(input: &[u8]) -> Vec<u8> {
     program(input, normalise_tuple)
 }
 
-/// The normal form of a mark and one tuple: 1, 2 at 0; 3, 5, 3, 6, 9, 8, 11,
-/// 10 at 4; 15, 18, 19. Links, classes and signature rules aren't judged.
+/// The normal form of a mark and one tuple: 1, 2 at 0; 3, 5, 3, 6, 9, 8, 11 at
+/// 4; 24 and 25, or 23, at their bytes; 15, 18, 19. Links, classes and signature
+/// rules aren't judged.
 pub fn normalise_tuple(file: &[u8], out: &mut [u8]) -> Answer {
     match try_tuple(file, out) {
         Ok(answer) | Err(answer) => answer,
@@ -105,7 +106,8 @@ fn try_tuple(file: &[u8], out: &mut [u8]) -> Result<Answer, Answer> {
     let tuple = frame(file, order, 4).map_err(at_tuple)?;
     let bytes = tuple.bytes(file);
     judge_fields(bytes, tuple.code, order).map_err(at_tuple)?;
-    let length = 4 + normal_length(bytes, tuple.code, order).map_err(at_tuple)? as usize;
+    let length = normal_length(bytes, tuple.code, order).map_err(|fault| fault.at(4))?;
+    let length = 4 + length as usize;
     if tuple.end() < file.len() as u64 {
         return Err(Answer::refused(15, tuple.end()));
     }

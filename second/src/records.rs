@@ -467,11 +467,11 @@ pub struct Ping {
 }
 
 impl Ping {
-    /// Reads the ping, of either kind, at a place of a file; gives 11 and 10
-    /// as the sample reader does.
+    /// Reads the ping, of either kind, at a place of a file; gives 11 and 23 to
+    /// 25 as the sample reader does.
     pub fn read(file: &[u8], place: u64) -> Reply<Ping> {
         let (tuple, code, order) = listed_tuple(file, place, &[PING_U32, PING_C32])?;
-        let values = judge_ping(tuple, code, order).map_err(|code| Answer::refused(code, place))?;
+        let values = judge_ping(tuple, code, order).map_err(|fault| fault.at(place))?;
         let ping = Ping {
             header: PingHeader::take(tuple, order),
             tuple_attribute: four_at(order, tuple, tuple.len() - 8) as i32,

@@ -1,9 +1,9 @@
 //! Chapter "Samples": words, runs and values; judging, reading and writing
 //! the samples of a 32-bit ping.
 
-use crate::answer::Answer;
+use crate::answer::{Answer, Fault};
 use crate::layout::{PING_C32, PING_U32, TUPLE_LIMIT, VALUE_LIMIT};
-use crate::order::{four_at, put_four, unword, word, Order};
+use crate::order::{put_four, unword, word, Order};
 use crate::records::{listed_tuple, write_frame, PingHeader};
 
 /// Least and greatest value that a C-32 word may hold.
@@ -64,7 +64,7 @@ fn is_run(word: u32) -> bool {
 ///
 /// A run has its upper half all ones; a bad value has 7FFF or 8000 there. So
 /// only upper halves are compared, and words in MSB order needn't be turned.
-fn judge_words<const MSB: bool>(words: &[u8]) -> (u64, bool) {
+fn count_words<const MSB: bool>(words: &[u8]) -> (u64, bool) {
     let (low, high) = if MSB {
         (0xFF7F, 0x0080)
     } else {
@@ -81,6 +81,12 @@ fn judge_words<const MSB: bool>(words: &[u8]) -> (u64, bool) {
     (u64::from(no_runs), bad != 0)
 }
 
+/// The first word outside the limits.
+fn first_bad<const MSB: bool>(words: &[u8]) -> Option<usize> {
+    let mut words = words.chunks_exact(4).map(word::<MSB>);
+    words.position(|word| read_word(word) == Word::Bad)
+}
+
 /// Whether the numbers of the pairs strictly rise.
 fn rises<const MSB: bool>(pairs: &[u8]) -> bool {
     let Some(later) = pairs.get(8..) else {
@@ -93,34 +99,54 @@ fn rises<const MSB: bool>(pairs: &[u8]) -> bool {
     !bad
 }
 
-/// Judges a framed ping whose length suits its type: 11, then 10. Gives the
-/// number of values.
+/// The first number not above the one before it.
+fn first_not_rising(numbers: impl Iterator<Item = u32> + Clone) -> Option<usize> {
+    let later = numbers.clone().skip(1);
+    let before = numbers.zip(later).position(|(a, b)| b <= a)?;
+    Some(before + 1)
+}
+
+/// Judges a framed ping whose length suits its type: 23 of U-32; 11, 24, 25 of
+/// C-32. Gives the number of values.
 ///
+/// 11 has the tuple's place, 23 and 24 that of the first offending number or
+/// word, 25 that of the count. An offender is looked for only where there is
+/// known to be one, so that a sound ping takes no longer.
+pub(crate) fn judge_ping(tuple: &[u8], code: u16, order: Order) -> Result<u64, Fault> {
+    match (code, order) {
+        (PING_U32, Order::Lsb) => judge_pairs::<false>(tuple),
+        (PING_U32, Order::Msb) => judge_pairs::<true>(tuple),
+        (_, Order::Lsb) => judge_words::<false>(tuple),
+        (_, Order::Msb) => judge_words::<true>(tuple),
+    }
+}
+
 /// A U-32 ping can't hold over 32,764 pairs in 262,144 bytes, so its 11 never
 /// comes.
-pub(crate) fn judge_ping(tuple: &[u8], code: u16, order: Order) -> Result<u64, u32> {
-    if code == PING_U32 {
-        let pairs = pairs_of(tuple);
-        let sound = match order {
-            Order::Lsb => rises::<false>(pairs),
-            Order::Msb => rises::<true>(pairs),
-        };
-        return if sound {
-            Ok(pairs.len() as u64 / 8)
-        } else {
-            Err(10)
-        };
+fn judge_pairs<const MSB: bool>(tuple: &[u8]) -> Result<u64, Fault> {
+    let pairs = pairs_of(tuple);
+    if !rises::<MSB>(pairs) {
+        let numbers = pairs.chunks_exact(8).map(word::<MSB>);
+        if let Some(nth) = first_not_rising(numbers) {
+            return Err(Fault::new(23, PAIRS_AT + 8 * nth));
+        }
     }
+    Ok(pairs.len() as u64 / 8)
+}
+
+fn judge_words<const MSB: bool>(tuple: &[u8]) -> Result<u64, Fault> {
     let words = words_of(tuple);
-    let (values, bad) = match order {
-        Order::Lsb => judge_words::<false>(words),
-        Order::Msb => judge_words::<true>(words),
-    };
+    let (values, bad) = count_words::<MSB>(words);
     if values > VALUE_LIMIT {
-        return Err(11);
+        return Err(11.into());
     }
-    if bad || u64::from(four_at(order, tuple, COUNT_AT)) != values {
-        return Err(10);
+    if bad {
+        if let Some(nth) = first_bad::<MSB>(words) {
+            return Err(Fault::new(24, WORDS_AT + 4 * nth));
+        }
+    }
+    if u64::from(word::<MSB>(&tuple[COUNT_AT..])) != values {
+        return Err(Fault::new(25, COUNT_AT));
     }
     Ok(values)
 }
@@ -144,7 +170,7 @@ pub fn read_samples(file: &[u8], place: u64, numbers: &mut [u32], values: &mut [
     };
     let count = match judge_ping(tuple, code, order) {
         Ok(count) => count,
-        Err(code) => return Answer::refused(code, place),
+        Err(fault) => return fault.at(place),
     };
     let n = count as usize;
     if numbers.len() < n || values.len() < n {
@@ -209,19 +235,12 @@ pub(crate) fn words_to_pairs<const MSB: bool>(words: &[u8], pairs: &mut [u8]) {
     }
 }
 
-/// The place of the first number not above the one before it.
-fn first_not_rising(numbers: &[u32]) -> Option<usize> {
-    let later = numbers.iter().skip(1);
-    let offender = numbers.iter().zip(later).position(|(a, b)| b <= a)?;
-    Some(offender + 1)
-}
-
 /// What both ping writers refuse first: unequal lists, then 11 (count), 22
-/// where it applies, and 10.
+/// where it applies, and 23.
 fn judge_lists(numbers: &[u32], values: &[i32], silent_allowed: bool) -> Result<(), Answer> {
     if numbers.len() != values.len() {
         let smaller = numbers.len().min(values.len());
-        return Err(Answer::refused(10, smaller as u64));
+        return Err(Answer::refused(23, smaller as u64));
     }
     if numbers.len() as u64 > VALUE_LIMIT {
         return Err(Answer::refused(11, 0));
@@ -229,13 +248,13 @@ fn judge_lists(numbers: &[u32], values: &[i32], silent_allowed: bool) -> Result<
     if numbers.is_empty() && !silent_allowed {
         return Err(Answer::refused(22, 0));
     }
-    match first_not_rising(numbers) {
-        Some(place) => Err(Answer::refused(10, place as u64)),
+    match first_not_rising(numbers.iter().copied()) {
+        Some(place) => Err(Answer::refused(23, place as u64)),
         None => Ok(()),
     }
 }
 
-/// Writes a U-32 ping. Refuses by 10 (unequal lists), 11 (count), 22, 10, 19.
+/// Writes a U-32 ping. Refuses by 23 (unequal lists), 11 (count), 22, 23, 19.
 pub fn write_u32(
     header: &PingHeader,
     attribute: i32,
@@ -285,8 +304,8 @@ pub fn fewest_words(numbers: &[u32]) -> u64 {
     words
 }
 
-/// Writes a C-32 ping in the fewest words. Refuses by 10 (unequal lists), 11
-/// (count), 10, 21, 11 (length), 19.
+/// Writes a C-32 ping in the fewest words. Refuses by 23 (unequal lists), 11
+/// (count), 23, 21, 11 (length), 19.
 pub fn write_c32(
     header: &PingHeader,
     attribute: i32,
@@ -360,8 +379,8 @@ mod tests {
                 let no_run = !matches!(said, Word::Run(_));
                 assert_eq!(is_run(word), !no_run, "{word:08X}");
                 let expected = (u64::from(no_run), said == Word::Bad);
-                assert_eq!(judge_words::<false>(&word.to_le_bytes()), expected);
-                assert_eq!(judge_words::<true>(&word.to_be_bytes()), expected);
+                assert_eq!(count_words::<false>(&word.to_le_bytes()), expected);
+                assert_eq!(count_words::<true>(&word.to_be_bytes()), expected);
             }
         }
     }

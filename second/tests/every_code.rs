@@ -1,21 +1,41 @@
-//! Every code from 1 to 22 is really given by something.
+//! Every code from 1 to 25 is really given by something, but for 10, which
+//! request c of 02 took away.
 
 mod common;
 
-use common::{lent, seed};
+use common::{lent, seed, tuples_found};
 use second::gen::{big_limit, file_case};
-use second::records::PingHeader;
-use second::samples::{write_c32, write_u32};
-use second::{check, normalise, Order, SoftwareChannel};
+use second::programs::normalise_tuple;
+use second::records::{Ping, PingHeader};
+use second::samples::{read_samples, write_c32, write_u32};
+use second::{check, normalise, parents, Order, SoftwareChannel};
 use std::collections::BTreeSet;
+
+/// The codes that calls give for a file, at the places of its tuples too.
+fn codes(file: &[u8]) -> Vec<u32> {
+    let mut codes = vec![
+        check(file).code,
+        normalise(file, &mut lent(60)).code,
+        normalise_tuple(file, &mut lent(60)).code,
+    ];
+    for tuple in tuples_found(file) {
+        let alone = [&file[..4], tuple.bytes(file)].concat();
+        codes.extend([
+            normalise_tuple(&alone, &mut lent(60)).code,
+            read_samples(file, tuple.place, &mut [0; 9], &mut [0; 9]).code,
+            Ping::read(file, tuple.place).map_or_else(|refusal| refusal.code, |_| 0),
+        ]);
+    }
+    codes.push(parents(file, 4).map_or_else(|refusal| refusal.code, |_| 0));
+    codes
+}
 
 #[test]
 fn every_code_is_seen() {
     let mut seen = BTreeSet::new();
     for index in 0..800 {
         for case in file_case(seed(), index) {
-            seen.insert(check(&case.bytes).code);
-            seen.insert(normalise(&case.bytes, &mut lent(60)).code);
+            seen.extend(codes(&case.bytes));
         }
     }
     let header = PingHeader {
@@ -28,7 +48,15 @@ fn every_code_is_seen() {
     };
     seen.insert(check(&big_limit(2).bytes).code);
     seen.insert(normalise(&big_limit(5).bytes, &mut []).code);
-    seen.insert(write_c32(&header, 0, &[0], &[-1], Order::Lsb, &mut []).code);
-    seen.insert(write_u32(&header, 0, &[], &[], Order::Lsb, &mut []).code);
-    assert_eq!(seen, (0..=22).collect());
+    for (numbers, values) in [
+        (&[0][..], &[-1][..]),
+        (&[], &[]),
+        (&[3, 3], &[0, 0]),
+        (&[3], &[]),
+    ] {
+        for write in [write_u32, write_c32] {
+            seen.insert(write(&header, 0, numbers, values, Order::Lsb, &mut []).code);
+        }
+    }
+    assert_eq!(seen, (0..=25).filter(|code| *code != 10).collect());
 }

@@ -144,11 +144,13 @@ fn e7() {
         );
         two(&one_word(word), &printed);
     }
+    // by request c of 02 at the word, 28 bytes behind the tuple's start
     for word in ["0000ff7f", "ffff0080"] {
-        two(&one_word(word), "refused 10 4\n");
+        two(&one_word(word), "refused 24 32\n");
         let file = bytes(&one_word(word));
         let answer = read_samples(&file, 4, &mut [0; 9], &mut [0; 9]);
-        assert_eq!(answer, Answer::refused(10, 4));
+        assert_eq!(answer, Answer::refused(24, 32));
+        assert_eq!(Ping::read(&file, 4), Err(Answer::refused(24, 32)));
     }
 }
 

@@ -182,18 +182,27 @@ fn check_answers() {
         // 12 before 13: channel 1 again, of an unknown sounder
         ("12 before 13", six(&[&channel(1, 9), END]), 12, 284),
         ("13, channel of an unknown sounder", six(&[&channel(2, 9), END]), 13, 284),
-        // 13 before 11 and 10
+        // 13 before 11, 23, 24 and 25
         ("13 before 11", six(&[&words(9, 32_765, &many("01000000")), END]), 13, 284),
-        ("13 before 10, pairs", six(&[&pairs(9, "05000000 00000000 05000000 00000000"), END]), 13, 284),
-        ("13 before 10, word", six(&[&words(9, 1, "0000ff7f"), END]), 13, 284),
-        ("13 before 10, count", six(&[&words(9, 7, "01000000"), END]), 13, 284),
-        // 11 before 10: a bad word counts, and the count is wrong too
-        ("11 before 10, word", six(&[&words(1, 32_765, &many("0000ff7f")), END]), 11, 284),
-        ("11 before 10, count", six(&[&words(1, 0, &many("01000000")), END]), 11, 284),
-        ("10, bad word among 32,764", six(&[&words(1, 32_764, &many("0000ff7f")[..8 * 32_764]), END]), 10, 284),
-        ("10, run instead of the 32,765th", six(&[&words(1, 32_765, &many("0000ffff")), END]), 10, 284),
+        ("13 before 23", six(&[&pairs(9, "05000000 00000000 05000000 00000000"), END]), 13, 284),
+        ("13 before 24", six(&[&words(9, 1, "0000ff7f"), END]), 13, 284),
+        ("13 before 25", six(&[&words(9, 7, "01000000"), END]), 13, 284),
+        // 11 before 24 and 25: a bad word counts, and the count is wrong too
+        ("11 before 24", six(&[&words(1, 32_765, &many("0000ff7f")), END]), 11, 284),
+        ("11 before 25", six(&[&words(1, 0, &many("01000000")), END]), 11, 284),
+        ("11 before 24 and 25", six(&[&words(1, 0, &many("0000ff7f")), END]), 11, 284),
+        // 24 has the word's place, from 284 + 28 on, and 25 the count's, 284 + 24
+        ("24, bad word among 32,764", six(&[&words(1, 32_764, &many("0000ff7f")[..8 * 32_764]), END]), 24, 312),
+        ("24 before 25", six(&[&words(1, 0, "01000000 0000ffff ffff0080"), END]), 24, 320),
+        ("24, the first of two", six(&[&words(1, 4, "01000000 0000ff7f 01000000 00000080"), END]), 24, 316),
+        ("25, run instead of the 32,765th", six(&[&words(1, 32_765, &many("0000ffff")), END]), 25, 308),
+        // 23 has the number's place: pairs stand from 284 + 24 on
+        ("23", six(&[&pairs(1, "05000000 00000000 05000000 00000000"), END]), 23, 316),
+        ("23, the first of two", six(&[&pairs(1, "05000000 00000000 06000000 00000000 06000000 00000000 01000000 00000000"), END]), 23, 324),
         // the tuples are judged in file order
-        ("10 of an earlier tuple before 5", six(&[&pairs(1, "05000000 00000000 05000000 00000000"), "01000000 feff 0000 00000000 0000 0000"]), 10, 284),
+        ("23 of an earlier tuple before 5", six(&[&pairs(1, "05000000 00000000 05000000 00000000"), "01000000 feff 0000 00000000 0000 0000"]), 23, 316),
+        ("25 of an earlier tuple before 24", six(&[&words(1, 7, "01000000"), &words(1, 1, "0000ff7f"), END]), 25, 308),
+        ("24 of an earlier tuple before 23", six(&[&words(1, 1, "0000ff7f"), &pairs(1, "05000000 00000000 05000000 00000000"), END]), 24, 312),
         ("13 of an earlier tuple before 7", six(&[&ping(2), SIGNATURE]), 13, 284),
         ("13, declared later", six(&[&ping(2), &channel(2, 1), END]), 13, 284),
         ("8 before all behind it", file(&[strange_signature, POSITION, SIGNATURE]), 8, 4),

@@ -120,9 +120,23 @@ fn second_program_alone() {
     // a sounder's count and a ping's channel aren't judged
     let ping = "1e000000102700000000000009000000000000000000000000000000050000000000000028000000";
     assert_eq!(two(&format!("{mark}{ping}")), format!("{mark}{ping}\n"));
-    // 11 and 10 come before 15
-    let fallen = "26000000102700000000000009000000000000000000000001000000050000000100000005000000000000003000000000";
-    assert_eq!(two(&format!("{mark}{fallen}")), "refused 10 4\n");
+    // 11, 23, 24 and 25 come before 15: the second number, the word, the count
+    for (tuple, printed) in [
+        (
+            "26000000102700000000000009000000000000000000000001000000050000000100000005000000000000003000000000",
+            "refused 23 36\n",
+        ),
+        (
+            "1e0000001a27000000000000090000000000000000000000070000000000ff7f000000002800000000",
+            "refused 24 32\n",
+        ),
+        (
+            "1e0000001a270000000000000900000000000000000000000700000001000000000000002800000000",
+            "refused 25 28\n",
+        ),
+    ] {
+        assert_eq!(two(&format!("{mark}{tuple}")), printed);
+    }
 }
 
 /// A dense C-32 ping: 8,187 values are the most whose U-32 form, with the

@@ -562,7 +562,7 @@ fn refuses(writer: PingWriter, numbers: &[u32], values: &[i32], code: u32, place
     }
 }
 
-/// 10 (unequal lists), 11 (count), 22, 10, 21, 11 (length), 19: each before
+/// 23 (unequal lists), 11 (count), 22, 23, 21, 11 (length), 19: each before
 /// the next.
 #[test]
 fn ping_writers_in_order() {
@@ -572,11 +572,11 @@ fn ping_writers_in_order() {
 
     // unequal, before everything
     for writer in [u, c] {
-        refuses(writer, &[], &[1], 10, 0);
-        refuses(writer, &[0], &[], 10, 0);
-        refuses(writer, &[5, 5, 5], &[-1, -1], 10, 2);
-        refuses(writer, &fallen, &minus[..32_765], 10, 32_765);
-        refuses(writer, &fallen[..40], &minus, 10, 40);
+        refuses(writer, &[], &[1], 23, 0);
+        refuses(writer, &[0], &[], 23, 0);
+        refuses(writer, &[5, 5, 5], &[-1, -1], 23, 2);
+        refuses(writer, &fallen, &minus[..32_765], 23, 32_765);
+        refuses(writer, &fallen[..40], &minus, 23, 40);
     }
     // count, before fallen numbers and values without a word
     for writer in [u, c] {
@@ -588,10 +588,15 @@ fn ping_writers_in_order() {
     refuses(u, &[], &[], 22, 0);
     // a number not above the one before it, before values without a word
     for writer in [u, c] {
-        refuses(writer, &[4, 4], &[-1, 0], 10, 1);
-        refuses(writer, &[1, 2, 3, 2, 1], &[0, 0, 0, 0, -1], 10, 3);
-        refuses(writer, &[u32::MAX, 0], &[0, 0], 10, 1);
-        refuses(writer, &fallen[..32_764], &minus[..32_764], 10, 1);
+        refuses(writer, &[4, 4], &[-1, 0], 23, 1);
+        refuses(writer, &[1, 2, 3, 2, 1], &[0, 0, 0, 0, -1], 23, 3);
+        refuses(writer, &[u32::MAX, 0], &[0, 0], 23, 1);
+        refuses(writer, &fallen[..32_764], &minus[..32_764], 23, 1);
+        for nth in [1, 20_000, 32_763] {
+            let mut numbers = rising[..32_764].to_vec();
+            numbers[nth] = numbers[nth - 1];
+            refuses(writer, &numbers, &minus[..32_764], 23, nth as u64);
+        }
     }
     // no word, before a length
     for value in [

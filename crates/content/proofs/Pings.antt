@@ -23,7 +23,7 @@ use Rattle.frame.proofs.Frames.{allowed-of, allowed-most}
 use Rattle.samples.specs.Words.{Sample, allWords, unwords, pairUp, unpair, Below}
 use Rattle.samples.specs.Words
 use Rattle.samples.specs.Runs.{radix, decode, decodeFrom, fewest, isRun, runLength, values, firstBad, isBad}
-use Rattle.samples.specs.Judging.{most, firstDrop, pairRules, wordRules}
+use Rattle.samples.specs.Judging.{most, firstDrop, pairsAt, countAt, wordsAt, pairRules, wordRules}
 use Rattle.samples.proofs.Words.{Within, length-unwords, all-unwords, bytes-unwords, words-below, pair-unpair, length-unpair, within-below, pairs-within, pairs-few}
 use Rattle.samples.proofs.Runs.{decode-fit}
 use Rattle.samples.proofs.Values.{length-decode, decode-within}
@@ -32,6 +32,16 @@ use Rattle.content.specs.Pings.{Ping, headU, headC, wordsIn, attributeIn
 use Rattle.content.specs.Items.{ping, itemOf}
 use Rattle.content.specs.Forms.{tupleU, tupleC, pingForm, formOf}
 use Rattle.content.proofs.Fine.{Sound, Kept, head-fine, inner-fine}
+
+-- ---- where the rules on samples say that these stand: behind data size and type, and behind the header
+pub pairs-there : 6 + headU ≡ pairsAt
+pairs-there = refl
+
+pub count-there : 6 + headU ≡ countAt
+count-there = refl
+
+pub words-there : 6 + headC ≡ wordsAt
+words-there = refl
 
 -- ---- the parts of data h, m, a: a header, words, an attribute
 middle-of : (o : Bool) (h m a : List ℕ) (n : ℕ) → length h ≡ n → length a ≡ 4 → wordsIn n o (h ++ (m ++ a)) ≡ allWords 4 o m

@@ -57,7 +57,7 @@ headRules o t =
     ∷ (not (identifiedBy (shapeOf (t .kind)) o t) ⇒ 8 byte 0)
     ∷ []
 
--- 11: ping over 32,764 values; 10: samples break a rule
+-- those of its samples: 23 of pairs; 11, 24, 25 of words
 abbrev pub innerBy : Shape → Bool → Tup → List (Rule Breach)
 innerBy indexed o t = []
 innerBy (row fs x) o t = []

@@ -25,7 +25,7 @@ use Rattle.content.specs.Pings.{Ping}
 use Rattle.content.specs.Items.{Item, plain, ping, raw, itemBy, itemOf, digest}
 use Rattle.content.proofs.Places.{Shaped, shaped}
 use Rattle.intake.specs.declared.Asked.{Asked}
-use Rattle.intake.specs.Check.{Course, begin, stop, go, past, onward, after, turn, checkFile, ending}
+use Rattle.intake.specs.Check.{Course, begin, past, onward, after, turn, checkFile, ending}
 use Rattle.intake.specs.Asking.{courseTo, askItem, askCourse, askAccepted}
 use Rattle.intake.proofs.Turns.{parts-judged, to-end, to-next}
 use Rattle.intake.proofs.Accepted.{AllSound, digests, whole-turn, divided}

@@ -1,7 +1,7 @@
--- Demand 1, of the check, the normaliser, one tuple's normal form and asking: `demand1`. Assumes nothing.
+-- Demand 1, of the check, the normaliser, one tuple's normal form, asking and, for samples, readers: `demand1`. Assumes nothing.
 use mathlib.Core.Path.{_≡_, refl, sym, ap, subst, subst₂, _∙_}
-use mathlib.Core.Logic.{_⊎_, ⊎-elim, _↔_}
-use mathlib.Core.Bool.{Bool, true, false, true≢false}
+use mathlib.Core.Logic.{_↔_}
+use mathlib.Core.Bool.{true, false, true≢false}
 use mathlib.Core.List.{List, [], _∷_, _++_}
 use Prim.Native.Nat.{ℕ, _≤_}
 use native.Mathlib.Omega.{arith}
@@ -9,49 +9,35 @@ use borrow.Author.Tests.{not-false}
 use lib.ListN.{length, drop}
 use Rattle.order.specs.Order.{Bytes}
 use Rattle.rules.specs.Rules.{Rule, _⇒_, firstOf, saying, AllPass}
-use Rattle.rules.proofs.Laws.{Silent, clear, all-pass}
+use Rattle.rules.proofs.Laws.{Silent}
 use Rattle.layout.specs.declared.Counts.{Counts}
 use Rattle.layout.specs.declared.Answer.{Answer}
 use Rattle.layout.specs.declared.Answer.the-variants.{Accepted, Refused}
-use Rattle.layout.specs.declared.Verdict.the-variants.{Fine}
-use Rattle.layout.specs.Answers.{judged, Breach, refusedAt, accepting, isAccepted}
+use Rattle.layout.specs.Answers.{Breach, refusedAt, accepting, isAccepted, numbers}
 use Rattle.layout.proofs.Verdicts.{passed}
 use Rattle.frame.specs.Frames.{lenAt, kindAt, tupAt, frameRules, framing}
 use Rattle.frame.specs.Files.{limit, isMsb, fileRules}
-use Rattle.frame.specs.Tuples.{tuplesOf}
 use Rattle.frame.proofs.Files.{marked-4}
 use Rattle.content.specs.Items.{headRules, innerRules}
 use Rattle.intake.specs.declared.Asked.{Asked}
-use Rattle.intake.specs.Check.{checkFile, Checked}
-use Rattle.intake.specs.Asking.{askAccepted, askChecked, askAt, AskedFor}
+use Rattle.intake.specs.Check.{checkFile}
+use Rattle.intake.specs.Asking.{askAccepted, askChecked, askAt}
 use Rattle.intake.specs.inner.Tallies.{ownVerdict}
 use Rattle.forms.specs.inner.Sound.{SoundHere}
 use Rattle.forms.proofs.Placed.{at-most-twice, most}
-use Rattle.normal.specs.Normaliser.{normalRules, normalCounts, behindCheck, normalAnswer, Normalised}
-use Rattle.normal.specs.Single.{singleForm, behindRules, singleRules, singleAnswer, NormalisedTuple}
+use Rattle.normal.specs.Normaliser.{normalRules, normalCounts, behindCheck, normalAnswer}
+use Rattle.normal.specs.Single.{singleForm, behindRules, singleRules, singleAnswer}
 use Rattle.normal.proofs.Singles.{single-length}
-use Rattle.demands.specs.Causes.{Broken, here, later, Cause, Keeps}
-use Rattle.demands.specs.Families.{Among}
+use Rattle.demands.specs.Causes.{Broken, here}
 use Rattle.demands.specs.Refusals.{NormalCause, by-form, NormalKeeps, PingAt, AskCause, by-place, Demand1}
 use Rattle.demands.specs.Refusals as refusals
-use Rattle.demands.proofs.Causes.{kept-or-broken, because, why, keeps-accepted, accepted-keeps}
+use Rattle.demands.proofs.Broken.{broken-silent, kept-append, kept-saying, refused-by, accepted-by}
+use Rattle.demands.proofs.Causes.{because, why, keeps-accepted, accepted-keeps}
 use Rattle.demands.proofs.Named.{answered}
 use Rattle.demands.proofs.Missed.{missed}
-
--- ---- a list of rules that accepts behind them all
-broken-first : {A : Type 0} {rs : List (Rule A)} {x : A} (d : A) → Broken rs x → firstOf rs d ≡ x
-broken-first d (here e) = rw e
-broken-first d (later e r) = rw e (broken-first d r)
-
-module _ (rs : List (Rule Answer)) (d : Answer) (t : isAccepted d ≡ true) (s : Silent isAccepted rs) where
-  refused-by : {c p : ℕ} → (firstOf rs d ≡ Refused c p) ↔ Broken rs (Refused c p)
-  refused-by = (
-    λ e. ⊎-elim (λ k. absurd (true≢false (sym t ∙ ap isAccepted (sym (all-pass rs d k) ∙ e)))) (λ b. subst (Broken rs) (sym (broken-first d (b .1)) ∙ e) (b .1)) (kept-or-broken rs),
-    λ b. broken-first d b,
-  )
-
-  accepted-by : {n : Counts} → (firstOf rs d ≡ Accepted n) ↔ (AllPass rs × (d ≡ Accepted n))
-  accepted-by {n} = (λ e. clear isAccepted rs d (Accepted n) s e refl, λ k. all-pass rs d (k .0) ∙ k .1)
+use Rattle.demands.specs.Offenders.{ofSamples, Sampled}
+use Rattle.demands.proofs.Offenders.{offends, offended, no-ten}
+use Rattle.demands.proofs.Sampled.{cause-sampled, sampled-cause, alone-sampled, sampled-alone, read-sampled, sampled-read}
 
 -- what holds of what is to be said holds of what is said
 said : {A : Type 0} {r s x : A} {P : Type 0} → r ≡ s → (s ≡ x) ↔ P → (r ≡ x) ↔ P
@@ -66,20 +52,11 @@ silent-append : (xs ys : List (Rule Answer)) → Silent isAccepted xs → Silent
 silent-append [] ys a b = b
 silent-append ((t ⇒ x) ∷ xs) ys a b = (a .0, silent-append xs ys (a .1) b)
 
--- ---- rules that are all kept
-kept-append : {A : Type 0} (xs ys : List (Rule A)) → AllPass (xs ++ ys) → AllPass xs × AllPass ys
-kept-append [] ys h = (tt, h)
-kept-append ((t ⇒ x) ∷ xs) ys h = let r = kept-append xs ys (h .1) in ((h .0, r .0), r .1)
-
-kept-saying : {A B : Type 0} (g : A → B) (rs : List (Rule A)) → AllPass (saying g rs) → AllPass rs
-kept-saying g [] h = tt
-kept-saying g ((t ⇒ x) ∷ rs) h = (h .0, kept-saying g rs (h .1))
-
 -- ---- the normaliser
 module _ (f : List ℕ) (room : ℕ) where
   -- none of its rules accepts
   refused-form : (n : Counts) {c p : ℕ} → (firstOf (normalRules f room) (Accepted (normalCounts f n)) ≡ Refused c p) ↔ Broken (normalRules f room) (Refused c p)
-  refused-form n = refused-by (normalRules f room) (Accepted (normalCounts f n)) refl (refl, (refl, (refl, tt)))
+  refused-form n = refused-by (normalRules f room) (Accepted (normalCounts f n)) refl
 
   accepted-form : (n : Counts) {m : Counts}
       → (firstOf (normalRules f room) (Accepted (normalCounts f n)) ≡ Accepted m) ↔ (AllPass (normalRules f room) × (Accepted (normalCounts f n) ≡ Accepted m))
@@ -163,6 +140,15 @@ module _ (f : List ℕ) (b : Bytes f) (p : ℕ) where
           subst₂ (AskCause f p) (cc) (cc) (by-place (accepted-keeps f n h) nowhere)
       by (Refused d i) h z = refusals.AskCause.by-check (why f c q (h ∙ (cc)))
 
+-- ---- the codes of samples come from the check's rules alone
+normal-sampled : (f : List ℕ) (room : ℕ) {c p : ℕ} → NormalCause f room c p → ofSamples c ≡ true → Sampled f c p
+normal-sampled f room (refusals.NormalCause.by-check k) h = cause-sampled f k h
+normal-sampled f room (by-form k b) h = absurd (true≢false (sym h ∙ broken-silent (λ (a : Answer). ofSamples (numbers a .code)) (refl, (refl, (refl, tt))) b))
+
+ask-sampled : (f : List ℕ) (p : ℕ) {c q : ℕ} → AskCause f p c q → ofSamples c ≡ true → Sampled f c q
+ask-sampled f p (refusals.AskCause.by-check k) h = cause-sampled f k h
+ask-sampled f p (by-place k nowhere) h = absurd (true≢false (sym h))
+
 pub demand1 : Demand1
 unfolding singleAnswer
 demand1 =
@@ -171,8 +157,15 @@ demand1 =
       check-takes = λ {f} {r} k {n}. said (k .is) (accepted-keeps f n, keeps-accepted f);
       normal = λ {f} {out} k. said (k .answer .is) (normal-refused f (length out));
       normal-takes = λ {f} {out} k. said (k .answer .is) (normal-accepted f (length out));
-      tuple = λ {f} {out} k. said (k .answer .is) (refused-by (singleRules f (length out)) (accepting 1 (length (singleForm f))) refl (silent f (length out)));
+      tuple = λ {f} {out} k. said (k .answer .is) (refused-by (singleRules f (length out)) (accepting 1 (length (singleForm f))) refl);
       tuple-takes = λ {f} {out} k. said (k .answer .is) (accepted-by (singleRules f (length out)) (accepting 1 (length (singleForm f))) refl (silent f (length out)));
       tuple-small = small;
       asking = λ {f} {p} b k. said (k .is) (ask-refused f b p);
+      samples = λ o t {c} {q}. (offends o t, offended o t);
+      no-ten = λ {o} {t} {q} h. no-ten h refl;
+      check-samples = λ {f} {r} k {c} {p} h. said (k .is) (λ e. cause-sampled f (why f c p e) h, λ s. because f (sampled-cause f s));
+      normal-samples = λ {f} {out} k h. said (k .answer .is) (λ e. normal-sampled f (length out) (normal-refused f (length out) .0 e) h, λ s. normal-refused f (length out) .1 (refusals.NormalCause.by-check (sampled-cause f s)));
+      ask-samples = λ {f} p b k h. said (k .is) (λ e. ask-sampled f p (ask-refused f b p .0 e) h, λ s. ask-refused f b p .1 (refusals.AskCause.by-check (sampled-cause f s)));
+      tuple-samples = λ {f} {out} k h. said (k .answer .is) (λ e. alone-sampled f (length out) (refused-by (singleRules f (length out)) (accepting 1 (length (singleForm f))) refl .0 e) h, λ s. refused-by (singleRules f (length out)) (accepting 1 (length (singleForm f))) refl .1 (sampled-alone f (length out) s));
+      read-samples = λ asked f at h. (λ e. read-sampled asked f at e h, sampled-read asked f at);
     }

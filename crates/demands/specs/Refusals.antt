@@ -2,6 +2,7 @@
 -- broken, and acceptance exactly where none is. Assumes nothing.
 use mathlib.Core.Path.{_≡_}
 use mathlib.Core.Logic.{_↔_}
+use mathlib.Core.Bool.{Bool, true}
 use mathlib.Core.List.{List}
 use Prim.Native.Nat.{ℕ, _≤_}
 use lib.ListN.{length}
@@ -10,16 +11,20 @@ use Rattle.rules.specs.Rules.{AllPass}
 use Rattle.layout.specs.declared.Counts.{Counts}
 use Rattle.layout.specs.declared.Answer.{Answer}
 use Rattle.layout.specs.declared.Answer.the-variants.{Accepted, Refused}
-use Rattle.layout.specs.Answers.{accepting}
+use Rattle.layout.specs.Answers.{_byte_, accepting}
+use Rattle.frame.specs.Frames.{Tup}
 use Rattle.frame.specs.Files.{limit, isMsb}
 use Rattle.frame.specs.Tuples.{tuplesOf}
+use Rattle.content.specs.Items.{innerRules}
 use Rattle.intake.specs.declared.Asked.{Asked}
 use Rattle.intake.specs.Check.{Checked}
 use Rattle.intake.specs.Asking.{AskedFor}
+use Rattle.tuples.specs.Readers.{readAnswer}
 use Rattle.normal.specs.Normaliser.{normalRules, normalCounts, Normalised}
 use Rattle.normal.specs.Single.{singleForm, singleRules, NormalisedTuple}
 use Rattle.demands.specs.Causes.{Broken, Cause, Keeps}
 use Rattle.demands.specs.Families.{Among, Listed, placeAfter}
+use Rattle.demands.specs.Offenders.{Offends, ofSamples, Sampled, SampledAlone, SampledThere}
 
 -- ---- the normaliser, in either byte order: the check's rules; then, of a file that keeps these, 18, 20 and 19
 pub data NormalCause (f : List ℕ) (room : ℕ) : ℕ → ℕ → Type 0 where
@@ -55,3 +60,14 @@ pub record Demand1 : Type 0 where
   pub tuple-small : (f : List ℕ) (room : ℕ) → AllPass (singleRules f room) → length (singleForm f) ≤ limit
   -- asking
   pub asking : {f : List ℕ} {p : ℕ} {r : Asked} → Bytes f → AskedFor f p r → {c q : ℕ} → (r ≡ Asked.Refused c q) ↔ AskCause f p c q
+  -- ---- of samples: each code exactly where its rule is the first one broken, at the first offender. The rules of a tuple's samples,
+  pub samples : (o : Bool) (t : Tup) {c q : ℕ} → Broken (innerRules o t) (c byte q) ↔ Offends o t c q
+  -- which gives no 10;
+  pub no-ten : {o : Bool} {t : Tup} {q : ℕ} → Offends o t 10 q → ⊥
+  -- the check, the normaliser and asking,
+  pub check-samples : {f : List ℕ} {r : Answer} → Checked f r → {c p : ℕ} → ofSamples c ≡ true → (r ≡ Refused c p) ↔ Sampled f c p
+  pub normal-samples : {f out left : List ℕ} {r : Answer} → Normalised f out r left → {c p : ℕ} → ofSamples c ≡ true → (r ≡ Refused c p) ↔ Sampled f c p
+  pub ask-samples : {f : List ℕ} (p : ℕ) {r : Asked} → Bytes f → AskedFor f p r → {c q : ℕ} → ofSamples c ≡ true → (r ≡ Asked.Refused c q) ↔ Sampled f c q
+  -- one tuple's normal form, and a reader of any types
+  pub tuple-samples : {f out left : List ℕ} {r : Answer} → NormalisedTuple f out r left → {c p : ℕ} → ofSamples c ≡ true → (r ≡ Refused c p) ↔ SampledAlone f c p
+  pub read-samples : (asked : ℕ → Bool) (f : List ℕ) (at : ℕ) {c p : ℕ} → ofSamples c ≡ true → (readAnswer asked f at ≡ Refused c p) ↔ SampledThere asked f at c p

@@ -48,11 +48,11 @@ pub fn form_length(file: &[u8], at: usize, msb: bool, whole: usize, code: u16) -
     if code != types::PING_C {
         return whole;
     }
-    let count = order::read4(file, at + intake::COUNT, msb) as usize;
+    let count = order::read4(file, at + samples::COUNT, msb) as usize;
     if count == 0 {
         return SILENT;
     }
-    intake::PAIRS + PAIR * count + intake::TAIL
+    samples::PAIRS + PAIR * count + intake::TAIL
 }
 
 // Writes the data size and the type of a form.
@@ -182,10 +182,10 @@ fn write_u(file: &[u8], at: usize, msb: bool, whole: usize, out: &mut [u8], to: 
     let line = Kind::PingU.line();
     open_form(file, at, msb, line, out, to, whole, types::PING_U);
     samples::turn::turn_words(
-        &file[at + intake::PAIRS..at + tail],
+        &file[at + samples::PAIRS..at + tail],
         msb,
         out,
-        to + intake::PAIRS,
+        to + samples::PAIRS,
     );
     close_form(file, at + tail, msb, out, to + tail, whole);
 }
@@ -209,7 +209,7 @@ fn write_silent(file: &[u8], at: usize, msb: bool, whole: usize, out: &mut [u8],
     let tail = whole - intake::TAIL;
     let line = Kind::PingU.line();
     open_form(file, at, msb, line, out, to, SILENT, types::PING_C);
-    write_silence(out, to + intake::COUNT);
+    write_silence(out, to + samples::COUNT);
     close_form(
         file,
         at + tail,
@@ -241,10 +241,10 @@ fn write_sampled(
     let line = Kind::PingU.line();
     open_form(file, at, msb, line, out, to, bytes, types::PING_U);
     samples::turn::spread_words(
-        &file[at + intake::WORDS..at + tail],
+        &file[at + samples::WORDS..at + tail],
         msb,
         out,
-        to + intake::PAIRS,
+        to + samples::PAIRS,
         end,
     );
     close_form(file, at + tail, msb, out, end, bytes);
@@ -257,12 +257,12 @@ fn write_c(file: &[u8], at: usize, msb: bool, whole: usize, out: &mut [u8], to: 
     ensures { λ r. ⌜ r ≡ length (formBytes msb (tupAt msb (drop at (now (file .entry))))) ⌝ }
     ensures { λ _. ⌜ now (out .exit) ≡ sets (now (out .entry)) to (formBytes msb (tupAt msb (drop at (now (file .entry))))) ⌝ }
 {
-    let count = order::read4(file, at + intake::COUNT, msb) as usize;
+    let count = order::read4(file, at + samples::COUNT, msb) as usize;
     if count == 0 {
         write_silent(file, at, msb, whole, out, to);
         return SILENT;
     }
-    let bytes = intake::PAIRS + PAIR * count + intake::TAIL;
+    let bytes = samples::PAIRS + PAIR * count + intake::TAIL;
     write_sampled(file, at, msb, whole, bytes, out, to);
     bytes
 }

@@ -15,8 +15,9 @@ pub use layout::DocumentId;
 pub use layout::SoftwareChannel;
 pub use layout::Transceiver;
 
-// check(file): 1, 2; tuple by tuple 4, 3, 5, 3, 6, 7, 9, 8, 12, 14, 13, 11, 10; behind the end of file 15, 16, 17. Accepts with the
-// file's tuples and length 0. Promise: `Checked`, crates/intake/specs/Check.antt.
+// check(file): 1, 2; tuple by tuple 4, 3, 5, 3, 6, 7, 9, 8, 12, 14, 13, 11, then 23, or 24 and 25, each of these three at the byte of
+// its first offender; behind the end of file 15, 16, 17. Accepts with the file's tuples and length 0. Promise: `Checked`,
+// crates/intake/specs/Check.antt.
 pub use intake::check;
 
 // The walk: a state that a step takes and hands back. Walk { at }.forward(file) and .backward(file) give a tuple (place, length, type
@@ -31,7 +32,8 @@ pub use intake::Asked;
 pub use intake::ask;
 
 // read_ping(file, place): header, attribute, kind and number of values of a listed ping. Refuses as a forward step does, 3 at the end;
-// then 9 for another type; 9, 11, 10. Promise: `PingAt`, crates/pings/specs/Fields.antt.
+// then 9 for another type; 9, 11; 23 at the byte of the first number that doesn't rise, or 24 at that of the first word outside the
+// limits, 25 at the number of samples. Promise: `PingAt`, crates/pings/specs/Fields.antt.
 pub use pings::PingHeader;
 pub use pings::PingKind;
 pub use pings::PingRead;
@@ -41,8 +43,8 @@ pub use pings::read_ping;
 // Refuses as read_ping does, then by 19 at 0 where either slice is short. Promise: `SamplesRead`, crates/pings/specs/Readers.antt.
 pub use pings::read_samples;
 
-// write_u32 and write_c32(header, attribute, numbers, values, msb, out): a ping as pairs, or in the fewest words. Refuse by 10 at the
-// smaller of unequal counts; 11 (count); 22 (U-32 without samples); 10 at the first number not above the one before it; 21 at the
+// write_u32 and write_c32(header, attribute, numbers, values, msb, out): a ping as pairs, or in the fewest words. Refuse by 23 at the
+// smaller of unequal counts; 11 (count); 22 (U-32 without samples); 23 at the first number not above the one before it; 21 at the
 // first value that has no word (C-32); 11 (length); 19. Promises: `WrittenU`, `WrittenC`, crates/pings/specs/Headers.antt.
 pub use pings::write_c32;
 pub use pings::write_u32;
@@ -82,6 +84,6 @@ pub use tuples::Part;
 // Promise: `Normalised`, crates/normal/specs/Normaliser.antt; demand 3: crates/normal/specs/Demand.antt.
 pub use normal::normalise;
 
-// normalise_tuple(file, out): the normal form of a mark and one tuple, whatever would stand around it: 1, 2; 3, 5, 3, 6, 9, 8, 11, 10
-// at 4; 15 for bytes behind it; 18; 19. Promise: `NormalisedTuple`, crates/normal/specs/Single.antt.
+// normalise_tuple(file, out): the normal form of a mark and one tuple, whatever would stand around it: 1, 2; 3, 5, 3, 6, 9, 8, 11
+// at 4; 23, or 24 and 25, at their bytes; 15 for bytes behind it; 18; 19. Promise: `NormalisedTuple`, crates/normal/specs/Single.antt.
 pub use normal::normalise_tuple;

@@ -93,7 +93,7 @@ module _ {o : Bool} {f : List ℕ} {at n k : ℕ} (h : Here o f at n k) where
       let signs = by-code o t .signs ∙ ap (λ (j : ℕ). eqb j 65535) (h .kind) in
       ap (λ (a : Bool). both (judged ((cond (eqb k 65535) (not a) a ⇒ 7 byte 0) ∷ [])) (judged (headRules o t))) signs ∙ signed (eqb k 65535) (judged (headRules o t))
 
-  -- 9 and 8, then 11 and 10
+  -- 9 and 8, then those of its samples
   pub own-parts : both (headVerdict o (eqb k 65535) (tupIn o f at)) (innerVerdict o (tupIn o f at)) ≡ ownVerdict o (tupIn o f at)
   unfolding innerVerdict ownVerdict
   own-parts = ap (λ (v : Verdict). both v (judged (innerRules o t))) own-head ∙ sym (judged-append (headRules o t) (innerRules o t))

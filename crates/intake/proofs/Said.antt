@@ -2,14 +2,15 @@
 -- room for what it declares. Assumes nothing.
 use mathlib.Core.Path.{_≡_}
 use mathlib.Core.List.{List, [], _∷_, _++_}
-use mathlib.Core.Bool.{Bool, true, false, not}
-use Prim.Native.Nat.{ℕ, _≤_, _<_}
-use borrow.Author.Tests.{eqb-true, leb-false}
+use mathlib.Core.Bool.{Bool, true, false, not, _&&_}
+use Prim.Native.Nat.{ℕ, _+_, _-_, _*_, _%_, _≤_, _<_}
+use native.Mathlib.Omega.{arith}
+use borrow.Author.Tests.{eqb-true, leb-true, leb-false, not-false}
 use lib.Dec.{eqb, leb, lit≤}
-use lib.ListN.{length}
+use lib.ListN.{length, take, drop, length-take, length-drop}
 use Rattle.rules.specs.Rules.{Rule, _⇒_}
 use Rattle.rules.proofs.Laws.{by-rules}
-use Rattle.layout.specs.declared.Verdict.{Verdict}
+use Rattle.rules.proofs.Bools.{both-true}
 use Rattle.layout.specs.declared.Verdict.the-variants.{Fine, Fault}
 use Rattle.layout.specs.declared.DocumentId.{DocumentId}
 use Rattle.layout.specs.declared.SoftwareChannel.{SoftwareChannel}
@@ -19,11 +20,18 @@ use Rattle.layout.specs.Answers.{both, judged, Breach, _byte_}
 use Rattle.layout.specs.Types.{Shape, indexed, row, pairs, words, unlisted, kindRules, kindOf, shapeOf}
 use Rattle.layout.proofs.Verdicts.{both-left, both-right, passes, Near, AllNear, near-rules, near-append, near-both, near-fault}
 use Rattle.turning.specs.Rows.{Value, valuesOf}
-use Rattle.frame.specs.Frames.{Tup, tupAt, frameRules, framing}
+use Rattle.frame.specs.Frames.{Tup, allowed, sizeAt, lenAt, tupAt, frameRules, framing}
+use Rattle.samples.specs.Words.{pairUp}
+use Rattle.samples.specs.Runs.{radix}
+use Rattle.samples.proofs.Rising.{drop-most}
+use Rattle.samples.proofs.Turning.{length-all}
+use Rattle.samples.proofs.Words.{pairs-few}
+use Rattle.samples.proofs.Values.{bad-most}
 use Rattle.links.specs.Links
 use Rattle.links.specs.Links.{Link, mostSounders, mostChannels, signRules}
 use Rattle.links.specs.inner.Tables.{member, sounderVerdict, channelVerdict, nameVerdict}
 use Rattle.content.specs.Items.{rowIn, itemBy, itemOf, unless, linkBy, numberAt, digestOf, digestItem, digest, headRules, innerBy, innerRules}
+use Rattle.content.specs.Pings.{headU, headC, wordsIn, contentU}
 use Rattle.intake.specs.inner.Tallies
 use Rattle.intake.specs.inner.Tallies.{headVerdict, linkVerdict, innerVerdict, ownVerdict, turnVerdict}
 use Rattle.intake.proofs.Turns.{emptied}
@@ -56,15 +64,31 @@ module _ (o : Bool) (r : List ℕ) where
   head-near : AllNear far (headRules o front)
   head-near = (here-near, (here-near, tt))
 
-  -- of a tuple that is framed, and so has its most bytes at most
+  -- a tuple that is framed has its most bytes at most, and its data hold no more words
+  short : framing o r ≡ Fine → length (front .body) ≤ 262134
+  unfolding framing allowed
+  short e =
+      let a = not-false _ (passes (frameRules o r) e .1 .0) in
+      let most = leb-true (lenAt o r) 262144 (both-true (eqb (lenAt o r % 4) 0 && leb 16 (lenAt o r)) (leb (lenAt o r) 262144) a .1) in
+      omega (arith, most, length-take (sizeAt o r) (drop 6 r))
+
+  many : (h : ℕ) → 4 * length (wordsIn h o (front .body)) ≤ length (front .body)
+  unfolding wordsIn
+  many h =
+      let d = front .body in
+      omega (arith, length-all 4 o (take (length d - (h + 4)) (drop h d)), length-take (length d - (h + 4)) (drop h d), length-drop h d)
+
   inner-near : framing o r ≡ Fine → AllNear far (innerRules o front)
+  unfolding contentU
   inner-near e = by-shape (shapeOf (front .kind))
     where
       by-shape : (q : Shape) → AllNear far (innerBy q o front)
       by-shape indexed = tt
       by-shape (row fs x) = tt
-      by-shape pairs = (here-near, tt)
-      by-shape words = (here-near, (here-near, (here-near, tt)))
+      by-shape pairs =
+          let ws = wordsIn headU o (front .body) in
+          (omega (arith, drop-most (pairUp ws) 0, pairs-few ws, many headU, short e), tt)
+      by-shape words = (here-near, (omega (arith, bad-most radix (wordsIn headC o (front .body)), many headC, short e), (lit≤ tt, tt)))
       by-shape unlisted = tt
 
   pub own-near : framing o r ≡ Fine → Near far (ownVerdict o front)

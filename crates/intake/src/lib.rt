@@ -32,13 +32,7 @@ const DOCUMENT: usize = 8;
 
 const NAMED_CHANNEL: usize = 12;
 
-// Where a U-32 ping's pairs begin; where a C-32 ping's number of samples and its words stand; the bytes behind both.
-pub const PAIRS: usize = 24;
-
-pub const COUNT: usize = 24;
-
-pub const WORDS: usize = 28;
-
+// The bytes behind a ping's samples.
 pub const TAIL: usize = 8;
 
 // In an attitude this means all channels.
@@ -152,7 +146,7 @@ fn judge_links(
     }
 }
 
-// 11 and 10, of the tuple at a place.
+// 11; 23, or 24 and 25: of the tuple at a place.
 fn judge_inner(file: &[u8], at: usize, msb: bool, whole: usize, code: u16) -> Verdict
     requires { ⌜ Here msb (now file) at whole code ⌝ }
     requires { ⌜ Fits whole code ⌝ }
@@ -160,16 +154,16 @@ fn judge_inner(file: &[u8], at: usize, msb: bool, whole: usize, code: u16) -> Ve
 {
     let until = at + whole - TAIL;
     match code {
-        types::PING_U => samples::judge_pairs(&file[at + PAIRS..until], msb),
+        types::PING_U => samples::judge_pairs(&file[at + samples::PAIRS..until], msb),
         types::PING_C => {
-            let count = order::read4(file, at + COUNT, msb);
-            samples::judge_words(&file[at + WORDS..until], msb, count)
+            let count = order::read4(file, at + samples::COUNT, msb);
+            samples::judge_words(&file[at + samples::WORDS..until], msb, count)
         }
         _ => Verdict::Fine,
     }
 }
 
-// What the rules say of the tuple at a place: 4; 3, 5, 3, 6; 7; 9, 8; 12, 14, 13; 11, 10.
+// What the rules say of the tuple at a place: 4; 3, 5, 3, 6; 7; 9, 8; 12, 14, 13; 11; 23, or 24 and 25.
 fn judge(
     file: &[u8],
     msb: bool,
@@ -209,7 +203,7 @@ fn judge(
     }
 }
 
-// A tuple's own rules, whatever stands before it: 9 and 8, then 11 and 10. A signature that stands first breaks no 7.
+// A tuple's own rules, whatever stands before it: 9 and 8, then those of its samples. A signature that stands first breaks no 7.
 pub fn judge_own(file: &[u8], at: usize, msb: bool, whole: usize, code: u16) -> Verdict
     requires { ⌜ Here msb (now file) at whole code ⌝ }
     ensures { λ r. ⌜ r ≡ ownVerdict msb (tupAt msb (drop at (now (file .entry)))) ⌝ }

@@ -121,6 +121,13 @@ pub fn fault(code: u8) -> Verdict
     Verdict::Fault { code, offset: 0 }
 }
 
+// A fault at a byte counted from a tuple's first.
+pub fn fault_at(code: u8, offset: usize) -> Verdict
+    ensures { λ r. ⌜ r ≡ Verdict.Fault code offset ⌝ }
+{
+    Verdict::Fault { code, offset }
+}
+
 // An acceptance.
 pub fn accept(tuples: usize, written: usize) -> Answer
     ensures { λ r. ⌜ r ≡ accepting tuples written ⌝ }

@@ -60,8 +60,8 @@ module _ (ns : List ℕ) (vs : List ℤ) (rest : List (Rule Answer)) (bytes out 
   said : {x : Answer} → First (rules ++ ((ltb (length out) (length bytes) ⇒ Refused 19 0) ∷ [])) (accepting 1 (length bytes)) x → x ≡ writeAnswer rules bytes (length out)
   said w = first-eq w
 
-  pub unequal : (length ns ≡ length vs → ⊥) → W (Refused 10 (min (length ns) (length vs))) out
-  unequal e = unwritten rules bytes out 10 (min (length ns) (length vs)) (said (here (ap not (ne-eqb (length ns) (length vs) e))))
+  pub unequal : (length ns ≡ length vs → ⊥) → W (Refused 23 (min (length ns) (length vs))) out
+  unequal e = unwritten rules bytes out 23 (min (length ns) (length vs)) (said (here (ap not (ne-eqb (length ns) (length vs) e))))
 
   module _ (e : length ns ≡ length vs) where
     same : not (eqb (length ns) (length vs)) ≡ false
@@ -102,7 +102,7 @@ module _ (o : Bool) (h : PingHeader) (a : ℤ) (ns : List ℕ) (vs : List ℤ) (
   abbrev U : Answer → List ℕ → Type 0
   U r left = Written (rulesU ns vs (tupleU o (handedPing h a ns vs))) (bytesU o (handedPing h a ns vs)) out r left
 
-  pub unequal-U : (length ns ≡ length vs → ⊥) → U (Refused 10 (min (length ns) (length vs))) out
+  pub unequal-U : (length ns ≡ length vs → ⊥) → U (Refused 23 (min (length ns) (length vs))) out
   unequal-U = unequal ns vs ownU bytes out
 
   module _ (e : length ns ≡ length vs) where
@@ -117,8 +117,8 @@ module _ (o : Bool) (h : PingHeader) (a : ℤ) (ns : List ℕ) (vs : List ℤ) (
         some : eqb (length ns) 0 ≡ false
         some = ne-eqb (length ns) 0 z
 
-        pub drops : i < length ns → U (Refused 10 i) out
-        drops l = rw (first-there ns vs e i d) (refuse ns vs ownU bytes out e m 10 (firstDrop 0 (paired ns vs)) (pass some (here (drop-there ns vs e i d l))))
+        pub drops : i < length ns → U (Refused 23 i) out
+        drops l = rw (first-there ns vs e i d) (refuse ns vs ownU bytes out e m 23 (firstDrop 0 (paired ns vs)) (pass some (here (drop-there ns vs e i d l))))
 
         module _ (l : length ns ≤ i) where
           -- its bytes: 24 before the pairs, 8 behind them
@@ -223,7 +223,7 @@ module _ (o : Bool) (h : PingHeader) (a : ℤ) (ns : List ℕ) (vs : List ℤ) w
     abbrev C : Answer → List ℕ → Type 0
     C r left = Written (rulesC ns vs (tupleC o (handedPing h a ns vs))) (bytesC o (handedPing h a ns vs)) out r left
 
-    pub unequal-C : (length ns ≡ length vs → ⊥) → C (Refused 10 (min (length ns) (length vs))) out
+    pub unequal-C : (length ns ≡ length vs → ⊥) → C (Refused 23 (min (length ns) (length vs))) out
     unequal-C = unequal ns vs ownC bytes-of out
 
     module _ (e : length ns ≡ length vs) where
@@ -231,8 +231,8 @@ module _ (o : Bool) (h : PingHeader) (a : ℤ) (ns : List ℕ) (vs : List ℤ) w
       overfull-C = overfull ns vs ownC bytes-of out e
 
       module _ (m : length ns ≤ 32764) (i : ℕ) (d : i ≡ firstDrop 0 (numbered ns)) where
-        pub drops-C : i < length ns → C (Refused 10 i) out
-        drops-C l = rw (first-there ns vs e i d) (refuse ns vs ownC bytes-of out e m 10 (firstDrop 0 (paired ns vs)) (here (drop-there ns vs e i d l)))
+        pub drops-C : i < length ns → C (Refused 23 i) out
+        drops-C l = rw (first-there ns vs e i d) (refuse ns vs ownC bytes-of out e m 23 (firstDrop 0 (paired ns vs)) (here (drop-there ns vs e i d l)))
 
         module _ (l : length ns ≤ i) (j : ℕ) (v : j ≡ firstWordless (valued vs)) where
           first-wordless : j ≡ firstWordless (paired ns vs)

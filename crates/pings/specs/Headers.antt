@@ -1,4 +1,4 @@
--- A ping's header and attribute as they are handed to a writer, and the bytes around its samples. Assumes nothing.
+-- A ping's header and attribute as they are handed to a writer. Assumes nothing.
 use Prim.Native.Nat.{ℕ}
 use mathlib.Core.Bool.{Bool}
 use mathlib.Core.List.{List, [], _∷_}

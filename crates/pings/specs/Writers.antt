@@ -18,16 +18,16 @@ use Rattle.content.specs.Forms.{tupleU, tupleC}
 use Rattle.tuples.specs.Writers.{tooLong}
 
 -- ---- numbers and values handed over apart
--- unequal in count: 10 at the smaller; 11 (count)
+-- unequal in count: 23 at the smaller; 11 (count)
 abbrev pub countRules : List ℕ → List ℤ → List (Rule Answer)
 countRules ns vs =
-    (not (eqb (length ns) (length vs)) ⇒ Refused 10 (min (length ns) (length vs)))
+    (not (eqb (length ns) (length vs)) ⇒ Refused 23 (min (length ns) (length vs)))
     ∷ (ltb most (length ns) ⇒ Refused 11 0)
     ∷ []
 
--- 10 at the first number not above the one before it
+-- 23 at the first number not above the one before it
 abbrev pub risingRule : List Sample → Rule Answer
-risingRule s = ltb (firstDrop 0 s) (length s) ⇒ Refused 10 (firstDrop 0 s)
+risingRule s = ltb (firstDrop 0 s) (length s) ⇒ Refused 23 (firstDrop 0 s)
 
 abbrev pub rulesU : List ℕ → List ℤ → Tup → List (Rule Answer)
 rulesU ns vs t = countRules ns vs ++ ((eqb (length ns) 0 ⇒ Refused 22 0) ∷ risingRule (paired ns vs) ∷ tooLong t ∷ [])

@@ -113,11 +113,11 @@ fn hand_over(
 {
     let until = place + whole - tuples::TAIL;
     if code == types::PING_U {
-        return hand_pairs(&file[place + intake::PAIRS..until], msb, numbers, values);
+        return hand_pairs(&file[place + samples::PAIRS..until], msb, numbers, values);
     }
-    let count = order::read4(file, place + intake::COUNT, msb) as usize;
+    let count = order::read4(file, place + samples::COUNT, msb) as usize;
     hand_words(
-        &file[place + intake::WORDS..until],
+        &file[place + samples::WORDS..until],
         msb,
         count,
         numbers,
@@ -168,14 +168,14 @@ fn fields_at(file: &[u8], place: usize, msb: bool, whole: usize, code: u16) -> P
             header,
             attribute,
             kind: PingKind::U32,
-            values: (whole - intake::PAIRS - tuples::TAIL) / PAIR,
+            values: (whole - samples::PAIRS - tuples::TAIL) / PAIR,
         };
     }
     PingRead::Read {
         header,
         attribute,
         kind: PingKind::C32,
-        values: order::read4(file, place + intake::COUNT, msb) as usize,
+        values: order::read4(file, place + samples::COUNT, msb) as usize,
     }
 }
 
@@ -242,7 +242,7 @@ pub fn write_u32(
 {
     let n = numbers.len();
     if n != values.len() {
-        return layout::refuse(codes::BROKEN_SAMPLES, smaller(n, values.len()));
+        return layout::refuse(codes::NOT_RISING, smaller(n, values.len()));
     }
     if samples::MOST < n {
         return layout::refuse(codes::OVERFULL, 0);
@@ -252,14 +252,14 @@ pub fn write_u32(
     }
     let first = samples::write::first_drop(numbers);
     if first < n {
-        return layout::refuse(codes::BROKEN_SAMPLES, first);
+        return layout::refuse(codes::NOT_RISING, first);
     }
-    let whole = intake::PAIRS + PAIR * n + tuples::TAIL;
+    let whole = samples::PAIRS + PAIR * n + tuples::TAIL;
     if out.len() < whole {
         return layout::refuse(codes::NO_ROOM, 0);
     }
     write_opening(out, msb, whole, types::PING_U, header);
-    samples::write::write_pairs(numbers, values, msb, out, intake::PAIRS);
+    samples::write::write_pairs(numbers, values, msb, out, samples::PAIRS);
     tuples::close_frame(out, msb, whole, attribute);
     layout::accept(1, whole)
 }
@@ -278,8 +278,8 @@ fn put_c32(
     ensures { λ _. ⌜ now (out .exit) ≡ sets (now (out .entry)) 0 (bytesC msb (handedPing header attribute (now (numbers .entry)) (now (values .entry)))) ⌝ }
 {
     write_opening(out, msb, whole, types::PING_C, header);
-    order::store4(out, intake::COUNT, msb, numbers.len() as u32);
-    samples::write::write_words(numbers, values, msb, out, intake::WORDS);
+    order::store4(out, samples::COUNT, msb, numbers.len() as u32);
+    samples::write::write_words(numbers, values, msb, out, samples::WORDS);
     tuples::close_frame(out, msb, whole, attribute);
 }
 
@@ -296,20 +296,20 @@ pub fn write_c32(
 {
     let n = numbers.len();
     if n != values.len() {
-        return layout::refuse(codes::BROKEN_SAMPLES, smaller(n, values.len()));
+        return layout::refuse(codes::NOT_RISING, smaller(n, values.len()));
     }
     if samples::MOST < n {
         return layout::refuse(codes::OVERFULL, 0);
     }
     let first = samples::write::first_drop(numbers);
     if first < n {
-        return layout::refuse(codes::BROKEN_SAMPLES, first);
+        return layout::refuse(codes::NOT_RISING, first);
     }
     let wordless = samples::write::first_wordless(values);
     if wordless < n {
         return layout::refuse(codes::NO_WORD, wordless);
     }
-    let whole = intake::WORDS + WORD * samples::write::count_words(numbers) + tuples::TAIL;
+    let whole = samples::WORDS + WORD * samples::write::count_words(numbers) + tuples::TAIL;
     if frame::MOST < whole {
         return layout::refuse(codes::OVERFULL, 0);
     }

@@ -8,9 +8,8 @@ use Rattle.layout.specs.declared.Answer.{Answer}
 use Rattle.layout.specs.Types.{classes, inClass, kindOf, lineOf}
 use Rattle.turning.specs.Rows.{Value}
 use Rattle.tuples.specs.declared.Part.{Part}
-use Rattle.tuples.specs.Readers.{only, readAnswer, readValues, textAt}
-use Rattle.tuples.specs.inner.Opening.{Readable}
-use Rattle.tuples.proofs.Reading.{Opens, opens}
+use Rattle.tuples.specs.Readers.{only, readValues, textAt}
+use Rattle.tuples.proofs.Reading.{opens}
 use Rattle.tuples.proofs.Fields.{in-file, at-least, values-placed, length-part}
 use Rattle.sounder.specs.declared.SounderRead.the-variants as sounder
 use Rattle.sounder.specs.Sounder.{sounderOf, SounderAt}

@@ -71,11 +71,22 @@ module _ (o : Bool) (part : List ℕ) (p w : ℕ) (h : 4 ≤ length part - p) (e
       → ((b || bad) || anyBad radix (wordsFrom 4 o part (p + 4))) ≡ (b || anyBad radix (wordsFrom 4 o part p))
   bad-turn b bad t = rw (t, next, bad-cons, or-assoc)
 
+  -- the first bad word is this one, or the first behind it
+  pub bad-there : isBad radix w ≡ true → firstBad radix (wordsFrom 4 o part p) ≡ 0
+  bad-there t = ap (firstBad radix) next ∙ bad-here radix w _ t
+
+  pub bad-behind : isBad radix w ≡ false → firstBad radix (wordsFrom 4 o part p) ≡ firstBad radix (wordsFrom 4 o part (p + 4)) + 1
+  bad-behind t = ap (firstBad radix) next ∙ bad-later radix w _ t
+
 -- no word is left: what the loop holds is what the rules ask for
 module _ (o : Bool) (part : List ℕ) (p : ℕ) (h : length part - p < 4) where
   pub values-end : (n : ℕ) → n + values radix (wordsFrom 4 o part p) ≡ n
   unfolding values
   values-end n = rw (from-end 4 o part p (lit< tt) (omega arith)) (omega arith)
+
+  pub bad-none : firstBad radix (wordsFrom 4 o part p) ≡ 0
+  unfolding firstBad
+  bad-none = rw (from-end 4 o part p (lit< tt) (omega arith))
 
   pub bad-end : (b : Bool) → (b || anyBad radix (wordsFrom 4 o part p)) ≡ b
   unfolding firstBad
@@ -94,6 +105,13 @@ module _ (o : Bool) (part : List ℕ) (p x : ℕ) (h : 8 ≤ length part - p) (e
   pub drop-turn : (b : Bool) (n : ℕ)
       → ((b || leb x n) || anyDrop (x + 1) (pairUp (wordsFrom 4 o part (p + 8)))) ≡ (b || anyDrop (n + 1) (pairUp (wordsFrom 4 o part p)))
   drop-turn b n = rw (next-pair, drops-cons, or-assoc)
+
+  -- the first number that falls below n, or not above the one before it, is this one, or the first behind it
+  pub fall-there : (n : ℕ) → x < n → firstDrop n (pairUp (wordsFrom 4 o part p)) ≡ 0
+  fall-there n t = ap (firstDrop n) next-pair ∙ drop-here n _ _ (lt-leb n x t)
+
+  pub fall-behind : (n : ℕ) → n ≤ x → firstDrop n (pairUp (wordsFrom 4 o part p)) ≡ firstDrop (x + 1) (pairUp (wordsFrom 4 o part (p + 8))) + 1
+  fall-behind n t = ap (firstDrop n) next-pair ∙ drop-later n _ _ t
 
 -- drops that are counted: one more, or none
 or-always : (b : Bool) → (b || true) ≡ true
@@ -122,11 +140,18 @@ module _ (o : Bool) (part : List ℕ) (p x y : ℕ) (h : 16 ≤ length part - p)
       ∙ count-turn o part (p + 8) y (omega arith) f dx x
       ∙ count-turn o part p x (omega arith) e d n
 
+pub fall-all : (o : Bool) (part : List ℕ) → firstDrop 0 (pairUp (wordsFrom 4 o part 0)) ≡ firstDrop 0 (pairUp (allWords 4 o part))
+fall-all o part = ap (λ (ws : List ℕ). firstDrop 0 (pairUp ws)) (from-all 4 o part)
+
 pub drop-all : (o : Bool) (part : List ℕ) → anyDrop 0 (pairUp (wordsFrom 4 o part 0)) ≡ anyDrop 0 (pairUp (allWords 4 o part))
 drop-all o part = ap (λ (ws : List ℕ). anyDrop 0 (pairUp ws)) (from-all 4 o part)
 
 -- no pair is left
 module _ (o : Bool) (part : List ℕ) (p n : ℕ) (h : length part < p + 8) where
+  pub fall-none : firstDrop n (pairUp (wordsFrom 4 o part p)) ≡ 0
+  unfolding firstDrop
+  fall-none = rw (pairs-end o part p h)
+
   pub drop-none : anyDrop n (pairUp (wordsFrom 4 o part p)) ≡ false
   unfolding firstDrop
   drop-none = rw (pairs-end o part p h)

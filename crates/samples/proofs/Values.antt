@@ -43,3 +43,11 @@ module _ (R : ℕ) (pos : 0 < R) where
       by-bool (isRun R w)
       (λ e. rw (decode-run R pos n w ws e) (decode-within b ws (n + runLength R w) (f .1) (omega (arith, run-short R pos w))))
       (λ e. rw (decode-value R pos n w ws e) (omega arith, f .0, decode-within b ws (n + 1) (f .1) (omega arith)))
+
+-- the first bad word is one of them, or none is bad
+pub bad-most : (R : ℕ) (ws : List ℕ) → firstBad R ws ≤ length ws
+bad-most R [] = unfold firstBad in omega arith
+bad-most R (w ∷ ws) =
+    by-bool (isBad R w)
+    (λ t. omega (arith, bad-here R w ws t))
+    (λ t. omega (arith, bad-later R w ws t, bad-most R ws))

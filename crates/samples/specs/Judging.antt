@@ -1,5 +1,5 @@
 -- The rules on a ping's samples. Assumes nothing.
-use Prim.Native.Nat.{ℕ, _+_}
+use Prim.Native.Nat.{ℕ, _+_, _*_}
 use mathlib.Core.Bool.{Bool, true, false, not, _||_}
 use mathlib.Core.List.{List, [], _∷_}
 use lib.Dec.{eqb, leb, ltb}
@@ -28,16 +28,28 @@ firstWordless (x ∷ s) = elim (isRun radix (x .1) || isBad radix (x .1)) [ true
 abbrev pub dropping : List Sample → Bool
 dropping s = ltb (firstDrop 0 s) (length s)
 
--- U-32: numbers strictly rise
-abbrev pub pairRules : List Sample → List (Rule Breach)
-pairRules s = (dropping s ⇒ 10 byte 0) ∷ []
+-- ---- where samples stand in a ping, counted from its first byte: a U-32 ping's pairs behind the header; there a C-32 ping's
+-- number of samples, and its words behind that
+abbrev pub pairsAt : ℕ
+pairsAt = 24
 
--- C-32: at most 32,764 values; each within its limits; the number of samples equals the number of value words
+abbrev pub countAt : ℕ
+countAt = 24
+
+abbrev pub wordsAt : ℕ
+wordsAt = 28
+
+-- U-32: numbers strictly rise; 23 at the first that is not above the one before it
+abbrev pub pairRules : List Sample → List (Rule Breach)
+pairRules s = (dropping s ⇒ 23 byte (pairsAt + 8 * firstDrop 0 s)) ∷ []
+
+-- C-32: at most 32,764 values, 11 at the tuple; each within its limits, 24 at the first word that is not; the number of samples equals
+-- the number of value words, 25 at that field
 abbrev pub wordRules : ℕ → List ℕ → List (Rule Breach)
 wordRules count ws =
     (ltb most (values radix ws) ⇒ 11 byte 0)
-    ∷ (ltb (firstBad radix ws) (length ws) ⇒ 10 byte 0)
-    ∷ (not (eqb count (values radix ws)) ⇒ 10 byte 0)
+    ∷ (ltb (firstBad radix ws) (length ws) ⇒ 24 byte (wordsAt + 4 * firstBad radix ws))
+    ∷ (not (eqb count (values radix ws)) ⇒ 25 byte countAt)
     ∷ []
 
 -- ---- the verdict on the part of a file that a ping's samples fill

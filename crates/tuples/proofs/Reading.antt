@@ -9,7 +9,6 @@ use lib.Dec.{eqb, leb}
 use lib.ListN.{length, drop}
 use Rattle.rules.specs.Rules.{Rule, _⇒_, firstOf, saying, AllPass}
 use Rattle.rules.proofs.Laws.{Silent, clear}
-use Rattle.layout.specs.declared.Answer.{Answer}
 use Rattle.layout.specs.declared.Answer.the-variants.{Refused}
 use Rattle.layout.proofs.Verdicts.{passed, near-fault}
 use Rattle.layout.specs.declared.Verdict.the-variants.{Fine, Fault}

@@ -22,7 +22,7 @@ use Rattle.content.specs.Items.{Item, plain, ping, raw, itemOf, headRules, inne
 abbrev pub tupleThere : List ℕ → ℕ → Tup
 tupleThere f p = tupAt (isMsb f) (drop p f)
 
--- 9 for a type not asked for, then 9, 8, 11, 10
+-- 9 for a type not asked for, then 9, 8, 11, and 23 or 24, 25
 abbrev pub ownRules : (ℕ → Bool) → Bool → Tup → List (Rule Breach)
 ownRules asked o t = (not (asked (t .kind)) ⇒ 9 byte 0) ∷ headRules o t ++ innerRules o t
 

@@ -8,8 +8,6 @@ use lib.ListN.{length}
 use lib.IntN.{ℤ, pos, negsuc}
 use Rattle.order.specs.Order.{signedOf}
 use Rattle.layout.specs.Text.{ascii}
-use Rattle.layout.specs.declared.Answer.{Answer}
-use Rattle.layout.specs.declared.Answer.the-variants as answer
 use Rattle.layout.specs.Answers.{isAccepted}
 use Rattle.frame.specs.declared.Step.{Step}
 use Rattle.frame.specs.declared.Step.the-variants.{Tuple, End, Refused}
@@ -127,15 +125,19 @@ table =
     ∷ run 0xffffffff 65536
     -- E6
     ∷ value 0xfffeffff (negsuc 65536)
-    -- E7: 7FFEFFFF and 80010000 are taken, 7FFF0000 and 8000FFFF give 10
+    -- E7: 7FFEFFFF and 80010000 are taken, 7FFF0000 and 8000FFFF give 24, at the word
     ∷ tupleProgram
     ("ac000000" ∷ "1e0000001a2700003c0000000100000001000000ffffff7f01000000fffffe7f0000000028000000" ∷ [])
     ("ac000000" ∷ "1e000000102700003c0000000100000001000000ffffff7f00000000fffffe7f0000000028000000" ∷ [])
     ∷ tupleProgram
     ("ac000000" ∷ "1e0000001a2700003c0000000100000001000000ffffff7f01000000000001800000000028000000" ∷ [])
     ("ac000000" ∷ "1e000000102700003c0000000100000001000000ffffff7f00000000000001800000000028000000" ∷ [])
-    ∷ tupleProgram ("ac000000" ∷ "1e0000001a2700003c0000000100000001000000ffffff7f010000000000ff7f0000000028000000" ∷ []) ("refused 10 4" ∷ [])
-    ∷ tupleProgram ("ac000000" ∷ "1e0000001a2700003c0000000100000001000000ffffff7f01000000ffff00800000000028000000" ∷ []) ("refused 10 4" ∷ [])
+    ∷ tupleProgram ("ac000000" ∷ "1e0000001a2700003c0000000100000001000000ffffff7f010000000000ff7f0000000028000000" ∷ []) ("refused 24 32" ∷ [])
+    ∷ tupleProgram ("ac000000" ∷ "1e0000001a2700003c0000000100000001000000ffffff7f01000000ffff00800000000028000000" ∷ []) ("refused 24 32" ∷ [])
+    -- a number that doesn't rise is at its byte, a wrong count at its field; a bad word comes before it
+    ∷ tupleProgram ("ac000000" ∷ "26000000102700003c0000000100000001000000ffffff7f050000000000000005000000000000000000000030000000" ∷ []) ("refused 23 36" ∷ [])
+    ∷ tupleProgram ("ac000000" ∷ "1e0000001a2700003c0000000100000001000000ffffff7f02000000000000000000000028000000" ∷ []) ("refused 25 28" ∷ [])
+    ∷ tupleProgram ("ac000000" ∷ "1e0000001a2700003c0000000100000001000000ffffff7f020000000000ff7f0000000028000000" ∷ []) ("refused 24 32" ∷ [])
     -- E8: with bytes enough left, length 16 is allowed, 14 and 12 give 5
     ∷ framed "ac00000006000000dcff61626364656610000000"
     ∷ unframed "ac00000004000000dcff616263640e0000000000000000" 5

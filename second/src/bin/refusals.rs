@@ -49,7 +49,7 @@ fn write_kind(dir: &Path, kind: Kind) -> io::Result<()> {
     let Some(code) = code_of(kind) else {
         return Ok(());
     };
-    let name = format!("{kind:?}").to_lowercase();
+    let name = kind.name();
     for (order, of) in [
         ("lsb", Some(Order::Lsb)),
         ("msb", Some(Order::Msb)),

@@ -6,6 +6,15 @@ use super::{Case, Rng};
 use crate::layout::{class, Class, LAYOUTS};
 use crate::order::Order;
 
+/// Which sample of a ping is the first that offends: the earliest that can, one
+/// in the middle, or the last.
+#[derive(Clone, Copy, PartialEq, Eq, Debug)]
+pub enum Spot {
+    First,
+    Middle,
+    Last,
+}
+
 /// A kind of damage made by rule.
 #[derive(Clone, Copy, PartialEq, Eq, Debug)]
 pub enum Kind {
@@ -20,9 +29,13 @@ pub enum Kind {
     Identifier,
     UnfitSignature,
     Unfit,
-    Pairs,
-    Word,
+    /// Numbers of a U-32 ping that don't rise.
+    Pairs(Spot),
+    /// Words of a C-32 ping outside the limits.
+    Word(Spot),
+    /// A C-32 ping's number of samples.
     Count,
+    WordAndCount,
     TooMany,
     TwiceSounder,
     TwiceChannel,
@@ -36,7 +49,19 @@ pub enum Kind {
     WrongCount,
 }
 
-pub const FAULT_KINDS: [Kind; 25] = [
+impl Kind {
+    /// In small letters, for a file's name.
+    pub fn name(self) -> String {
+        match self {
+            Kind::Pairs(spot) => format!("pairs-{spot:?}"),
+            Kind::Word(spot) => format!("word-{spot:?}"),
+            other => format!("{other:?}"),
+        }
+        .to_lowercase()
+    }
+}
+
+pub const FAULT_KINDS: [Kind; 30] = [
     Kind::Mark,
     Kind::Truncated,
     Kind::NoEnd,
@@ -48,9 +73,14 @@ pub const FAULT_KINDS: [Kind; 25] = [
     Kind::Identifier,
     Kind::UnfitSignature,
     Kind::Unfit,
-    Kind::Pairs,
-    Kind::Word,
+    Kind::Pairs(Spot::First),
+    Kind::Pairs(Spot::Middle),
+    Kind::Pairs(Spot::Last),
+    Kind::Word(Spot::First),
+    Kind::Word(Spot::Middle),
+    Kind::Word(Spot::Last),
     Kind::Count,
+    Kind::WordAndCount,
     Kind::TooMany,
     Kind::TwiceSounder,
     Kind::TwiceChannel,
@@ -65,15 +95,20 @@ pub const FAULT_KINDS: [Kind; 25] = [
 ];
 
 /// Kinds that one tuple carries, wherever it stands behind the signature.
-const LOCAL: [Kind; 16] = [
+const LOCAL: [Kind; 21] = [
     Kind::PassesEnd,
     Kind::Size,
     Kind::Backlink,
     Kind::SecondSignature,
     Kind::Unfit,
-    Kind::Pairs,
-    Kind::Word,
+    Kind::Pairs(Spot::First),
+    Kind::Pairs(Spot::Middle),
+    Kind::Pairs(Spot::Last),
+    Kind::Word(Spot::First),
+    Kind::Word(Spot::Middle),
+    Kind::Word(Spot::Last),
     Kind::Count,
+    Kind::WordAndCount,
     Kind::TooMany,
     Kind::TwiceSounder,
     Kind::TwiceChannel,
@@ -169,74 +204,125 @@ pub(super) fn third_identifier(rng: &mut Rng) -> u16 {
     }
 }
 
-fn bad_pairs(rng: &mut Rng, channel: u16) -> Draft {
-    let before = rng.below(5) as u32;
-    let mut pairs: Vec<(u32, u32)> = (0..before).map(|n| (n * 3 + 1, rng.four())).collect();
-    let last = pairs.last().map_or(9, |pair| pair.0);
-    if pairs.is_empty() {
-        pairs.push((last, rng.four()));
-    }
-    let fallen = rng.pick(&[last, last - 1, 0]);
-    pairs.push((fallen, rng.four()));
-    for n in 0..rng.below(4) as u32 {
-        pairs.push((n * 2 + 100, rng.four()));
-    }
-    let header = ping_header(rng, channel);
-    Draft::new(rng, 10000, Body::Pairs { header, pairs })
+/// What the check says of a broken tuple: the code, and how far behind the
+/// tuple's first byte the place lies.
+#[derive(Clone, Copy)]
+struct Told {
+    code: u32,
+    within: usize,
 }
 
-fn some_words(rng: &mut Rng) -> Vec<u32> {
-    let count = 1 + rng.below(8);
-    (0..count)
-        .map(|_| {
-            rng.pick(&[
-                0,
-                5,
-                0xFFFF_0000,
-                0xFFFF_FFFF,
-                0xFFFE_FFFF,
-                0x7FFE_FFFF,
-                0x8001_0000,
-            ])
-        })
-        .collect()
+/// Most codes have the tuple's own place.
+fn at_tuple(code: u32) -> Told {
+    Told { code, within: 0 }
 }
+
+/// How many pairs or words a broken ping has, from a least number on: mostly
+/// few, at times hundreds, seldom the most values that a ping can have.
+fn sample_count(rng: &mut Rng, least: usize) -> usize {
+    match rng.below(100) {
+        0 | 1 => 32_764,
+        2..=7 => least + rng.index(600),
+        _ => least + rng.index(8),
+    }
+}
+
+/// How many samples a broken ping has, and which of them offend: first the one of
+/// the spot, where `earliest` is the first that can; half the time the last one
+/// too, and one between.
+fn offenders(rng: &mut Rng, spot: Spot, earliest: usize) -> (usize, Vec<usize>) {
+    // so many that the three spots differ
+    let least = match spot {
+        Spot::First => 1,
+        Spot::Last => 2,
+        Spot::Middle => 3,
+    };
+    let count = sample_count(rng, earliest + least);
+    let last = count - 1;
+    let first = match spot {
+        Spot::First => earliest,
+        Spot::Middle => earliest + 1 + rng.index(last - earliest - 1),
+        Spot::Last => last,
+    };
+    let mut offenders = vec![first];
+    if first < last && rng.chance(50) {
+        offenders.push(first + 1 + rng.index(last - first));
+        offenders.push(last);
+    }
+    (count, offenders)
+}
+
+/// Numbers that rise but for the offenders, each of which is like the one before
+/// it, just below it, or 0. Some starts let them pass 2^31, or rise where their
+/// bytes turned about don't.
+fn fallen_numbers(rng: &mut Rng, count: usize, offenders: &[usize]) -> Vec<u32> {
+    let mut number: u32 = rng.pick(&[0, 1, 250, 65_500, 0x7FFF_FFF0, 0xFF00_0000]);
+    let mut numbers = vec![number];
+    for nth in 1..count {
+        number = if offenders.contains(&nth) {
+            rng.pick(&[number, number.saturating_sub(1), 0])
+        } else {
+            number + 1 + rng.pick(&[0, 0, 1, 254])
+        };
+        numbers.push(number);
+    }
+    numbers
+}
+
+fn bad_pairs(rng: &mut Rng, channel: u16, spot: Spot) -> (Draft, Told) {
+    let (count, offenders) = offenders(rng, spot, 1);
+    let numbers = fallen_numbers(rng, count, &offenders);
+    let pairs = numbers.into_iter().map(|n| (n, rng.four())).collect();
+    let header = ping_header(rng, channel);
+    let draft = Draft::new(rng, 10000, Body::Pairs { header, pairs });
+    let within = 24 + 8 * offenders[0];
+    (draft, Told { code: 23, within })
+}
+
+/// Words within the limits, runs among them. Some would be bad ones or runs
+/// with their bytes turned about.
+fn some_words(rng: &mut Rng, count: usize) -> Vec<u32> {
+    const WORDS: [u32; 11] = [
+        0,
+        5,
+        0xFFFF_0000,
+        0xFFFF_FFFF,
+        0xFFFE_FFFF,
+        0x7FFE_FFFF,
+        0x8001_0000,
+        0x0000_FF7F,
+        0xFFFF_0080,
+        0x0000_0080,
+        0x0000_FFFF,
+    ];
+    (0..count).map(|_| rng.pick(&WORDS)).collect()
+}
+
+/// Words outside the limits.
+const BAD_WORDS: [u32; 5] = [
+    0x7FFF_0000,
+    0x8000_FFFF,
+    0x7FFF_FFFF,
+    0x8000_0000,
+    0x7FFF_8000,
+];
 
 /// Words that are no run, the count that a C-32 ping has to state.
 fn no_runs(words: &[u32]) -> u32 {
     words.iter().filter(|word| **word >> 16 != 0xFFFF).count() as u32
 }
 
-fn bad_word(rng: &mut Rng, channel: u16) -> Draft {
-    let mut words = some_words(rng);
-    let at = rng.index(words.len());
-    words[at] = rng.pick(&[
-        0x7FFF_0000,
-        0x8000_FFFF,
-        0x7FFF_FFFF,
-        0x8000_0000,
-        0x7FFF_8000,
-    ]);
-    let count = no_runs(&words);
-    let header = ping_header(rng, channel);
-    let body = Body::Words {
-        header,
-        count,
-        words,
-    };
-    Draft::new(rng, 10010, body)
-}
-
-fn bad_count(rng: &mut Rng, channel: u16) -> Draft {
-    let words = some_words(rng);
-    let right = no_runs(&words);
-    let wrong = [
+/// A number of samples beside the right one, or equal in its low bytes alone.
+fn wrong_count(rng: &mut Rng, right: u32) -> u32 {
+    rng.pick(&[
         right + 1,
         right.wrapping_sub(1),
         right | 0x8000_0000,
         right << 16 | 0x10000,
-    ];
-    let count = rng.pick(&wrong);
+    ])
+}
+
+fn words_draft(rng: &mut Rng, channel: u16, count: u32, words: Vec<u32>) -> Draft {
     let header = ping_header(rng, channel);
     let body = Body::Words {
         header,
@@ -246,46 +332,90 @@ fn bad_count(rng: &mut Rng, channel: u16) -> Draft {
     Draft::new(rng, 10010, body)
 }
 
-/// Over 32,764 words that are no run, good and bad, rightly counted or not.
+/// A ping with bad words, rightly counted or not: the word is judged before the
+/// count, which stands before it.
+fn bad_word(rng: &mut Rng, channel: u16, spot: Spot, counted: bool) -> (Draft, Told) {
+    let (count, offenders) = offenders(rng, spot, 0);
+    let mut words = some_words(rng, count);
+    for at in &offenders {
+        words[*at] = rng.pick(&BAD_WORDS);
+    }
+    let mut count = no_runs(&words);
+    if !counted {
+        count = wrong_count(rng, count);
+    }
+    let draft = words_draft(rng, channel, count, words);
+    let within = 28 + 4 * offenders[0];
+    (draft, Told { code: 24, within })
+}
+
+fn bad_count(rng: &mut Rng, channel: u16) -> (Draft, Told) {
+    let length = sample_count(rng, 1);
+    let words = some_words(rng, length);
+    let count = wrong_count(rng, no_runs(&words));
+    let draft = words_draft(rng, channel, count, words);
+    let told = Told {
+        code: 25,
+        within: 24,
+    };
+    (draft, told)
+}
+
+fn any_spot(rng: &mut Rng) -> Spot {
+    rng.pick(&[Spot::First, Spot::Middle, Spot::Last])
+}
+
+/// A ping whose samples break a rule, any but that of too many.
+pub(super) fn broken_ping(rng: &mut Rng, channel: u16) -> Draft {
+    let spot = any_spot(rng);
+    let (draft, _) = match rng.below(4) {
+        0 => bad_pairs(rng, channel, spot),
+        1 => bad_word(rng, channel, spot, true),
+        2 => bad_word(rng, channel, spot, false),
+        _ => bad_count(rng, channel),
+    };
+    draft
+}
+
+/// Over 32,764 words that are no run, all good, all bad or with one bad among
+/// them, rightly counted or not.
 fn too_many(rng: &mut Rng, channel: u16) -> Draft {
     let over = 32_765 + rng.below(3) as u32;
     let mut words = vec![rng.pick(&[0, 7, 0x7FFF_0000]); over as usize];
+    if rng.chance(50) {
+        let at = rng.pick(&[0, 16_000, words.len() - 1]);
+        words[at] = rng.pick(&BAD_WORDS);
+    }
     for _ in 0..rng.below(3) {
         words.insert(rng.index(words.len()), 0xFFFF_0003);
     }
     let count = rng.pick(&[over, over - 1, 32_764, 0]);
-    let header = ping_header(rng, channel);
-    let body = Body::Words {
-        header,
-        count,
-        words,
-    };
-    Draft::new(rng, 10010, body)
+    words_draft(rng, channel, count, words)
 }
 
 /// Gives the tuple at `at`, or new ones set in before it, a fault of a local
-/// kind. Tells where the offender now stands and its code; none where the
-/// tuples before don't allow the kind.
-fn spoil(drafts: &mut Vec<Draft>, at: usize, kind: Kind, rng: &mut Rng) -> Option<(usize, u32)> {
+/// kind. Tells where the offender now stands and what the check says of it; none
+/// where the tuples before don't allow the kind.
+fn spoil(drafts: &mut Vec<Draft>, at: usize, kind: Kind, rng: &mut Rng) -> Option<(usize, Told)> {
     let (documents, channels) = declared(&drafts[..at]);
     let channel_known = (!channels.is_empty()).then(|| channels[rng.index(channels.len())]);
-    let mut insert = |draft: Draft, code: u32| {
+    let mut insert = |(draft, told): (Draft, Told)| {
         drafts.insert(at, draft);
-        Some((at, code))
+        Some((at, told))
     };
     match kind {
         Kind::PassesEnd => {
             drafts[at].patch = Some(Patch::Size(262_134));
-            Some((at, 3))
+            Some((at, at_tuple(3)))
         }
         Kind::Size => {
             drafts[at].patch = Some(Patch::Size(bad_size(rng)));
-            Some((at, 5))
+            Some((at, at_tuple(5)))
         }
         Kind::Backlink => {
             let wrong = rng.pick(&[0, 1, 12, u32::MAX, 262_148, 18]);
             drafts[at].patch = Some(Patch::Backlink(wrong));
-            Some((at, 6))
+            Some((at, at_tuple(6)))
         }
         Kind::SecondSignature => {
             let mut second = signature(rng);
@@ -294,34 +424,37 @@ fn spoil(drafts: &mut Vec<Draft>, at: usize, kind: Kind, rng: &mut Rng) -> Optio
                 1 => second.body = Body::Raw(rng.bytes(18)),
                 _ => {}
             }
-            insert(second, 7)
+            insert((second, at_tuple(7)))
         }
-        Kind::Unfit => insert(unfit(rng), 9),
-        Kind::Pairs => insert(bad_pairs(rng, channel_known?), 10),
-        Kind::Word => insert(bad_word(rng, channel_known?), 10),
-        Kind::Count => insert(bad_count(rng, channel_known?), 10),
-        Kind::TooMany => insert(too_many(rng, channel_known?), 11),
+        Kind::Unfit => insert((unfit(rng), at_tuple(9))),
+        Kind::Pairs(spot) => insert(bad_pairs(rng, channel_known?, spot)),
+        Kind::Word(spot) => insert(bad_word(rng, channel_known?, spot, true)),
+        Kind::Count => insert(bad_count(rng, channel_known?)),
+        Kind::WordAndCount => {
+            let spot = any_spot(rng);
+            insert(bad_word(rng, channel_known?, spot, false))
+        }
+        Kind::TooMany => insert((too_many(rng, channel_known?), at_tuple(11))),
         Kind::TwiceSounder if documents.is_empty() => None,
         Kind::TwiceSounder => {
             let id = rng.pick(&documents);
             let count = rng.two();
-            insert(sounder(rng, count, id), 12)
+            insert((sounder(rng, count, id), at_tuple(12)))
         }
         Kind::TwiceChannel => {
             let id = channel_known?;
             let known = rng.pick(&documents);
             let parent = rng.pick(&[known, u32::from(id), 77]);
-            insert(channel(rng, id, parent), 12)
+            insert((channel(rng, id, parent), at_tuple(12)))
         }
         Kind::OrphanPing => {
             let id = unused_channel(rng, &channels);
             let orphan = match rng.below(4) {
-                0 => bad_pairs(rng, id),
-                1 => bad_word(rng, id),
+                0 | 1 => broken_ping(rng, id),
                 2 => ping(rng, id, vec![]),
                 _ => ping(rng, id, vec![(4, 4)]),
             };
-            insert(orphan, 13)
+            insert((orphan, at_tuple(13)))
         }
         Kind::OrphanOther => {
             let mut used = channels.clone();
@@ -336,7 +469,7 @@ fn spoil(drafts: &mut Vec<Draft>, at: usize, kind: Kind, rng: &mut Rng) -> Optio
             } else {
                 attitude(rng, id)
             };
-            insert(orphan, 13)
+            insert((orphan, at_tuple(13)))
         }
         Kind::OrphanChannel if channels.len() >= 64 => None,
         Kind::OrphanChannel => {
@@ -345,7 +478,7 @@ fn spoil(drafts: &mut Vec<Draft>, at: usize, kind: Kind, rng: &mut Rng) -> Optio
             if documents.contains(&parent) {
                 parent = unused_document(rng, &documents);
             }
-            insert(channel(rng, id, parent), 13)
+            insert((channel(rng, id, parent), at_tuple(13)))
         }
         Kind::ManySounders => {
             let mut used = documents.clone();
@@ -356,7 +489,7 @@ fn spoil(drafts: &mut Vec<Draft>, at: usize, kind: Kind, rng: &mut Rng) -> Optio
                 let count = rng.two();
                 drafts.insert(at + nth, sounder(rng, count, id));
             }
-            Some((at + more - 1, 14))
+            Some((at + more - 1, at_tuple(14)))
         }
         Kind::ManyChannels if documents.is_empty() => None,
         Kind::ManyChannels => {
@@ -373,7 +506,7 @@ fn spoil(drafts: &mut Vec<Draft>, at: usize, kind: Kind, rng: &mut Rng) -> Optio
                 };
                 drafts.insert(at + nth, channel(rng, id, parent));
             }
-            Some((at + more - 1, 14))
+            Some((at + more - 1, at_tuple(14)))
         }
         _ => None,
     }
@@ -385,11 +518,12 @@ fn somewhere(drafts: &[Draft], rng: &mut Rng) -> usize {
 }
 
 /// Names the answer, unless "passes the end" has found room after all.
-fn local_case(name: String, rendered: Rendered, offender: (usize, u32), kind: Kind) -> Case {
-    let place = rendered.places[offender.0];
-    let left = rendered.bytes.len() - place;
-    let expected =
-        (kind != Kind::PassesEnd || left < 262_144).then_some((offender.1, place as u64));
+fn local_case(name: String, rendered: Rendered, offender: (usize, Told), kind: Kind) -> Case {
+    let (draft, Told { code, within }) = offender;
+    let tuple = rendered.places[draft];
+    let left = rendered.bytes.len() - tuple;
+    let known = kind != Kind::PassesEnd || left < 262_144;
+    let expected = known.then_some((code, (tuple + within) as u64));
     Case::new(name, rendered.bytes, expected)
 }
 
@@ -461,7 +595,7 @@ fn bad_mark(rng: &mut Rng, mut bytes: Vec<u8>) -> Vec<u8> {
 pub fn fault(rng: &mut Rng, kind: Kind) -> Case {
     let mut drafts = sound_drafts(rng, &Wish::any());
     let style = Style::any(rng);
-    let name = format!("damaged-{kind:?}-{}", style.name()).to_lowercase();
+    let name = format!("damaged-{}-{}", kind.name(), style.name());
     if LOCAL.contains(&kind) {
         let mut at = somewhere(&drafts, rng);
         if [Kind::PassesEnd, Kind::Size, Kind::Backlink].contains(&kind) && rng.chance(10) {
@@ -551,7 +685,7 @@ pub fn two_faults(rng: &mut Rng) -> Case {
     let Some(offender) = spoil(&mut drafts, early, first, rng) else {
         return two_faults(rng);
     };
-    let name = format!("two-faults-{first:?}-{second:?}").to_lowercase();
+    let name = format!("two-faults-{}-{}", first.name(), second.name());
     local_case(name, render(&drafts, &style, rng), offender, first)
 }
 

@@ -27,10 +27,27 @@ fn with(rng: &mut Rng, more: Vec<Draft>) -> Vec<Draft> {
     drafts
 }
 
+/// The check's code has the place of a draft's tuple.
 fn case(name: String, drafts: &[Draft], style: &Style, at: usize, code: u32) -> Case {
+    case_within(name, drafts, style, (at, 0), code)
+}
+
+/// The check's code has a place so many bytes behind the start of a draft's
+/// tuple.
+fn case_within(
+    name: String,
+    drafts: &[Draft],
+    style: &Style,
+    (at, within): (usize, usize),
+    code: u32,
+) -> Case {
     let mut rng = Rng::new(7);
     let rendered = render(drafts, style, &mut rng);
-    let place = if code == 0 { 0 } else { rendered.places[at] };
+    let place = if code == 0 {
+        0
+    } else {
+        rendered.places[at] + within
+    };
     let name = format!("limit-{name}-{}", style.name());
     Case::new(name, rendered.bytes, Some((code, place as u64)))
 }
@@ -96,46 +113,51 @@ fn identifier_case(nth: usize, style: &Style) -> Case {
     case(format!("identifier-{number}"), &drafts, style, 0, code)
 }
 
-/// A C-32 ping of given words, rightly counted.
-fn words_draft(rng: &mut Rng, words: Vec<u32>) -> Draft {
+/// A C-32 ping of given words, rightly counted, in a sound file.
+fn with_words(words: Vec<u32>) -> Vec<Draft> {
+    let mut rng = Rng::new(11);
     let count = words.iter().filter(|word| **word >> 16 != 0xFFFF).count() as u32;
-    let header = ping_header(rng, 1);
+    let header = ping_header(&mut rng, 1);
     let body = Body::Words {
         header,
         count,
         words,
     };
-    Draft::new(rng, 10010, body)
+    let more = vec![Draft::new(&mut rng, 10010, body)];
+    with(&mut rng, more)
 }
 
-fn words_case(name: &str, words: Vec<u32>, style: &Style, code: u32) -> Case {
-    let mut rng = Rng::new(11);
-    let more = vec![words_draft(&mut rng, words)];
-    let drafts = with(&mut rng, more);
-    case(format!("words-{name}"), &drafts, style, MORE, code)
+/// A ping of given words; `offender` is the first one outside the limits.
+fn words_case(name: &str, words: &[u32], offender: Option<usize>, style: &Style) -> Case {
+    let drafts = with_words(words.to_vec());
+    let name = format!("words-{name}");
+    match offender {
+        Some(nth) => case_within(name, &drafts, style, (MORE, 28 + 4 * nth), 24),
+        None => case(name, &drafts, style, MORE, 0),
+    }
 }
 
 /// Values at the edges of C-32, runs at theirs.
 #[rustfmt::skip]
-const WORDS: [(&str, &[u32], u32); 18] = [
-    ("most", &[0x7FFE_FFFF], 0),
-    ("least", &[0x8001_0000], 0),
-    ("over-most", &[0x7FFF_0000], 10),
-    ("under-least", &[0x8000_FFFF], 10),
-    ("greatest", &[0x7FFF_FFFF], 10),
-    ("smallest", &[0x8000_0000], 10),
-    ("near-runs", &[0xFFFE_FFFF], 0),
-    ("run-1", &[0xFFFF_0000, 5], 0),
-    ("run-65536", &[0xFFFF_FFFF, 5], 0),
-    ("run-65535", &[0xFFFF_FFFE, 5], 0),
-    ("run-across", &[0xFFFF_FFFF, 0xFFFF_0000, 5], 0),
-    ("run-across-turned", &[0xFFFF_0000, 0xFFFF_FFFF, 5], 0),
-    ("run-halves", &[0xFFFF_7FFF, 0xFFFF_7FFF, 5], 0),
-    ("run-last", &[5, 0xFFFF_FFFF], 0),
-    ("run-alone", &[0xFFFF_FFFF], 0),
-    ("runs-alone", &[0xFFFF_0000, 0xFFFF_1234, 0xFFFF_FFFF], 0),
-    ("zero", &[0], 0),
-    ("zero-behind-run", &[0xFFFF_0000, 0, 0xFFFF_0001], 0),
+const WORDS: [(&str, &[u32], Option<usize>); 18] = [
+    ("most", &[0x7FFE_FFFF], None),
+    ("least", &[0x8001_0000], None),
+    ("over-most", &[0x7FFF_0000], Some(0)),
+    ("under-least", &[0x8000_FFFF], Some(0)),
+    ("greatest", &[0xFFFF_0000, 0x7FFF_FFFF, 5], Some(1)),
+    ("smallest", &[5, 0xFFFE_FFFF, 0x8000_0000], Some(2)),
+    ("near-runs", &[0xFFFE_FFFF], None),
+    ("run-1", &[0xFFFF_0000, 5], None),
+    ("run-65536", &[0xFFFF_FFFF, 5], None),
+    ("run-65535", &[0xFFFF_FFFE, 5], None),
+    ("run-across", &[0xFFFF_FFFF, 0xFFFF_0000, 5], None),
+    ("run-across-turned", &[0xFFFF_0000, 0xFFFF_FFFF, 5], None),
+    ("run-halves", &[0xFFFF_7FFF, 0xFFFF_7FFF, 5], None),
+    ("run-last", &[5, 0xFFFF_FFFF], None),
+    ("run-alone", &[0xFFFF_FFFF], None),
+    ("runs-alone", &[0xFFFF_0000, 0xFFFF_1234, 0xFFFF_FFFF], None),
+    ("zero", &[0], None),
+    ("zero-behind-run", &[0xFFFF_0000, 0, 0xFFFF_0001], None),
 ];
 
 /// Pings of many words: how many values, runs, and the code.
@@ -160,7 +182,8 @@ fn many_case(nth: usize, style: &Style) -> Case {
             words.push(n as u32);
         }
     }
-    words_case(&format!("{values}-values-{runs}-runs"), words, style, code)
+    let name = format!("words-{values}-values-{runs}-runs");
+    case(name, &with_words(words), style, MORE, code)
 }
 
 /// A U-32 ping with as many pairs as a tuple holds.
@@ -240,9 +263,9 @@ fn makers() -> Vec<Maker> {
     for nth in 0..IDENTIFIERS.len() {
         makers.push(Box::new(move |style| identifier_case(nth, style)));
     }
-    for (name, words, code) in WORDS {
+    for (name, words, offender) in WORDS {
         makers.push(Box::new(move |style| {
-            words_case(name, words.to_vec(), style, code)
+            words_case(name, words, offender, style)
         }));
     }
     for nth in 0..MANY.len() {

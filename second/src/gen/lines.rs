@@ -1,7 +1,7 @@
 //! Text inputs for the two programs.
 
 use super::draft::{render, Body, Draft, Piece, PingStyle, Rendered, Style};
-use super::faults::{fault, random_damage, third_identifier, FAULT_KINDS};
+use super::faults::{broken_ping, fault, random_damage, third_identifier, FAULT_KINDS};
 use super::sound::*;
 use super::Rng;
 use crate::layout::LAYOUTS;
@@ -83,7 +83,7 @@ fn tuple_file(rng: &mut Rng) -> Vec<u8> {
 /// One tuple with something wrong, or something behind it.
 fn damaged_tuple_file(rng: &mut Rng) -> Vec<u8> {
     let mut bytes = tuple_file(rng);
-    match rng.below(9) {
+    match rng.below(11) {
         0 => bytes.truncate(4),
         1 => bytes.truncate(rng.index(bytes.len())),
         2 => bytes.extend([0]),
@@ -110,10 +110,18 @@ fn damaged_tuple_file(rng: &mut Rng) -> Vec<u8> {
             let style = Style::any(rng);
             bytes = render(&[draft], &style, rng).bytes;
         }
+        7 | 8 => {
+            let draft = broken_ping(rng, 9);
+            let style = Style::any(rng);
+            bytes = render(&[draft], &style, rng).bytes;
+        }
         _ => {
             let at = rng.index(bytes.len());
             bytes[at] ^= 1 << rng.below(8);
         }
+    }
+    if bytes.len() > 65_536 {
+        return damaged_tuple_file(rng);
     }
     bytes
 }

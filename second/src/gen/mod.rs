@@ -12,7 +12,7 @@ mod pairs;
 mod sound;
 
 pub use draft::{render, Body, Draft, Patch, Piece, PingStyle, Rendered, Style};
-pub use faults::{fault, noise, random_damage, two_faults, Kind, FAULT_KINDS};
+pub use faults::{fault, noise, random_damage, two_faults, Kind, Spot, FAULT_KINDS};
 pub use limits::{big_limit, big_limit_count, limit, limit_count};
 pub use lines::{frames, hex, line_case, LineCase};
 pub use pairs::{equal_pair, unequal_pair};

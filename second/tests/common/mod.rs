@@ -2,6 +2,7 @@
 #![allow(dead_code)]
 
 use second::walk::{forward, Step, Tuple};
+use std::collections::BTreeMap;
 
 /// The seed of the generated cases; SECOND_SEED sets another.
 pub fn seed() -> u64 {
@@ -34,21 +35,107 @@ pub fn bytes(digits: &str) -> Vec<u8> {
 
 /// The tuples of an accepted file, in order.
 pub fn tuples(file: &[u8]) -> Vec<Tuple> {
-    let mut place = 4;
+    let found = tuples_found(file);
+    let end = found.last().map_or(4, Tuple::end);
+    assert_eq!(forward(file, end), Step::End);
+    found
+}
+
+/// The tuples of any file, in order, as far as they go.
+pub fn tuples_found(file: &[u8]) -> Vec<Tuple> {
     let mut found = Vec::new();
-    loop {
-        match forward(file, place) {
-            Step::Tuple { tuple, next } => {
-                found.push(tuple);
-                place = next;
-            }
-            Step::End => return found,
-            Step::Refused(refusal) => panic!("{refusal:?} at {place}"),
-        }
+    let mut place = 4;
+    while let Step::Tuple { tuple, next } = forward(file, place) {
+        found.push(tuple);
+        place = next;
     }
+    found
 }
 
 /// Memory with a pattern that no writer would leave by chance.
 pub fn lent(length: usize) -> Vec<u8> {
     (0..length).map(|at| (at * 151 + 89) as u8).collect()
+}
+
+/// A file with its byte order, for the rules said once more.
+pub struct File<'a> {
+    pub bytes: &'a [u8],
+    pub msb: bool,
+}
+
+impl File<'_> {
+    /// By the mark; none where there is neither.
+    pub fn new(bytes: &[u8]) -> Option<File<'_>> {
+        match bytes.get(..4)? {
+            [0xAC, 0, 0, 0] => Some(File { bytes, msb: false }),
+            [0, 0, 0, 0xAC] => Some(File { bytes, msb: true }),
+            _ => None,
+        }
+    }
+
+    /// A number of some bytes; those past the end count as 0.
+    pub fn number(&self, at: usize, width: usize) -> u64 {
+        let byte = |n: usize| u64::from(*self.bytes.get(at + n).unwrap_or(&0));
+        (0..width).fold(0, |sum, n| {
+            let nth = if self.msb { n } else { width - 1 - n };
+            sum * 256 + byte(nth)
+        })
+    }
+}
+
+/// Codes with their places.
+pub type Faults = BTreeMap<&'static str, usize>;
+
+/// All faults of the samples of a ping at a place, by the pairs and words
+/// themselves: request c of 02. Its length has to fit.
+pub fn sample_faults(file: &File, at: usize) -> Faults {
+    let end = at + file.number(at, 4) as usize + 10 - 8;
+    match file.number(at + 4, 2) {
+        10000 => pair_faults(file, at, end),
+        10010 => word_faults(file, at, end),
+        _ => Faults::new(),
+    }
+}
+
+fn pair_faults(file: &File, at: usize, end: usize) -> Faults {
+    let not_above = |place: &usize| file.number(*place, 4) <= file.number(*place - 8, 4);
+    let first = (at + 32..end).step_by(8).find(not_above);
+    first.map(|place| ("23", place)).into_iter().collect()
+}
+
+fn word_faults(file: &File, at: usize, end: usize) -> Faults {
+    let mut faults = Faults::new();
+    let is_run = |place: &usize| file.number(*place, 4) / 65_536 == 65_535;
+    let values: Vec<usize> = (at + 28..end)
+        .step_by(4)
+        .filter(|place| !is_run(place))
+        .collect();
+    let outside = |place: &&usize| {
+        let word = file.number(**place, 4) as i64;
+        let value = if word < 1 << 31 {
+            word
+        } else {
+            word - (1 << 32)
+        };
+        !(-2_147_418_112..=2_147_418_111).contains(&value)
+    };
+    if values.len() > 32_764 {
+        faults.insert("11", at);
+    }
+    if let Some(place) = values.iter().find(outside) {
+        faults.insert("24", *place);
+    }
+    if file.number(at + 24, 4) != values.len() as u64 {
+        faults.insert("25", at + 24);
+    }
+    faults
+}
+
+/// The one of them that is told: code and place.
+pub fn first_sample_fault(file: &File, at: usize) -> Option<(u32, u64)> {
+    let faults = sample_faults(file, at);
+    let first = ["11", "24", "25", "23"]
+        .into_iter()
+        .find(|code| faults.contains_key(code))?;
+    Some((first.parse().unwrap(), faults[first] as u64))
 }

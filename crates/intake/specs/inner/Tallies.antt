@@ -25,7 +25,7 @@ use Rattle.intake.specs.declared.Asked.the-variants.{Parents, Refused}
 use Rattle.intake.specs.declared.Tally.{Tally}
 use Rattle.intake.specs.declared.Turned.{Turned}
 use Rattle.intake.specs.declared.Turned.the-variants.{On, Done}
-use Rattle.intake.specs.Check.{Course, begin, Turn, stop, go, turn, checkFrom, checkFile}
+use Rattle.intake.specs.Check.{Course, begin, Turn, stop, go, turn, checkFrom}
 use Rattle.intake.specs.Asking.{courseTo}
 
 -- the columns: the sounders' identifiers, numbers of channels and places; the channels' identifiers, parents and places
@@ -110,11 +110,11 @@ linkBy (names c) docs ids = nameVerdict c ids
 unfoldable pub linkVerdict : Bool → Tup → List ℕ → List ℕ → Verdict
 linkVerdict o t docs ids = linkBy (digest o t .link) docs ids
 
--- 11, 10
+-- 11; 23, or 24 and 25
 unfoldable pub innerVerdict : Bool → Tup → Verdict
 innerVerdict o t = judged (innerRules o t)
 
--- a tuple's own rules: 9, 8, 11, 10
+-- a tuple's own rules: 9, 8, 11; 23, or 24 and 25
 unfoldable pub ownVerdict : Bool → Tup → Verdict
 ownVerdict o t = judged (headRules o t ++ innerRules o t)
 

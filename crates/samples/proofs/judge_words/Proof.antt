@@ -1,19 +1,20 @@
 -- `samples::judge_words` meets its contract: the values counted and those from here on are all values, and so for the bad ones; then
 -- the rules, one by one. Assumes nothing.
-use mathlib.Core.Path.{_≡_, sym, _∙_}
+use mathlib.Core.Path.{_≡_, sym, ap, _∙_}
 use mathlib.Core.Bool.{not, _||_}
 use mathlib.Core.List.{[], _∷_}
-use Prim.Native.Nat.{_≤_, _+_, _-_}
+use Prim.Native.Nat.{ℕ, _≤_, _+_, _-_, _*_}
 use native.Mathlib.Omega.{arith}
 use borrow.Author.Needs.{needs}
 use borrow.Author.Tests.{lt-ltb, le-ltb, eq-eqb, ne-eqb}
 use lib.Dec.{ltb, eqb}
 use lib.ListN.{length}
 use Rattle.rules.specs.Rules.{_⇒_}
+use Rattle.layout.specs.declared.Verdict.the-variants.{Fault}
 use Rattle.layout.specs.Answers.{judged, _byte_}
 use Rattle.samples.specs.Words.{allWords}
-use Rattle.samples.specs.Runs.{radix, values}
-use Rattle.samples.specs.Judging.{most, judgedWords}
+use Rattle.samples.specs.Runs.{radix, values, firstBad}
+use Rattle.samples.specs.Judging.{most, countAt, wordsAt, judgedWords}
 use Rattle.samples.proofs.Words.{wordsFrom, from-all}
 use Rattle.samples.proofs.Judging.{anyBad, counts-one, values-turn, bad-turn, values-end, bad-end}
 use Rattle.samples.proofs.judge_words.Statement.{statement}
@@ -51,7 +52,11 @@ loop-again c =
 said : (c : tie.After-loop Inv-loop μ-loop) →
     let a = c .before .before .before .args in
     let l = c .before .loop in
-    judged ((ltb most (l .found) ⇒ 11 byte 0) ∷ (l .bad ⇒ 10 byte 0) ∷ (not (eqb (a .count) (l .found)) ⇒ 10 byte 0) ∷ [])
+    judged
+    ((ltb most (l .found) ⇒ 11 byte 0)
+    ∷ (l .bad ⇒ 24 byte (wordsAt + 4 * firstBad radix (allWords 4 (a .msb) (a .part .now))))
+    ∷ (not (eqb (a .count) (l .found)) ⇒ 25 byte countAt)
+    ∷ [])
     ≡ judgedWords (a .msb) (a .count) (a .part .now)
 unfolding judgedWords
 said c =
@@ -66,18 +71,25 @@ returns c =
     let rule = c .before in
     c .fault .ensures ∙ rw (lt-ltb _ _ (rule .if1 .taken)) at (said (rule .before))
 
+-- the place is in the part, or just behind it
+add-fault-at : tie.Need-add-fault-at Inv-loop μ-loop
+add-fault-at c =
+    let head = c .before .before .before .before in
+    omega (arith, c .find-bad .ensures .1, head .before .before .pre)
+
 returns-2 : tie.Need-returns-2 Inv-loop μ-loop
 returns-2 c =
-    let rule = c .before in
+    let find = c .before in
+    let rule = find .before in
     let few = rule .before in
-    c .fault2 .ensures ∙ rw (le-ltb _ _ (few .if1 .left), rule .if2 .taken) at (said (few .before))
+    c .fault-at .ensures ∙ ap (λ (p : ℕ). Fault 24 (wordsAt + p)) (find .find-bad .ensures .0) ∙ rw (le-ltb _ _ (few .if1 .left), rule .if2 .taken) at (said (few .before))
 
 returns-3 : tie.Need-returns-3 Inv-loop μ-loop
 returns-3 c =
     let rule = c .before in
     let good = rule .before in
     let few = good .before in
-    c .fault3 .ensures ∙ rw (le-ltb _ _ (few .if1 .left), good .if2 .left, ne-eqb _ _ (rule .if3 .taken)) at (said (few .before))
+    c .fault-at2 .ensures ∙ rw (le-ltb _ _ (few .if1 .left), good .if2 .left, ne-eqb _ _ (rule .if3 .taken)) at (said (few .before))
 
 returns-4 : tie.Need-returns-4 Inv-loop μ-loop
 returns-4 c =
@@ -104,6 +116,8 @@ judge-words-spec =
     (λ c. search needs)
     (λ c κs. search needs)
     returns
+    (λ c κs. search needs)
+    add-fault-at
     (λ c κs. search needs)
     returns-2
     (λ c κs. search needs)

@@ -42,6 +42,9 @@ HAC fisheries recordings: checked, walked and brought to their normal form.
   --           no options behind it
   -            as FILE: standard input
 
+Where a ping's samples are wrong a refusal also says which one; pairs and words
+count from 0.
+
 Exit status: 0 accepted, 1 refused, 2 not a file or bad use; of many files 2 if
 any couldn't be read, else 1 if any was refused.";
 

@@ -5,14 +5,16 @@ use crate::input::{self, Input};
 use crate::output::{say, say_verdict, Broken, Output};
 use crate::verdict::{Status, Verdict};
 use crate::{normal, parents, samples, walk};
-use hac::Refusal;
+use hac::{Refusal, Walk};
 use std::io;
 
 /// Why a command ends before its end.
 pub enum Stop {
     Broken(Broken),
-    /// Its input was refused, or couldn't be read.
-    Input(Verdict),
+    /// Its input was refused.
+    Refused(Refusal),
+    /// Its input couldn't be read.
+    Unread(io::Error),
     /// Something else, in words.
     Fault(String),
 }
@@ -25,31 +27,27 @@ impl From<Broken> for Stop {
 
 impl From<Refusal> for Stop {
     fn from(refusal: Refusal) -> Stop {
-        Stop::Input(Verdict::Refused(refusal))
+        Stop::Refused(refusal)
     }
 }
 
 /// An error in reading the input; other errors are told in words.
 impl From<io::Error> for Stop {
     fn from(error: io::Error) -> Stop {
-        Stop::Input(error.into())
+        Stop::Unread(error)
     }
 }
 
 pub fn run(input: &Input, task: &Task, output: &mut Output) -> Result<(), Broken> {
-    match perform(input, task, output) {
+    let mut bytes = Vec::new();
+    match perform(input, task, &mut bytes, output) {
         Ok(()) => Ok(()),
         Err(Stop::Broken(broken)) => Err(broken),
-        Err(Stop::Input(verdict)) => {
-            output.worsen(verdict.status());
-            if output.json {
-                output.line(verdict.object(input))?;
-            }
-            // behind what was printed, where both go to one terminal
-            output.flush()?;
-            say_verdict(input, &verdict);
-            Ok(())
+        Err(Stop::Refused(refusal)) => {
+            let verdict = Verdict::refused(&bytes, judged_from(task), refusal);
+            tell(input, &verdict, output)
         }
+        Err(Stop::Unread(error)) => tell(input, &error.into(), output),
         Err(Stop::Fault(fault)) => {
             output.worsen(Status::Unread);
             say(fault);
@@ -58,17 +56,42 @@ pub fn run(input: &Input, task: &Task, output: &mut Output) -> Result<(), Broken
     }
 }
 
-fn perform(input: &Input, task: &Task, output: &mut Output) -> Result<(), Stop> {
+/// Tells of an input that was refused, or couldn't be read.
+fn tell(input: &Input, verdict: &Verdict, output: &mut Output) -> Result<(), Broken> {
+    output.worsen(verdict.status());
+    if output.json {
+        output.line(verdict.object(input))?;
+    }
+    // behind what was printed, where both go to one terminal
+    output.flush()?;
+    say_verdict(input, verdict);
+    Ok(())
+}
+
+/// Where a task's judging begins: a ping's reader looks at its place alone.
+fn judged_from(task: &Task) -> Walk {
+    match task {
+        Task::Samples { place } => Walk { at: *place },
+        Task::Normal { .. } | Task::Walk { .. } | Task::Parents { .. } => Walk::START,
+    }
+}
+
+/// Reads the input into memory and does the task.
+fn perform(
+    input: &Input,
+    task: &Task,
+    bytes: &mut Vec<u8>,
+    output: &mut Output,
+) -> Result<(), Stop> {
     let file = input.open()?;
     if let Task::Normal { out } = task {
         normal::must_differ(&file, out)?;
     }
-    let mut bytes = Vec::new();
-    input::read(&file, &mut bytes)?;
+    input::read(&file, bytes)?;
     match task {
-        Task::Normal { out } => normal::run(input, &bytes, out, output),
-        Task::Walk { back } => walk::run(&bytes, *back, output),
-        Task::Parents { place } => parents::run(&bytes, *place, output),
-        Task::Samples { place } => samples::run(&bytes, *place, output),
+        Task::Normal { out } => normal::run(input, bytes, out, output),
+        Task::Walk { back } => walk::run(bytes, *back, output),
+        Task::Parents { place } => parents::run(bytes, *place, output),
+        Task::Samples { place } => samples::run(bytes, *place, output),
     }
 }

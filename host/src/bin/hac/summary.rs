@@ -18,7 +18,7 @@ impl Summary {
     pub fn count(&mut self, verdict: &Verdict) {
         match verdict {
             Verdict::Accepted(_) => self.accepted += 1,
-            Verdict::Refused(refusal) => *self.codes.entry(refusal.code).or_default() += 1,
+            Verdict::Refused(refusal, _) => *self.codes.entry(refusal.code).or_default() += 1,
             Verdict::Unread(_) => self.unread += 1,
         }
     }

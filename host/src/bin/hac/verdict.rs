@@ -2,7 +2,7 @@
 
 use crate::input::Input;
 use crate::json::Object;
-use hac::Refusal;
+use hac::{Refusal, SampleFault, Walk, WrongSample};
 use std::fmt;
 use std::io;
 
@@ -18,16 +18,22 @@ pub enum Status {
 pub enum Verdict {
     /// Accepted, with the number of its tuples.
     Accepted(usize),
-    Refused(Refusal),
+    /// Refused, and which sample is wrong, where the refusal is about one.
+    Refused(Refusal, Option<WrongSample>),
     /// Not read, and why.
     Unread(String),
 }
 
 impl Verdict {
+    /// The refusal of a file. A walk finds the ping that it is about, if it is about one.
+    pub fn refused(file: &[u8], from: Walk, refusal: Refusal) -> Verdict {
+        Verdict::Refused(refusal, hac::wrong_sample(file, from, refusal))
+    }
+
     pub fn status(&self) -> Status {
         match self {
             Verdict::Accepted(_) => Status::Accepted,
-            Verdict::Refused(_) => Status::Refused,
+            Verdict::Refused(..) => Status::Refused,
             Verdict::Unread(_) => Status::Unread,
         }
     }
@@ -39,12 +45,44 @@ impl Verdict {
             Verdict::Accepted(tuples) => {
                 object.text("outcome", "accepted").number("tuples", *tuples)
             }
-            Verdict::Refused(Refusal { code, place }) => object
-                .text("outcome", "refused")
-                .number("code", code.number())
-                .text("words", code.words())
-                .number("place", *place),
+            Verdict::Refused(Refusal { code, place }, wrong) => {
+                let object = object
+                    .text("outcome", "refused")
+                    .number("code", code.number())
+                    .text("words", code.words())
+                    .number("place", *place);
+                match wrong {
+                    Some(wrong) => with_sample(object, wrong),
+                    None => object,
+                }
+            }
             Verdict::Unread(why) => object.text("outcome", "unread").text("error", why),
+        }
+    }
+}
+
+/// An object that also tells which sample is wrong.
+fn with_sample(object: Object, wrong: &WrongSample) -> Object {
+    let object = object.number("ping_place", wrong.ping_place);
+    match wrong.fault {
+        SampleFault::NotRising {
+            pair,
+            number,
+            before,
+        } => object
+            .number("pair", pair)
+            .number("number", number)
+            .number("before", before),
+        SampleFault::BadWord {
+            word,
+            number,
+            pattern,
+        } => object
+            .number("word", word)
+            .number("number", number)
+            .number("pattern", pattern),
+        SampleFault::Miscounted { said, found } => {
+            object.number("said", said).number("found", found)
         }
     }
 }
@@ -53,7 +91,8 @@ impl fmt::Display for Verdict {
     fn fmt(&self, to: &mut fmt::Formatter<'_>) -> fmt::Result {
         match self {
             Verdict::Accepted(tuples) => write!(to, "accepted, {tuples} tuples"),
-            Verdict::Refused(refusal) => write!(to, "refused, {refusal}"),
+            Verdict::Refused(refusal, None) => write!(to, "refused, {refusal}"),
+            Verdict::Refused(refusal, Some(wrong)) => write!(to, "refused, {refusal}: {wrong}"),
             Verdict::Unread(why) => to.write_str(why),
         }
     }

@@ -1,0 +1,232 @@
+-- A ping's samples break their rules exactly at the first offender (`offends`, `offended`). Assumes nothing.
+use mathlib.Core.Path.{_≡_, refl, sym, ap, ap₂, subst, subst₂, _∙_}
+use mathlib.Core.Logic.{_⊎_, inl, inr, ⊎-elim}
+use mathlib.Core.Bool.{Bool, true, false, not, true≢false, _&&_}
+use mathlib.Core.List.{List, [], _∷_}
+use Prim.Native.Nat.{ℕ, zero, suc, _+_, _-_, _*_, _/_, _≤_, _<_}
+use native.Mathlib.Numerals.{add-one}
+use native.Mathlib.Omega.{arith}
+use borrow.Author.Tests.{lt-ltb, le-ltb, ltb-true, ltb-false, le-leb, leb-true, leb-false, ne-eqb, eqb-false, not-true}
+use lib.Dec.{eqb, leb, ltb}
+use lib.ListN.{length}
+use Rattle.rules.specs.Rules.{Rule, _⇒_}
+use Rattle.rules.proofs.Bools.{both-true}
+use Rattle.layout.specs.Answers.{Breach, _byte_}
+use Rattle.layout.specs.Types.{Shape, indexed, row, pairs, words, unlisted, classes, inClass, kindOf, lineOf, shapeOf}
+use Rattle.frame.specs.Frames.{Tup}
+use Rattle.samples.specs.Words.{Sample}
+use Rattle.samples.specs.Runs.{radix, isBad, firstBad}
+use Rattle.samples.specs.Judging.{most, firstDrop, pairRules, wordRules}
+use Rattle.samples.proofs.Runs.{by-bool}
+use Rattle.samples.proofs.Rising.{drop-here, drop-later}
+use Rattle.samples.proofs.Values.{bad-here, bad-later}
+use Rattle.content.specs.Items.{innerBy, innerRules}
+use Rattle.content.proofs.Places.{Shaped, shaped}
+use Rattle.demands.specs.Causes.{Broken, here, later}
+use Rattle.demands.specs.Offenders.{FirstAt, Falls, numberIn, Outside, samplesIn, wordsOf, found, said, Offends, too-many, not-rising, bad-word, miscounted}
+
+-- ---- a list of rules, one after the other
+abbrev pub Said : {A : Type 0} → List (Rule A) → A → Type 0
+Said [] x = ⊥
+Said ((b ⇒ a) ∷ rs) x = ((b ≡ true) × (a ≡ x)) ⊎ ((b ≡ false) × Said rs x)
+
+pub broken-says : {A : Type 0} {rs : List (Rule A)} {x : A} → Broken rs x → Said rs x
+broken-says (here e) = inl (e, refl)
+broken-says (later e r) = inr (e, broken-says r)
+
+-- ---- a search that ends at i, of n places: the first of which P holds, or n where there is none
+pub record Search (P : ℕ → Type 0) (n i : ℕ) : Type 0 where
+  pub there : i < n → P i
+  pub before : (j : ℕ) → j < i → P j → ⊥
+  pub within : (j : ℕ) → P j → j < n
+
+module _ {P : ℕ → Type 0} {n i : ℕ} (s : Search P n i) where
+  pub finds : ltb i n ≡ true → FirstAt P i
+  finds e = record { is = s .there (ltb-true i n e); before = s .before }
+
+  -- what it finds is the first
+  pub first-found : {k : ℕ} → FirstAt P k → (ltb i n ≡ true) × (i ≡ k)
+  first-found {k} g = by-order (leb i k) refl
+    where
+      by-order : (b : Bool) → leb i k ≡ b → (ltb i n ≡ true) × (i ≡ k)
+      by-order false e = absurd (s .before k (leb-false i k e) (g .is))
+      by-order true e =
+          let low : i < n = omega (arith, leb-true i k e, s .within k (g .is)) in
+          by-equal low (leb k i) refl
+        where
+          by-equal : i < n → (b : Bool) → leb k i ≡ b → (ltb i n ≡ true) × (i ≡ k)
+          by-equal low true h = (lt-ltb i n low, omega (arith, leb-true i k e, leb-true k i h))
+          by-equal low false h = absurd (g .before i (leb-false k i h) (s .there low))
+
+  pub finds-none : ltb i n ≡ false → (k : ℕ) → P k → ⊥
+  finds-none e k p = s .before k (omega (arith, ltb-false i n e, s .within k p)) p
+
+  pub none-found : ((k : ℕ) → P k → ⊥) → ltb i n ≡ false
+  none-found g = by-bool (ltb i n) (λ e. absurd (g i (s .there (ltb-true i n e)))) (λ e. e)
+
+-- ---- words outside the limits
+-- the limits as numbers
+outside : (w : ℕ) → isBad radix w ≡ true → (0x7fff0000 ≤ w) × (w ≤ 0x8000ffff)
+unfolding isBad
+outside w e =
+    let b = both-true (leb (radix * (radix / 2 - 1)) w) (ltb w (radix * (radix / 2) + radix)) e in
+    (leb-true 0x7fff0000 w (b .0), omega (arith, ltb-true w 0x80010000 (b .1)))
+
+inside : (w : ℕ) → isBad radix w ≡ false → 0x7fff0000 ≤ w → w ≤ 0x8000ffff → ⊥
+unfolding isBad
+inside w e l m = true≢false (sym (ap₂ _&&_ (le-leb 0x7fff0000 w l) (lt-ltb w 0x80010000 (omega arith))) ∙ e)
+
+-- a word, and the same word behind one more
+behind-word : (w : ℕ) (ws : List ℕ) (i : ℕ) → Outside ws i → Outside (w ∷ ws) (suc i)
+behind-word w ws i g = record { within = omega (arith, g .within); least = g .least; most = g .most }
+
+before-word : (w : ℕ) (ws : List ℕ) (i : ℕ) → Outside (w ∷ ws) (suc i) → Outside ws i
+before-word w ws i g = record { within = omega (arith, g .within); least = g .least; most = g .most }
+
+words-there : (ws : List ℕ) → firstBad radix ws < length ws → Outside ws (firstBad radix ws)
+words-there [] h = absurd (omega arith)
+words-there (w ∷ ws) h =
+    by-bool (isBad radix w)
+    (λ e. subst (Outside (w ∷ ws)) (sym (bad-here radix w ws e)) (record { within = omega arith; least = outside w e .0; most = outside w e .1 }))
+    (λ e.
+    subst (Outside (w ∷ ws)) (sym (bad-later radix w ws e ∙ add-one (firstBad radix ws)))
+    (behind-word w ws (firstBad radix ws) (words-there ws (omega (arith, bad-later radix w ws e)))))
+
+words-before : (ws : List ℕ) (j : ℕ) → j < firstBad radix ws → Outside ws j → ⊥
+words-before [] j h g = absurd (omega (arith, g .within))
+words-before (w ∷ ws) zero h g =
+    by-bool (isBad radix w) (λ e. absurd (omega (arith, bad-here radix w ws e))) (λ e. inside w e (g .least) (g .most))
+words-before (w ∷ ws) (suc j) h g =
+    by-bool (isBad radix w)
+    (λ e. absurd (omega (arith, bad-here radix w ws e)))
+    (λ e. words-before ws j (omega (arith, bad-later radix w ws e)) (before-word w ws j g))
+
+pub words-search : (ws : List ℕ) → Search (Outside ws) (length ws) (firstBad radix ws)
+words-search ws = record { there = words-there ws; before = words-before ws; within = λ j g. g .within }
+
+-- ---- numbers that don't rise
+-- a number and the one before it, and the same two behind one more
+module _ (x : Sample) (s : List Sample) (k : ℕ) where
+  less : suc k - 1 ≡ k
+  less = omega arith
+
+  less-two : suc (suc k) - 1 ≡ suc k
+  less-two = omega arith
+
+  behind-two : Falls s (suc k) → Falls (x ∷ s) (suc (suc k))
+  behind-two g =
+      let pair : numberIn s (suc k) ≤ numberIn s k = subst (λ (m : ℕ). numberIn s (suc k) ≤ numberIn s m) less (g .falls) in
+      record { within = omega (arith, g .within); behind = omega arith; falls = subst (λ (m : ℕ). numberIn s (suc k) ≤ numberIn (x ∷ s) m) (sym less-two) pair }
+
+  before-two : Falls (x ∷ s) (suc (suc k)) → Falls s (suc k)
+  before-two g =
+      let pair : numberIn s (suc k) ≤ numberIn s k = subst (λ (m : ℕ). numberIn s (suc k) ≤ numberIn (x ∷ s) m) less-two (g .falls) in
+      record { within = omega (arith, g .within); behind = omega arith; falls = subst (λ (m : ℕ). numberIn s (suc k) ≤ numberIn s m) (sym less) pair }
+
+falls-there : (s : List Sample) (x : Sample) → firstDrop (x .0 + 1) s < length s → Falls (x ∷ s) (suc (firstDrop (x .0 + 1) s))
+falls-there [] x h = absurd (omega arith)
+falls-there (y ∷ s) x h =
+    by-bool (leb (x .0 + 1) (y .0))
+    (λ e.
+    let later = drop-later (x .0 + 1) y s (leb-true (x .0 + 1) (y .0) e) in
+    subst (λ (m : ℕ). Falls (x ∷ y ∷ s) (suc m)) (sym (later ∙ add-one (firstDrop (y .0 + 1) s)))
+    (behind-two x (y ∷ s) (firstDrop (y .0 + 1) s) (falls-there s y (omega (arith, later)))))
+    (λ e.
+    subst (λ (m : ℕ). Falls (x ∷ y ∷ s) (suc m)) (sym (drop-here (x .0 + 1) y s e))
+    (record { within = omega arith; behind = omega arith; falls = omega (arith, leb-false (x .0 + 1) (y .0) e) }))
+
+falls-before : (s : List Sample) (x : Sample) (j : ℕ) → j < firstDrop (x .0 + 1) s → Falls (x ∷ s) (suc j) → ⊥
+falls-before [] x j h g = absurd (omega (arith, g .within))
+falls-before (y ∷ s) x zero h g =
+    by-bool (leb (x .0 + 1) (y .0))
+    (λ e. absurd (omega (arith, leb-true (x .0 + 1) (y .0) e, g .falls)))
+    (λ e. absurd (omega (arith, drop-here (x .0 + 1) y s e)))
+falls-before (y ∷ s) x (suc j) h g =
+    by-bool (leb (x .0 + 1) (y .0))
+    (λ e. falls-before s y j (omega (arith, drop-later (x .0 + 1) y s (leb-true (x .0 + 1) (y .0) e))) (before-two x (y ∷ s) j g))
+    (λ e. absurd (omega (arith, drop-here (x .0 + 1) y s e)))
+
+-- the first number may be any
+numbers-there : (s : List Sample) → firstDrop 0 s < length s → Falls s (firstDrop 0 s)
+numbers-there [] h = absurd (omega arith)
+numbers-there (x ∷ s) h =
+    let later = drop-later 0 x s (omega arith) in
+    subst (Falls (x ∷ s)) (sym (later ∙ add-one (firstDrop (x .0 + 1) s))) (falls-there s x (omega (arith, later)))
+
+numbers-before : (s : List Sample) (j : ℕ) → j < firstDrop 0 s → Falls s j → ⊥
+numbers-before [] j h g = absurd (omega (arith, g .within))
+numbers-before (x ∷ s) zero h g = absurd (omega (arith, g .behind))
+numbers-before (x ∷ s) (suc j) h g = falls-before s x j (omega (arith, drop-later 0 x s (omega arith))) g
+
+pub numbers-search : (s : List Sample) → Search (Falls s) (length s) (firstDrop 0 s)
+numbers-search s = record { there = numbers-there s; before = numbers-before s; within = λ j g. g .within }
+
+-- ---- so a tuple's samples break a rule exactly where it offends
+module _ (o : Bool) (t : Tup) where
+  -- what was said is a code and an offset
+  as-said : {c q d p : ℕ} → Offends o t c q → (c byte q) ≡ (d byte p) → Offends o t d p
+  as-said h e = subst₂ (Offends o t) (ap (λ (b : Breach). b .code) e) (ap (λ (b : Breach). b .offset) e) h
+
+  by-pairs : t .kind ≡ 10000 → {c q : ℕ} → Said (pairRules (samplesIn o t)) (c byte q) → Offends o t c q
+  by-pairs k = ⊎-elim (λ e. as-said (not-rising k (finds (numbers-search (samplesIn o t)) (e .0))) (e .1)) (λ e. absurd (e .1))
+
+  module _ (k : t .kind ≡ 10010) where
+    abbrev search : Search (Outside (wordsOf o t)) (length (wordsOf o t)) (firstBad radix (wordsOf o t))
+    search = words-search (wordsOf o t)
+
+    by-words : {c q : ℕ} → Said (wordRules (said o t) (wordsOf o t)) (c byte q) → Offends o t c q
+    by-words =
+        ⊎-elim (λ e. as-said (too-many k (ltb-true most (found o t) (e .0))) (e .1))
+        (λ l. ⊎-elim (λ e. as-said (bad-word k (ltb-false most (found o t) (l .0)) (finds search (e .0))) (e .1))
+        (λ g. ⊎-elim
+        (λ e. as-said (miscounted k (ltb-false most (found o t) (l .0)) (finds-none search (g .0)) (eqb-false (said o t) (found o t) (not-true _ (e .0)))) (e .1))
+        (λ e. absurd (e .1))
+        (g .1))
+        (l .1))
+
+  pub offends : {c q : ℕ} → Broken (innerRules o t) (c byte q) → Offends o t c q
+  offends {c} {q} b = by (shapeOf (t .kind)) (shaped (t .kind)) (broken-says b)
+    where
+      by : (s : Shape) → Shaped (t .kind) s → Said (innerBy s o t) (c byte q) → Offends o t c q
+      by indexed h z = absurd z
+      by (row fs x) h z = absurd z
+      by pairs h z = by-pairs h z
+      by words h z = by-words h z
+      by unlisted h z = absurd z
+
+  -- and the other way round
+  shape-U : t .kind ≡ 10000 → shapeOf (t .kind) ≡ pairs
+  unfolding lineOf kindOf inClass classes
+  shape-U k = ap shapeOf k
+
+  shape-C : t .kind ≡ 10010 → shapeOf (t .kind) ≡ words
+  unfolding lineOf kindOf inClass classes
+  shape-C k = ap shapeOf k
+
+  -- the rules of words behind the first
+  abbrev behindMany : List (Rule Breach)
+  behindMany =
+      let ws = wordsOf o t in
+      (ltb (firstBad radix ws) (length ws) ⇒ 24 byte (28 + 4 * firstBad radix ws)) ∷ (not (eqb (said o t) (found o t)) ⇒ 25 byte 24) ∷ []
+
+  pub offended : {c q : ℕ} → Offends o t c q → Broken (innerRules o t) (c byte q)
+  offended (not-rising {i = i} k g) =
+      let f = first-found (numbers-search (samplesIn o t)) g in
+      subst (λ (s : Shape). Broken (innerBy s o t) (23 byte (24 + 8 * i))) (sym (shape-U k))
+      (subst (λ (m : ℕ). Broken (pairRules (samplesIn o t)) (23 byte (24 + 8 * m))) (f .1) (here (f .0)))
+  offended (too-many k m) =
+      subst (λ (s : Shape). Broken (innerBy s o t) (11 byte 0)) (sym (shape-C k)) (here (lt-ltb most (found o t) m))
+  offended (bad-word {i = i} k m g) =
+      let f = first-found (words-search (wordsOf o t)) g in
+      subst (λ (s : Shape). Broken (innerBy s o t) (24 byte (28 + 4 * i))) (sym (shape-C k))
+      (later (le-ltb most (found o t) m) (subst (λ (j : ℕ). Broken behindMany (24 byte (28 + 4 * j))) (f .1) (here (f .0))))
+  offended (miscounted k m g e) =
+      subst (λ (s : Shape). Broken (innerBy s o t) (25 byte 24)) (sym (shape-C k))
+      (later (le-ltb most (found o t) m) (later (none-found (words-search (wordsOf o t)) g) (here (ap not (ne-eqb (said o t) (found o t) e)))))
+
+-- no code is 10
+pub no-ten : {o : Bool} {t : Tup} {c q : ℕ} → Offends o t c q → c ≡ 10 → ⊥
+no-ten (too-many k m) e = absurd (omega arith)
+no-ten (not-rising k g) e = absurd (omega arith)
+no-ten (bad-word k m g) e = absurd (omega arith)
+no-ten (miscounted k m g e) h = absurd (omega arith)
