@@ -156,12 +156,12 @@ module _ (o : Bool) (f : List ℕ) (at n : ℕ) (w : Whole o f at n) where
       ∙ ap (λ (x : Kind). linkBy x vs) e
       ∙ ap (linkBy q) (values-place (rowIn fs none 0) h)
 
-  pub link-sounder : kindOf (kindAt o (drop at f)) ≡ Sounder → n ≡ 72 → digest o (tupAt o (drop at f)) .link ≡ Links.sounder (record { 0 = fieldAt o f at 4 8 }) (fieldAt o f at 2 6)
+  pub link-sounder : kindOf (kindAt o (drop at f)) ≡ Sounder → n ≡ 72 → digest o (tupAt o (drop at f)) .link ≡ Links.sounder (record { doc = record { 0 = fieldAt o f at 4 8 }; says = fieldAt o f at 2 6 })
   unfolding t k lineOf
   link-sounder e h = row-link Sounder _ e refl (omega arith)
 
   pub link-channel : kindOf (kindAt o (drop at f)) ≡ Channel → n ≡ 108
-      → digest o (tupAt o (drop at f)) .link ≡ Links.channel (record { 0 = fieldAt o f at 2 6 }) (record { 0 = fieldAt o f at 4 8 })
+      → digest o (tupAt o (drop at f)) .link ≡ Links.channel (record { id = record { 0 = fieldAt o f at 2 6 }; parent = record { 0 = fieldAt o f at 4 8 } })
   unfolding t k lineOf
   link-channel e h = row-link Channel _ e refl (omega arith)
 

@@ -86,8 +86,8 @@ unless false l = l
 -- and an attitude: time fraction, time, software channel
 abbrev pub linkBy : Kind → List Value → Link
 linkBy Signature vs = Links.none
-linkBy Sounder vs = Links.sounder (record { 0 = numberAt vs 1 }) (numberAt vs 0)
-linkBy Channel vs = Links.channel (record { 0 = numberAt vs 0 }) (record { 0 = numberAt vs 1 })
+linkBy Sounder vs = Links.sounder (record { doc = record { 0 = numberAt vs 1 }; says = numberAt vs 0 })
+linkBy Channel vs = Links.channel (record { id = record { 0 = numberAt vs 0 }; parent = record { 0 = numberAt vs 1 } })
 linkBy Position vs = Links.none
 linkBy Navigation vs = Links.none
 linkBy Attitude vs = unless (eqb (numberAt vs 2) 65535) (Links.names (record { 0 = numberAt vs 2 }))

@@ -23,7 +23,9 @@ use Rattle.frame.specs.Tuples.{tuplesOf}
 use Rattle.frame.proofs.Frames.{length-frame, tup-frame}
 use Rattle.frame.proofs.Files.{length-mark}
 use Rattle.frame.proofs.Tuples.{length-frames}
-use Rattle.links.specs.Links.{Link, Digest, Sounder, Channel, Links, start, placeOf, docOf, idOf, newSounders, newChannels, note}
+use Rattle.links.specs.declared.Sounder.{Sounder}
+use Rattle.links.specs.declared.Channel.{Channel}
+use Rattle.links.specs.Links.{Link, Digest, Links, start, placeOf, docOf, idOf, newSounders, newChannels, note}
 use Rattle.links.proofs.Linked.{Linked, linked-here}
 use Rattle.links.proofs.Parents.{Parents, upto, parents, steady-start}
 use Rattle.content.specs.Pings.{Ping, contentU, contentC}
@@ -31,7 +33,7 @@ use Rattle.content.specs.Items.{Item, ping, itemBy, itemOf, digestOf, digestIte
 use Rattle.content.proofs.Fine.{Sound}
 use Rattle.intake.specs.declared.Asked.{Asked}
 use Rattle.intake.specs.Check.{Course, begin, go, past, onward, after, turn, checkFile, sounderPlace, channelPlace}
-use Rattle.intake.specs.Asking.{courseTo, parentsIn, askItem, askCourse, askAccepted, askChecked, askAt}
+use Rattle.intake.specs.Asking.{noChannel, courseTo, parentsIn, askItem, askCourse, askAccepted, askChecked, askAt}
 use Rattle.intake.proofs.Turns.{parts-judged}
 use Rattle.demands.specs.Families.{Among, Family, channelIn, Listed, placeAfter, gives, Answered}
 use Rattle.demands.proofs.Declared.{earlier, lines, spots, line-at, spot-at}
@@ -104,64 +106,65 @@ module _ (o : Bool) where
 -- ---- each link that declares adds a place
 even-channels : (l : Link) (at : ℕ) → length (newChannels l) ≡ length (channelPlace l at)
 even-channels Link.none at = refl
-even-channels (Link.sounder d n) at = refl
-even-channels (Link.channel c d) at = refl
+even-channels (Link.sounder s) at = refl
+even-channels (Link.channel c) at = refl
 even-channels (Link.names c) at = refl
 
 even-sounders : (l : Link) (at : ℕ) → length (newSounders l) ≡ length (sounderPlace l at)
 even-sounders Link.none at = refl
-even-sounders (Link.sounder d n) at = refl
-even-sounders (Link.channel c d) at = refl
+even-sounders (Link.sounder s) at = refl
+even-sounders (Link.channel c) at = refl
 even-sounders (Link.names c) at = refl
 
 -- ---- what the course behind tuples gives
--- the parents of a channel, by the lists of declarations and of their places
-abbrev given : List Channel → List ℕ → List Sounder → List ℕ → SoftwareChannel → ℕ → Asked
-given cs ps ss qs c n =
-    let i = placeOf idOf (c .0) cs in
-    let d = getD cs i (record { id = c; parent = record { 0 = 0 } }) .parent in
+-- the parents of a channel, looked up by a number in the lists of declarations and of their places
+abbrev given : ℕ → List Channel → List ℕ → List Sounder → List ℕ → SoftwareChannel → ℕ → Asked
+given x cs ps ss qs c n =
+    let i = placeOf idOf x cs in
+    let d = getD cs i noChannel .parent in
     Asked.Parents c (getD ps i 0) d (getD qs (placeOf docOf (d .0) ss) 0) n
 
 module _ (o : Bool) (all : List Tup) (linked : Linked true start (digests o all)) (a : Among all) (c : SoftwareChannel) (g : Family o (a .before) c) (n : ℕ) where
-  lists : parentsIn (courseAfter o begin (a .before)) c n
-      ≡ given (lines newChannels o (a .before)) (spots channelPlace o 4 (a .before)) (lines newSounders o (a .before)) (spots sounderPlace o 4 (a .before)) c n
-  lists =
-      let xs = a .before in
-      λ i. given ((ap (λ (s : Links). s .channels) (after-links o begin xs) ∙ upto-channels o start xs) i) (after-channels o begin xs i)
-      ((ap (λ (s : Links). s .sounders) (after-links o begin xs) ∙ upto-sounders o start xs) i) (after-sounders o begin xs i) c n
-
-  -- the two tuples, among those before the ping
+  -- the two tuples, among those before the ping, and what they declare
   ofChannel : Among (a .before)
   ofChannel = g .channel .one
 
   ofSounder : Among (a .before)
   ofSounder = earlier (g .channel .one) (g .sounder .one)
 
-  doc : DocumentId
-  doc = g .channel .is .0
+  ch : Channel
+  ch = g .channel .is .it
 
-  channel-line : Channel
-  channel-line = record { id = c; parent = doc }
+  so : Sounder
+  so = g .sounder .is .it
 
-  sounder-line : Sounder
-  sounder-line = record { doc = doc; says = g .sounder .is .0 }
+  lists : parentsIn (courseAfter o begin (a .before)) c n
+      ≡ given (idOf ch) (lines newChannels o (a .before)) (spots channelPlace o 4 (a .before)) (lines newSounders o (a .before)) (spots sounderPlace o 4 (a .before)) c n
+  unfolding ch
+  lists =
+      let xs = a .before in
+      (λ i. given (c .0) ((ap (λ (s : Links). s .channels) (after-links o begin xs) ∙ upto-channels o start xs) i) (after-channels o begin xs i)
+      ((ap (λ (s : Links). s .sounders) (after-links o begin xs) ∙ upto-sounders o start xs) i) (after-sounders o begin xs i) c n)
+      ∙ ap (λ (x : SoftwareChannel). given (x .0) (lines newChannels o xs) (spots channelPlace o 4 xs) (lines newSounders o xs) (spots sounderPlace o 4 xs) c n) (sym (g .channel .is .named))
 
   given-parents : parentsIn (courseAfter o begin (a .before)) c n ≡ gives g n
-  unfolding ofChannel ofSounder doc channel-line sounder-line
+  unfolding ofChannel ofSounder ch so
   given-parents =
-      let cl = g .channel .is .1 in
-      let sl = g .sounder .is .1 in
-      let cf = channel-new o all linked c (earlier a ofChannel) (g .channel .is) in
-      let sf = sounder-new o all linked doc (earlier a ofSounder) (g .sounder .is) in
-      let cn : newChannels (digest o (ofChannel .it) .link) ≡ channel-line ∷ [] = ap newChannels cl in
+      let cl = g .channel .is .declares in
+      let sl = g .sounder .is .declares in
+      let cf = channel-new o all linked (ch .id) (earlier a ofChannel) (record { it = ch; declares = cl; named = refl }) in
+      let sf = sounder-new o all linked (so .doc) (earlier a ofSounder) (record { it = so; declares = sl; named = refl }) in
+      let cn : newChannels (digest o (ofChannel .it) .link) ≡ ch ∷ [] = ap newChannels cl in
       let cp : (i : ℕ) → channelPlace (digest o (ofChannel .it) .link) i ≡ i ∷ [] = λ i. ap (λ (l : Link). channelPlace l i) cl in
-      let sn : newSounders (digest o (ofSounder .it) .link) ≡ sounder-line ∷ [] = ap newSounders sl in
+      let sn : newSounders (digest o (ofSounder .it) .link) ≡ so ∷ [] = ap newSounders sl in
       let sp : (i : ℕ) → sounderPlace (digest o (ofSounder .it) .link) i ≡ i ∷ [] = λ i. ap (λ (l : Link). sounderPlace l i) sl in
-      let parent = ap (λ (x : Channel). x .parent) (line-at idOf newChannels channelPlace even-channels o 4 ofChannel channel-line cn cp cf (record { id = c; parent = record { 0 = 0 } })) in
-      let spot = spot-at idOf newChannels channelPlace even-channels o 4 ofChannel channel-line cn cp cf in
+      let line = line-at idOf newChannels channelPlace even-channels o 4 ofChannel ch cn cp cf noChannel in
+      let spot = spot-at idOf newChannels channelPlace even-channels o 4 ofChannel ch cn cp cf in
+      let under : DocumentId → ℕ = λ d. getD (spots sounderPlace o 4 (a .before)) (placeOf docOf (d .0) (lines newSounders o (a .before))) 0 in
       lists
-      ∙ (λ i. Asked.Parents c (spot i) (parent i) (getD (spots sounderPlace o 4 (a .before)) (placeOf docOf (parent i .0) (lines newSounders o (a .before))) 0) n)
-      ∙ ap (λ (q : ℕ). Asked.Parents c (placeAfter o (ofChannel .before)) doc q n) (spot-at docOf newSounders sounderPlace even-sounders o 4 ofSounder sounder-line sn sp sf)
+      ∙ (λ i. Asked.Parents c (spot i) (line i .parent) (under (line i .parent)) n)
+      ∙ ap (λ (q : ℕ). Asked.Parents c (placeAfter o (ofChannel .before)) (ch .parent) q n)
+      (ap under (sym (g .sounder .is .named)) ∙ spot-at docOf newSounders sounderPlace even-sounders o 4 ofSounder so sn sp sf)
 
 -- ---- the listed pings of an accepted file
 digests-append : (o : Bool) (xs ys : List Tup) → digests o (xs ++ ys) ≡ digests o xs ++ digests o ys

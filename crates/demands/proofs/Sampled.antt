@@ -42,8 +42,8 @@ unsaid q s h b = absurd (true≢false (sym h ∙ broken-silent q s b))
 
 silent-link : (k : Links) (l : Link) → Silent sampling (linkRules k l)
 silent-link k links.none = tt
-silent-link k (links.sounder d n) = (refl, (refl, tt))
-silent-link k (links.channel c d) = (refl, (refl, (refl, tt)))
+silent-link k (links.sounder s) = (refl, (refl, tt))
+silent-link k (links.channel c) = (refl, (refl, (refl, tt)))
 silent-link k (links.names c) = (refl, tt)
 
 -- ---- the check

@@ -11,6 +11,8 @@ use Rattle.layout.specs.declared.DocumentId.{DocumentId}
 use Rattle.frame.specs.Frames.{Tup, frames}
 use Rattle.frame.specs.Files.{isMsb}
 use Rattle.frame.specs.Tuples.{tuplesOf}
+use Rattle.links.specs.declared.Sounder.{Sounder}
+use Rattle.links.specs.declared.Channel.{Channel}
 use Rattle.links.specs.Links.{Link}
 use Rattle.content.specs.Pings.{Ping}
 use Rattle.content.specs.Items.{numberAt, digest}
@@ -32,17 +34,21 @@ pub record Sole (P : Tup → Type 0) (xs : List Tup) : Type 0 where
 
 -- ---- a family
 -- a channel tuple that declares c, and a sounder tuple that declares d
-abbrev pub ChannelTuple : Bool → SoftwareChannel → Tup → Type 0
-ChannelTuple o c t = (d : DocumentId) × (digest o t .link ≡ Link.channel c d)
+pub record ChannelTuple (o : Bool) (c : SoftwareChannel) (t : Tup) : Type 0 where
+  pub it : Channel
+  pub declares : digest o t .link ≡ Link.channel it
+  pub named : it .id ≡ c
 
-abbrev pub SounderTuple : Bool → DocumentId → Tup → Type 0
-SounderTuple o d t = (n : ℕ) × (digest o t .link ≡ Link.sounder d n)
+pub record SounderTuple (o : Bool) (d : DocumentId) (t : Tup) : Type 0 where
+  pub it : Sounder
+  pub declares : digest o t .link ≡ Link.sounder it
+  pub named : it .doc ≡ d
 
 -- the parents of what names a channel behind these tuples: the one tuple that declares it, and the one tuple before that which
 -- declares the sounder it names
 pub record Family (o : Bool) (xs : List Tup) (c : SoftwareChannel) : Type 0 where
   pub channel : Sole (ChannelTuple o c) xs
-  pub sounder : Sole (SounderTuple o (channel .is .0)) (channel .one .before)
+  pub sounder : Sole (SounderTuple o (channel .is .it .parent)) (channel .one .before)
 
 -- ---- a listed ping
 -- the channel that a ping's header names
@@ -60,7 +66,7 @@ placeAfter o xs = 4 + length (frames o xs)
 
 -- the parents and their places, for the answer
 abbrev pub gives : {o : Bool} {xs : List Tup} {c : SoftwareChannel} → Family o xs c → ℕ → Asked
-gives {o} {xs} {c} g n = Asked.Parents c (placeAfter o (g .channel .one .before)) (g .channel .is .0) (placeAfter o (g .sounder .one .before)) n
+gives {o} {xs} {c} g n = Asked.Parents c (placeAfter o (g .channel .one .before)) (g .channel .is .it .parent) (placeAfter o (g .sounder .one .before)) n
 
 -- what asking at a ping gives: the channel that it names, the channel's family, and the answer by these
 pub record Answered (f : List ℕ) (a : Among (tuplesOf f)) (n : ℕ) : Type 0 where

@@ -21,23 +21,26 @@ use Rattle.frame.specs.Frames.{Tup, kindAt, tupAt, framing}
 use Rattle.rules.proofs.Bools.{both-true}
 use Rattle.frame.proofs.Frames.{allowed-most}
 use Rattle.frame.proofs.Places.{Whole, framing-whole}
+use Rattle.links.specs.declared.Sounder.{Sounder}
+use Rattle.links.specs.declared.Channel.{Channel}
 use Rattle.links.specs.Links.{Link, signRules}
 use Rattle.links.specs.Links
-use Rattle.links.specs.inner.Tables.{sounderVerdict, channelVerdict, nameVerdict}
+use Rattle.links.specs.declared.LinkVerdict.{LinkVerdict}
+use Rattle.links.specs.declared.LinkVerdict.the-variants.{Linked, Faulty}
+use Rattle.links.specs.inner.Tables.{comparing, linking}
+use Rattle.links.proofs.Rows.{told-fine, told-fault}
 use Rattle.samples.specs.Judging.{judgedPairs, judgedWords}
 use Rattle.content.specs.Items.{identifiedBy, headRules, innerRules, unless, digest}
 use Rattle.content.proofs.Places.{by-code, fieldAt, fits-place, identifier-place, identified-other, link-sounder, link-channel, link-threshold, link-attitude, link-ping-U, link-ping-C, link-alone, inner-U, inner-C, inner-other}
-use Rattle.intake.specs.inner.Tallies.{Here, Fits, headVerdict, linkBy, linkVerdict, innerVerdict, ownVerdict, turnVerdict}
+use Rattle.intake.specs.declared.Tally.{Tally}
+use Rattle.intake.specs.inner.Tallies.{Tables, soundersBy, channelsBy, Here, Fits, sounderAt, channelAt, namedAt, headVerdict, linkVerdict, innerVerdict, ownVerdict, turnVerdict, said, compares, linkTold, turnTold}
 
--- the tuple at a place; whether its identifier is known; the channel that it names
+-- the tuple at a place; whether its identifier is known
 abbrev pub tupIn : Bool → List ℕ → ℕ → Tup
 tupIn o f at = tupAt o (drop at f)
 
 abbrev pub identifiedIn : Bool → List ℕ → ℕ → Bool
 identifiedIn o f at = identifiedBy (shapeOf (kindAt o (drop at f))) o (tupIn o f at)
-
-abbrev pub nameIn : Bool → List ℕ → ℕ → List ℕ → Verdict
-nameIn o f at ids = nameVerdict (record { 0 = fieldAt o f at 2 12 }) ids
 
 -- the type codes of a ping or a threshold
 abbrev pub Names : ℕ → Type 0
@@ -109,23 +112,6 @@ module _ {o : Bool} {f : List ℕ} {at n k : ℕ} (h : Here o f at n k) where
   pub no-identifier : (k ≡ 65535 → ⊥) → identifiedIn o f at ≡ true
   no-identifier a = identified-other o t (other a)
 
-  linked : {l : Link} (docs ids : List ℕ) → digest o t .link ≡ l → linkVerdict o t docs ids ≡ linkBy l docs ids
-  unfolding linkVerdict
-  linked docs ids e = ap (λ (l : Link). linkBy l docs ids) e
-
-  pub no-link : (docs ids : List ℕ) → (k ≡ 100 → ⊥) → (k ≡ 1000 → ⊥) → (k ≡ 40 → ⊥) → (Names k → ⊥) → linkVerdict o (tupIn o f at) docs ids ≡ Fine
-  no-link docs ids s c a m =
-      linked docs ids
-      (link-alone o t
-      (record {
-        sounder = other s;
-        channel = other c;
-        attitude = other a;
-        threshold = other (λ e. m (inr (inr e)));
-        pingU = other (λ e. m (inl e));
-        pingC = other (λ e. m (inr (inl e)));
-      }))
-
   pub no-inner : (k ≡ 10000 → ⊥) → (k ≡ 10010 → ⊥) → innerVerdict o (tupIn o f at) ≡ Fine
   unfolding innerVerdict
   no-inner a b = inner-other o t (other a) (other b)
@@ -151,40 +137,24 @@ module _ {o : Bool} {f : List ℕ} {at n k : ℕ} (h : Here o f at n k) where
     identifier-read e = identifier-place o f at n whole (kind-of e) (eqb-true n 24 (length-of e))
 
     -- what it declares
-    pub sounder-link : k ≡ 100 → digest o (tupIn o f at) .link ≡ Links.sounder (record { 0 = fieldAt o f at 4 8 }) (fieldAt o f at 2 6)
+    pub sounder-link : k ≡ 100 → digest o (tupIn o f at) .link ≡ Links.sounder (sounderAt o f at)
     unfolding kindOf inClass classes lineOf
     sounder-link e = link-sounder o f at n whole (kind-of e) (eqb-true n 72 (length-of e))
 
-    pub channel-link : k ≡ 1000 → digest o (tupIn o f at) .link ≡ Links.channel (record { 0 = fieldAt o f at 2 6 }) (record { 0 = fieldAt o f at 4 8 })
+    pub channel-link : k ≡ 1000 → digest o (tupIn o f at) .link ≡ Links.channel (channelAt o f at)
     unfolding kindOf inClass classes lineOf
     channel-link e = link-channel o f at n whole (kind-of e) (eqb-true n 108 (length-of e))
 
-    -- what links it
-    module _ (docs ids : List ℕ) where
-      pub sounder-place : k ≡ 100 → linkVerdict o (tupIn o f at) docs ids ≡ sounderVerdict (record { 0 = fieldAt o f at 4 8 }) docs
-      sounder-place e = linked docs ids (sounder-link e)
+    -- an attitude of all channels, and of one
+    attitude : {b : Bool} → k ≡ 40 → eqb (namedAt o f at .0) 65535 ≡ b → digest o (tupIn o f at) .link ≡ unless b (Links.names (namedAt o f at))
+    unfolding kindOf inClass classes lineOf
+    attitude e d = link-attitude o f at n whole (kind-of e) (eqb-true n 36 (length-of e)) ∙ ap (λ (b : Bool). unless b (Links.names (namedAt o f at))) d
 
-      pub channel-place : k ≡ 1000 → linkVerdict o (tupIn o f at) docs ids ≡ channelVerdict (record { 0 = fieldAt o f at 2 6 }) (record { 0 = fieldAt o f at 4 8 }) ids docs
-      channel-place e = linked docs ids (channel-link e)
-
-      -- an attitude of all channels, and of one
-      attitude : {b : Bool} → k ≡ 40 → eqb (fieldAt o f at 2 12) 65535 ≡ b → linkVerdict o t docs ids ≡ linkBy (unless b (Links.names (record { 0 = fieldAt o f at 2 12 }))) docs ids
-      unfolding kindOf inClass classes lineOf
-      attitude e d =
-          linked docs ids
-          (link-attitude o f at n whole (kind-of e) (eqb-true n 36 (length-of e)) ∙ ap (λ (b : Bool). unless b (Links.names (record { 0 = fieldAt o f at 2 12 }))) d)
-
-      pub attitude-all : k ≡ 40 → fieldAt o f at 2 12 ≡ 65535 → linkVerdict o (tupIn o f at) docs ids ≡ Fine
-      attitude-all e d = attitude e (eq-eqb _ _ d)
-
-      pub attitude-one : k ≡ 40 → (fieldAt o f at 2 12 ≡ 65535 → ⊥) → linkVerdict o (tupIn o f at) docs ids ≡ nameIn o f at ids
-      attitude-one e d = attitude e (ne-eqb _ _ d)
-
-      pub names-place : Names k → linkVerdict o (tupIn o f at) docs ids ≡ nameIn o f at ids
-      unfolding kindOf inClass classes lineOf
-      names-place =
-          ⊎-elim (λ e. linked docs ids (link-ping-U o f at n whole (kind-of e) (long-U e)))
-          (⊎-elim (λ e. linked docs ids (link-ping-C o f at n whole (kind-of e) (long-C e))) (λ e. linked docs ids (link-threshold o f at n whole (kind-of e) (eqb-true n 44 (length-of e)))))
+    names-link : Names k → digest o (tupIn o f at) .link ≡ Links.names (namedAt o f at)
+    unfolding kindOf inClass classes lineOf
+    names-link =
+        ⊎-elim (λ e. link-ping-U o f at n whole (kind-of e) (long-U e))
+        (⊎-elim (λ e. link-ping-C o f at n whole (kind-of e) (long-C e)) (λ e. link-threshold o f at n whole (kind-of e) (eqb-true n 44 (length-of e))))
 
     -- its samples, from behind the header to its last 8 bytes
     pub inner-pairs : k ≡ 10000 → innerVerdict o (tupIn o f at) ≡ judgedPairs o (take (at + n - 8 - (at + 24)) (drop (at + 24) f))
@@ -199,21 +169,111 @@ module _ {o : Bool} {f : List ℕ} {at n k : ℕ} (h : Here o f at n k) where
         let z : n - 36 ≡ at + n - 8 - (at + 28) = omega (arith, long-C e) in
         inner-C o f at n whole (kind-of e) (long-C e) ∙ ap (λ (i : ℕ). judgedWords o (fieldAt o f at 4 24) (take i (drop (at + 28) f))) z
 
+-- ---- what is told of its links where a tally stands, by its code
+module _ {o : Bool} {f : List ℕ} (w : Tally) (c : Tables) {n k : ℕ} (h : Here o f (w .at) n k) where
+  told : {l : Link} → digest o (tupIn o f (w .at)) .link ≡ l → linkTold o f w c ≡ linking (soundersBy w c) (channelsBy w c) l
+  unfolding linkTold
+  told e = ap (linking (soundersBy w c) (channelsBy w c)) e
+
+  -- nothing links it
+  alone : digest o (tupIn o f (w .at)) .link ≡ Links.none → Linked 0 ≡ linkTold o f w c
+  unfolding linking
+  alone e = sym (told e)
+
+  pub no-link : (k ≡ 100 → ⊥) → (k ≡ 1000 → ⊥) → (k ≡ 40 → ⊥) → (Names k → ⊥) → Linked 0 ≡ linkTold o f w c
+  no-link s c a m =
+      alone
+      (link-alone o (tupIn o f (w .at))
+      (record {
+        sounder = other h s;
+        channel = other h c;
+        attitude = other h a;
+        threshold = other h (λ e. m (inr (inr e)));
+        pingU = other h (λ e. m (inl e));
+        pingC = other h (λ e. m (inr (inl e)));
+      }))
+
+  module _ (g : Fits n k) where
+    pub sounder-told : k ≡ 100 → linking (soundersBy w c) [] (Links.sounder (sounderAt o f (w .at))) ≡ linkTold o f w c
+    unfolding linking
+    sounder-told e = sym (told (sounder-link h g e))
+
+    pub channel-told : k ≡ 1000 → linking (soundersBy w c) (channelsBy w c) (Links.channel (channelAt o f (w .at))) ≡ linkTold o f w c
+    channel-told e = sym (told (channel-link h g e))
+
+    pub attitude-all : k ≡ 40 → namedAt o f (w .at) .0 ≡ 65535 → Linked 0 ≡ linkTold o f w c
+    attitude-all e d = alone (attitude h g e (eq-eqb _ _ d))
+
+    -- what names a channel
+    named-told : digest o (tupIn o f (w .at)) .link ≡ Links.names (namedAt o f (w .at)) → linking [] (channelsBy w c) (Links.names (namedAt o f (w .at))) ≡ linkTold o f w c
+    unfolding linking
+    named-told e = sym (told e)
+
+    pub attitude-one : k ≡ 40 → (namedAt o f (w .at) .0 ≡ 65535 → ⊥) → linking [] (channelsBy w c) (Links.names (namedAt o f (w .at))) ≡ linkTold o f w c
+    attitude-one e d = named-told (attitude h g e (ne-eqb _ _ d))
+
+    pub names-told : Names k → linking [] (channelsBy w c) (Links.names (namedAt o f (w .at))) ≡ linkTold o f w c
+    names-told e = named-told (names-link h g e)
+
 -- ---- what is said of the bytes that are left, from the tuple's links on, from its head on, and from its frame on
-abbrev pub fromLinks : Bool → Bool → List ℕ → List ℕ → List ℕ → Verdict
-fromLinks o first docs ids r = both (linkVerdict o (tupAt o r) docs ids) (innerVerdict o (tupAt o r))
+abbrev pub fromLinks : Bool → Bool → List Sounder → List Channel → List ℕ → Verdict
+fromLinks o first ss cs r = both (linkVerdict o (tupAt o r) ss cs) (innerVerdict o (tupAt o r))
 
-abbrev pub fromHead : Bool → Bool → List ℕ → List ℕ → List ℕ → Verdict
-fromHead o first docs ids r = both (headVerdict o first (tupAt o r)) (fromLinks o first docs ids r)
+abbrev pub fromHead : Bool → Bool → List Sounder → List Channel → List ℕ → Verdict
+fromHead o first ss cs r = both (headVerdict o first (tupAt o r)) (fromLinks o first ss cs r)
 
-abbrev pub fromFrame : Bool → Bool → List ℕ → List ℕ → List ℕ → Verdict
-fromFrame o first docs ids r = both (framing o r) (fromHead o first docs ids r)
+abbrev pub fromFrame : Bool → Bool → List Sounder → List Channel → List ℕ → Verdict
+fromFrame o first ss cs r = both (framing o r) (fromHead o first ss cs r)
 
-module _ (o first : Bool) (docs ids f : List ℕ) (at : ℕ) where
-  pub none-left : length f ≡ at → Fault 4 0 ≡ turnVerdict o first docs ids (drop at f)
+module _ (o first : Bool) (ss : List Sounder) (cs : List Channel) (f : List ℕ) (at : ℕ) where
+  pub none-left : length f ≡ at → Fault 4 0 ≡ turnVerdict o first ss cs (drop at f)
   unfolding turnVerdict
   none-left e = let z : length (drop at f) ≡ 0 = length-drop at f ∙ omega arith in rw z
 
-  pub some-left : at ≤ length f → (length f ≡ at → ⊥) → fromFrame o first docs ids (drop at f) ≡ turnVerdict o first docs ids (drop at f)
+  pub some-left : at ≤ length f → (length f ≡ at → ⊥) → fromFrame o first ss cs (drop at f) ≡ turnVerdict o first ss cs (drop at f)
   unfolding turnVerdict
   some-left low e = rw (ne-eqb (length (drop at f)) 0 (λ z. e (omega (arith, length-drop at f))))
+
+-- ---- what is told where a tally stands, by the first of its verdicts that finds a fault, or by all of them
+module _ (o : Bool) (f : List ℕ) (w : Tally) (c : Tables) where
+  told-all : {v : Verdict} → v ≡ said o f w c → comparing v (compares o f w c) ≡ turnTold o f w c
+  unfolding turnTold
+  told-all e = ap (λ (v : Verdict). comparing v (compares o f w c)) e
+
+  pub told-stop : {a b : ℕ} (v u : Verdict) → v ≡ Fault a b → both v u ≡ said o f w c → comparing v 0 ≡ turnTold o f w c
+  told-stop v u e q = ap (λ (x : Verdict). comparing x 0) e ∙ told-all (ap (λ (x : Verdict). both x u) (sym e) ∙ q)
+
+  abbrev linkSaid : Verdict
+  linkSaid = linkVerdict o (tupIn o f (w .at)) (soundersBy w c) (channelsBy w c)
+
+  abbrev innerSaid : Verdict
+  innerSaid = innerVerdict o (tupIn o f (w .at))
+
+  link-told : linkTold o f w c ≡ comparing linkSaid (compares o f w c)
+  unfolding linkTold linking linkVerdict
+  link-told = refl
+
+  module _ {r : LinkVerdict} (e : r ≡ linkTold o f w c) (q : both linkSaid innerSaid ≡ said o f w c) where
+    pub told-unlinked : {a b : ℕ} → r ≡ Faulty a b → r ≡ turnTold o f w c
+    told-unlinked {a} {b} d =
+        let v = told-fault linkSaid (compares o f w c) a b (sym (e ∙ link-told) ∙ d) in
+        d ∙ told-all (ap (λ (x : Verdict). both x innerSaid) (sym v) ∙ q)
+
+    module _ {n : ℕ} (d : r ≡ Linked n) where
+      pub told-linked : comparing innerSaid n ≡ turnTold o f w c
+      told-linked =
+          let v = told-fine linkSaid (compares o f w c) n (sym (e ∙ link-told) ∙ d) in
+          ap (comparing innerSaid) (sym (v .1)) ∙ told-all (ap (λ (x : Verdict). both x innerSaid) (sym (v .0)) ∙ q)
+
+      -- of a tuple without samples
+      pub told-alone : innerSaid ≡ Fine → Linked n ≡ turnTold o f w c
+      told-alone i = ap (λ (x : Verdict). comparing x n) (sym i) ∙ told-linked
+
+  -- what a turn is told, it says
+  pub turn-fine : {r : LinkVerdict} {n : ℕ} → r ≡ turnTold o f w c → r ≡ Linked n → said o f w c ≡ Fine
+  unfolding turnTold
+  turn-fine {n = n} e d = told-fine (said o f w c) (compares o f w c) n (sym e ∙ d) .0
+
+  pub turn-fault : {r : LinkVerdict} {a b : ℕ} → r ≡ turnTold o f w c → r ≡ Faulty a b → said o f w c ≡ Fault a b
+  unfolding turnTold
+  turn-fault {a = a} {b = b} e d = told-fault (said o f w c) (compares o f w c) a b (sym e ∙ d)

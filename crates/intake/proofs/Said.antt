@@ -28,11 +28,11 @@ use Rattle.samples.proofs.Turning.{length-all}
 use Rattle.samples.proofs.Words.{pairs-few}
 use Rattle.samples.proofs.Values.{bad-most}
 use Rattle.links.specs.Links
-use Rattle.links.specs.Links.{Link, mostSounders, mostChannels, signRules}
-use Rattle.links.specs.inner.Tables.{member, sounderVerdict, channelVerdict, nameVerdict}
+use Rattle.links.specs.declared.Sounder.{Sounder}
+use Rattle.links.specs.declared.Channel.{Channel}
+use Rattle.links.specs.Links.{Link, mostSounders, mostChannels, signRules, rulesAmong}
 use Rattle.content.specs.Items.{rowIn, itemBy, itemOf, unless, linkBy, numberAt, digestOf, digestItem, digest, headRules, innerBy, innerRules}
 use Rattle.content.specs.Pings.{headU, headC, wordsIn, contentU}
-use Rattle.intake.specs.inner.Tallies
 use Rattle.intake.specs.inner.Tallies.{headVerdict, linkVerdict, innerVerdict, ownVerdict, turnVerdict}
 use Rattle.intake.proofs.Turns.{emptied}
 
@@ -43,19 +43,11 @@ far = 262172
 here-near : 0 ≤ far
 here-near = lit≤ tt
 
--- the rules behind the verdicts on a link
-abbrev sounderRules : DocumentId → List ℕ → List (Rule Breach)
-sounderRules d docs = (member (d .0) docs ⇒ 12 byte 0) ∷ (leb mostSounders (length docs) ⇒ 14 byte 0) ∷ []
-
-abbrev channelRules : SoftwareChannel → DocumentId → List ℕ → List ℕ → List (Rule Breach)
-channelRules i d ids docs = (member (i .0) ids ⇒ 12 byte 0) ∷ (leb mostChannels (length ids) ⇒ 14 byte 0) ∷ (not (member (d .0) docs) ⇒ 13 byte 0) ∷ []
-
-link-near : (l : Link) (docs ids : List ℕ) → Near far (Tallies.linkBy l docs ids)
-unfolding sounderVerdict channelVerdict nameVerdict
-link-near Links.none docs ids = tt
-link-near (Links.sounder d n) docs ids = near-rules far (sounderRules d docs) (here-near, (here-near, tt))
-link-near (Links.channel i d) docs ids = near-rules far (channelRules i d ids docs) (here-near, (here-near, (here-near, tt)))
-link-near (Links.names i) docs ids = near-rules far ((not (member (i .0) ids) ⇒ 13 byte 0) ∷ []) (here-near, tt)
+link-near : (ss : List Sounder) (cs : List Channel) (l : Link) → AllNear far (rulesAmong ss cs l)
+link-near ss cs Links.none = tt
+link-near ss cs (Links.sounder s) = (here-near, (here-near, tt))
+link-near ss cs (Links.channel c) = (here-near, (here-near, (here-near, tt)))
+link-near ss cs (Links.names c) = (here-near, tt)
 
 module _ (o : Bool) (r : List ℕ) where
   abbrev front : Tup
@@ -102,53 +94,51 @@ module _ (o : Bool) (r : List ℕ) where
   pub alone-near : Near far (both (framing o r) (ownVerdict o front))
   alone-near = near-both far (framing o r) (ownVerdict o front) frame-near own-near
 
-  module _ (first : Bool) (docs ids : List ℕ) where
-    turn-near : Near far (turnVerdict o first docs ids r)
+  module _ (first : Bool) (ss : List Sounder) (cs : List Channel) where
+    turn-near : Near far (turnVerdict o first ss cs r)
     unfolding turnVerdict headVerdict linkVerdict innerVerdict
     turn-near =
         let sign = judged (signRules first (digest o front)) in
         let head = judged (headRules o front) in
-        let link = Tallies.linkBy (digest o front .link) docs ids in
+        let link = judged (rulesAmong ss cs (digest o front .link)) in
         let inner = judged (innerRules o front) in
         near-both far (emptied r) (both (framing o r) (both (both sign head) (both link inner))) (near-rules far ((eqb (length r) 0 ⇒ 4 byte 0) ∷ []) (here-near, tt))
         (λ _. near-both far (framing o r) (both (both sign head) (both link inner)) frame-near
         (λ e. near-both far (both sign head) (both link inner)
         (near-both far sign head (near-rules far (signRules first (digest o front)) (here-near, tt)) (λ _. near-rules far (headRules o front) head-near))
-        (λ _. near-both far link inner (link-near (digest o front .link) docs ids) (λ _. near-rules far (innerRules o front) (inner-near e)))))
+        (λ _. near-both far link inner (near-rules far (rulesAmong ss cs (digest o front .link)) (link-near ss cs (digest o front .link))) (λ _. near-rules far (innerRules o front) (inner-near e)))))
 
-    pub fault-near : (c p : ℕ) → turnVerdict o first docs ids r ≡ Fault c p → p ≤ far
+    pub fault-near : (c p : ℕ) → turnVerdict o first ss cs r ≡ Fault c p → p ≤ far
     fault-near c p h = near-fault far turn-near h
 
 -- ---- a fine verdict, part by part
-pub record FineParts (o first : Bool) (docs ids r : List ℕ) : Type 0 where
+pub record FineParts (o first : Bool) (ss : List Sounder) (cs : List Channel) (r : List ℕ) : Type 0 where
   pub framed : framing o r ≡ Fine
   pub headed : headVerdict o first (tupAt o r) ≡ Fine
-  pub linked : linkVerdict o (tupAt o r) docs ids ≡ Fine
+  pub linked : linkVerdict o (tupAt o r) ss cs ≡ Fine
 
-pub fine-parts : (o first : Bool) (docs ids r : List ℕ) → turnVerdict o first docs ids r ≡ Fine → FineParts o first docs ids r
+pub fine-parts : (o first : Bool) (ss : List Sounder) (cs : List Channel) (r : List ℕ) → turnVerdict o first ss cs r ≡ Fine → FineParts o first ss cs r
 unfolding turnVerdict
-fine-parts o first docs ids r e =
+fine-parts o first ss cs r e =
     let head = headVerdict o first (tupAt o r) in
-    let link = linkVerdict o (tupAt o r) docs ids in
+    let link = linkVerdict o (tupAt o r) ss cs in
     let a = both-right (emptied r) _ e in
     let b = both-right (framing o r) _ a in
     record { framed = both-left (framing o r) _ a; headed = both-left head _ b; linked = both-left link _ (both-right head _ b) }
 
 -- on a sounder or a channel it tells that there is room for one
-pub sounder-room : (d : DocumentId) (docs : List ℕ) → sounderVerdict d docs ≡ Fine → length docs < 16
-unfolding sounderVerdict
-sounder-room d docs e = leb-false 16 _ (passes (sounderRules d docs) e .1 .0)
+pub sounder-room : (ss : List Sounder) (cs : List Channel) (s : Sounder) → judged (rulesAmong ss cs (Links.sounder s)) ≡ Fine → length ss < mostSounders
+sounder-room ss cs s e = leb-false mostSounders _ (passes (rulesAmong ss cs (Links.sounder s)) e .1 .0)
 
-pub channel-room : (i : SoftwareChannel) (d : DocumentId) (ids docs : List ℕ) → channelVerdict i d ids docs ≡ Fine → length ids < 64
-unfolding channelVerdict
-channel-room i d ids docs e = leb-false 64 _ (passes (channelRules i d ids docs) e .1 .0)
+pub channel-room : (ss : List Sounder) (cs : List Channel) (c : Channel) → judged (rulesAmong ss cs (Links.channel c)) ≡ Fine → length cs < mostChannels
+channel-room ss cs c e = leb-false mostChannels _ (passes (rulesAmong ss cs (Links.channel c)) e .1 .0)
 
 -- ---- what a tuple declares
 -- a link that declares nothing
 abbrev pub Quiet : Link → Type 0
 Quiet Links.none = Unit {0}
-Quiet (Links.sounder d n) = ⊥
-Quiet (Links.channel c d) = ⊥
+Quiet (Links.sounder s) = ⊥
+Quiet (Links.channel c) = ⊥
 Quiet (Links.names c) = Unit {0}
 
 quiet-unless : (b : Bool) (l : Link) → Quiet l → Quiet (unless b l)

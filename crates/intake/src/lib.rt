@@ -7,18 +7,21 @@ use layout::Verdict;
 use layout::codes;
 use layout::types;
 use links::CHANNELS;
+use links::Channel;
+use links::LinkVerdict;
+use links::Row;
 use links::SOUNDERS;
+use links::Sounder;
 ghost use mathlib.Core.Path.{_≡_};
 ghost use Prim.Native.Nat.{_+_, _^_, _<_, _≤_};
 ghost use lib.Dec.{eqb};
-ghost use lib.ListN.{length, take, drop, set};
+ghost use lib.ListN.{length, drop};
 ghost use mathlib.Core.Bool.{_&&_, _||_};
-ghost use Rattle.order.specs.Order.{numOf};
 ghost use Rattle.frame.specs.Frames.{tupAt};
 ghost use Rattle.frame.specs.Files.{limit};
-ghost use Rattle.links.specs.inner.Tables.{nameVerdict};
-ghost use Rattle.intake.specs.inner.Tallies.{Here, Fits, headVerdict, linkVerdict, innerVerdict, ownVerdict, turnVerdict, tallyBegin, tallyPast, Standing, Ended, endAnswer, columns, Sized, TurnedTo, RunTo, AskIn, askColumns};
-ghost use Rattle.intake.specs.Check.{checkFile, Checked};
+ghost use Rattle.links.specs.Links.{Steady};
+ghost use Rattle.intake.specs.inner.Tallies.{Here, Fits, headVerdict, innerVerdict, ownVerdict, sounderAt, channelAt, namedAt, linkTold, turnTold, tallyBegin, tallyPast, Standing, Held, Tables, tables, Sized, courseOf, TurnedTo, RunTo, AskIn, askWhere};
+ghost use Rattle.intake.specs.Check.{checkFile, ending, Checked};
 ghost use Rattle.intake.specs.Asking.{AskedFor, askAccepted};
 
 // The places of the fields that link tuples, behind a tuple's first byte.
@@ -53,12 +56,14 @@ pub enum Asked {
     },
 }
 
-// Where the check stands: its place, the tuples counted, the sounders and the channels declared, the classes seen.
+// Where the check stands: its place, the tuples counted, the sounders and the channels declared, the line where the next channel
+// is looked for first, the classes seen.
 struct Tally {
     at: usize,
     count: usize,
     sounders: usize,
     channels: usize,
+    near: usize,
     position: bool,
     sounder: bool,
     channel: bool,
@@ -92,57 +97,69 @@ fn judge_head(file: &[u8], at: usize, msb: bool, whole: usize, code: u16, first:
     Verdict::Fine
 }
 
-// 13, of a tuple that names a channel.
-fn judge_name(file: &[u8], at: usize, msb: bool, ids: &[u16], channels: usize) -> Verdict
-    requires { ⌜ at + 14 ≤ length (now file) ⌝ }
-    requires { ⌜ channels ≤ length (now ids) ⌝ }
-    ensures { λ r. ⌜ r ≡ nameVerdict (record { 0 = numOf msb (take 2 (drop (at + 12) (now (file .entry)))) }) (take channels (now (ids .entry))) ⌝ }
+// What the sounder tuple at a place declares.
+fn sounder_at(file: &[u8], at: usize, msb: bool) -> Sounder
+    requires { ⌜ at + 16 ≤ length (now file) ⌝ }
+    ensures { λ r. ⌜ r ≡ sounderAt msb (now (file .entry)) at ⌝ }
 {
-    links::judge_name(
-        ids,
-        channels,
-        SoftwareChannel(order::read2(file, at + NAMED_CHANNEL, msb)),
-    )
+    Sounder {
+        doc: DocumentId(order::read4(file, at + DOCUMENT, msb)),
+        says: order::read2(file, at + NUMBER_OF_CHANNELS, msb),
+    }
 }
 
-// 12, 14 and 13, of the tuple at a place.
+// What the channel tuple at a place declares.
+fn channel_at(file: &[u8], at: usize, msb: bool) -> Channel
+    requires { ⌜ at + 16 ≤ length (now file) ⌝ }
+    ensures { λ r. ⌜ r ≡ channelAt msb (now (file .entry)) at ⌝ }
+{
+    Channel {
+        id: SoftwareChannel(order::read2(file, at + OWN_CHANNEL, msb)),
+        parent: DocumentId(order::read4(file, at + DOCUMENT, msb)),
+    }
+}
+
+// The channel that the tuple at a place names.
+fn named_at(file: &[u8], at: usize, msb: bool) -> SoftwareChannel
+    requires { ⌜ at + 16 ≤ length (now file) ⌝ }
+    ensures { λ r. ⌜ r ≡ namedAt msb (now (file .entry)) at ⌝ }
+{
+    SoftwareChannel(order::read2(file, at + NAMED_CHANNEL, msb))
+}
+
+// 12, 14 and 13, of the tuple where the tally stands.
 fn judge_links(
     file: &[u8],
-    at: usize,
     msb: bool,
+    w: Tally,
     whole: usize,
     code: u16,
-    docs: &[u32],
-    sounders: usize,
-    ids: &[u16],
-    channels: usize,
-) -> Verdict
-    requires { ⌜ Here msb (now file) at whole code ⌝ }
+    sounders: &[Row],
+    channels: &[Row],
+) -> LinkVerdict
+    requires { ⌜ Here msb (now file) (w .at) whole code ⌝ }
     requires { ⌜ Fits whole code ⌝ }
-    requires { ⌜ sounders ≤ length (now docs) ⌝ }
-    requires { ⌜ channels ≤ length (now ids) ⌝ }
-    ensures { λ r. ⌜ r ≡ linkVerdict msb (tupAt msb (drop at (now (file .entry)))) (take sounders (now (docs .entry))) (take channels (now (ids .entry))) ⌝ }
+    requires { ⌜ Held w (tables (now sounders) (now channels)) ⌝ }
+    ensures { λ r. ⌜ r ≡ linkTold msb (now (file .entry)) w (tables (now (sounders .entry)) (now (channels .entry))) ⌝ }
 {
+    let at = w.at;
     match code {
-        types::SOUNDER => {
-            let id = DocumentId(order::read4(file, at + DOCUMENT, msb));
-            links::judge_sounder(docs, sounders, id)
-        }
+        types::SOUNDER => { links::judge_sounder(sounders, w.sounders, sounder_at(file, at, msb)) }
         types::CHANNEL => {
-            let id = SoftwareChannel(order::read2(file, at + OWN_CHANNEL, msb));
-            let parent = DocumentId(order::read4(file, at + DOCUMENT, msb));
-            links::judge_channel(ids, channels, docs, sounders, id, parent)
+            let it = channel_at(file, at, msb);
+            links::judge_channel(sounders, w.sounders, channels, w.channels, it)
         }
         types::ATTITUDE => {
-            if order::read2(file, at + NAMED_CHANNEL, msb) == ALL_CHANNELS {
-                return Verdict::Fine;
+            let id = named_at(file, at, msb);
+            if id.0 == ALL_CHANNELS {
+                return LinkVerdict::Linked { compared: 0 };
             }
-            judge_name(file, at, msb, ids, channels)
+            links::judge_name(channels, w.channels, id, w.near)
         }
         types::THRESHOLD | types::PING_U | types::PING_C => {
-            judge_name(file, at, msb, ids, channels)
+            links::judge_name(channels, w.channels, named_at(file, at, msb), w.near)
         }
-        _ => Verdict::Fine,
+        _ => LinkVerdict::Linked { compared: 0 },
     }
 }
 
@@ -163,43 +180,36 @@ fn judge_inner(file: &[u8], at: usize, msb: bool, whole: usize, code: u16) -> Ve
     }
 }
 
-// What the rules say of the tuple at a place: 4; 3, 5, 3, 6; 7; 9, 8; 12, 14, 13; 11; 23, or 24 and 25.
-fn judge(
-    file: &[u8],
-    msb: bool,
-    at: usize,
-    first: bool,
-    docs: &[u32],
-    sounders: usize,
-    ids: &[u16],
-    channels: usize,
-) -> Verdict
-    requires { ⌜ at ≤ length (now file) ⌝ }
-    requires { ⌜ sounders ≤ length (now docs) ⌝ }
-    requires { ⌜ channels ≤ length (now ids) ⌝ }
-    ensures { λ r. ⌜ r ≡ turnVerdict msb first (take sounders (now (docs .entry))) (take channels (now (ids .entry))) (drop at (now (file .entry))) ⌝ }
+// What the rules say of the tuple where the tally stands: 4; 3, 5, 3, 6; 7; 9, 8; 12, 14, 13; 11; 23, or 24 and 25.
+fn judge(file: &[u8], msb: bool, w: Tally, sounders: &[Row], channels: &[Row]) -> LinkVerdict
+    requires { ⌜ w .at ≤ length (now file) ⌝ }
+    requires { ⌜ Held w (tables (now sounders) (now channels)) ⌝ }
+    ensures { λ r. ⌜ r ≡ turnTold msb (now (file .entry)) w (tables (now (sounders .entry)) (now (channels .entry))) ⌝ }
 {
+    let at = w.at;
     if file.len() == at {
-        return layout::fault(codes::NO_END);
+        return links::comparing(layout::fault(codes::NO_END), 0);
     }
     let framed = frame::judge_frame(file, at, msb);
     let Verdict::Fine = framed else {
-        return framed;
+        return links::comparing(framed, 0);
     };
     let whole = frame::length_at(file, at, msb);
     let code = frame::kind_at(file, at, msb);
-    let headed = judge_head(file, at, msb, whole, code, first);
+    let headed = judge_head(file, at, msb, whole, code, w.count == 0);
     let Verdict::Fine = headed else {
-        return headed;
+        return links::comparing(headed, 0);
     };
-    let linked = judge_links(file, at, msb, whole, code, docs, sounders, ids, channels);
-    let Verdict::Fine = linked else {
+    let linked = judge_links(file, msb, w, whole, code, sounders, channels);
+    let LinkVerdict::Linked { compared } = linked else {
         return linked;
     };
     // what judges samples isn't inlined, and so it is called for pings alone
     match code {
-        types::PING_U | types::PING_C => judge_inner(file, at, msb, whole, code),
-        _ => Verdict::Fine,
+        types::PING_U | types::PING_C => {
+            links::comparing(judge_inner(file, at, msb, whole, code), compared)
+        }
+        _ => linked,
     }
 }
 
@@ -221,6 +231,15 @@ fn either(a: bool, b: bool) -> bool
     if a { true } else { b }
 }
 
+// The line behind the last channel found; a tuple that links nothing leaves it. No promise rests on it: it says only where to look
+// first.
+fn nearer(near: usize, compared: usize) -> usize {
+    if compared == 0 {
+        return near;
+    }
+    compared
+}
+
 impl Tally {
     // Behind the mark.
     fn begin() -> Tally
@@ -231,6 +250,7 @@ impl Tally {
             count: 0,
             sounders: 0,
             channels: 0,
+            near: 0,
             position: false,
             sounder: false,
             channel: false,
@@ -239,15 +259,16 @@ impl Tally {
     }
 
     // Past a tuple, which is counted with its class.
-    fn past(self, whole: usize, code: u16) -> Tally
+    fn past(self, whole: usize, code: u16, compared: usize) -> Tally
         requires { ⌜ (self .at + whole < 2 ^ 32) × (self .count < 2 ^ 32) ⌝ }
-        ensures { λ r. ⌜ r ≡ tallyPast self whole code ⌝ }
+        ensures { λ r. ⌜ r ≡ tallyPast self whole code (r .near) ⌝ }
     {
         Tally {
             at: self.at + whole,
             count: self.count + 1,
             sounders: self.sounders,
             channels: self.channels,
+            near: nearer(self.near, compared),
             position: either(self.position, layout::in_class(layout::POSITION, code)),
             sounder: either(self.sounder, layout::in_class(layout::SOUNDER, code)),
             channel: either(self.channel, layout::in_class(layout::CHANNEL, code)),
@@ -270,59 +291,11 @@ impl Tally {
     }
 }
 
-// Declares a sounder on a line of its columns.
-fn declare_sounder(
-    file: &[u8],
-    at: usize,
-    msb: bool,
-    line: usize,
-    docs: &mut [u32; SOUNDERS],
-    says: &mut [u16; SOUNDERS],
-    places: &mut [usize; SOUNDERS],
-)
-    requires { ⌜ at + 12 ≤ length (now file) ⌝ }
-    requires { ⌜ line < 16 ⌝ }
-    ensures { λ _. ⌜ now (docs .exit) ≡ set (now (docs .entry)) line (numOf msb (take 4 (drop (at + 8) (now (file .entry))))) ⌝ }
-    ensures { λ _. ⌜ now (says .exit) ≡ set (now (says .entry)) line (numOf msb (take 2 (drop (at + 6) (now (file .entry))))) ⌝ }
-    ensures { λ _. ⌜ now (places .exit) ≡ set (now (places .entry)) line at ⌝ }
-{
-    docs[line] = order::read4(file, at + DOCUMENT, msb);
-    says[line] = order::read2(file, at + NUMBER_OF_CHANNELS, msb);
-    places[line] = at;
-}
-
-// Declares a channel on a line of its columns.
-fn declare_channel(
-    file: &[u8],
-    at: usize,
-    msb: bool,
-    line: usize,
-    ids: &mut [u16; CHANNELS],
-    parents: &mut [u32; CHANNELS],
-    places: &mut [usize; CHANNELS],
-)
-    requires { ⌜ at + 12 ≤ length (now file) ⌝ }
-    requires { ⌜ line < 64 ⌝ }
-    ensures { λ _. ⌜ now (ids .exit) ≡ set (now (ids .entry)) line (numOf msb (take 2 (drop (at + 6) (now (file .entry))))) ⌝ }
-    ensures { λ _. ⌜ now (parents .exit) ≡ set (now (parents .entry)) line (numOf msb (take 4 (drop (at + 8) (now (file .entry))))) ⌝ }
-    ensures { λ _. ⌜ now (places .exit) ≡ set (now (places .entry)) line at ⌝ }
-{
-    ids[line] = order::read2(file, at + OWN_CHANNEL, msb);
-    parents[line] = order::read4(file, at + DOCUMENT, msb);
-    places[line] = at;
-}
-
 // 15, 16 and 17, behind the end of file.
-fn end(
-    file: &[u8],
-    w: Tally,
-    docs: &[u32],
-    says: &[u16],
-    places: &[usize],
-    parents: &[u32],
-) -> Answer
-    requires { ⌜ Ended w (now docs) (now says) (now places) (now parents) ⌝ }
-    ensures { λ r. ⌜ r ≡ endAnswer (now (file .entry)) w (now (docs .entry)) (now (says .entry)) (now (places .entry)) (now (parents .entry)) ⌝ }
+fn end(file: &[u8], w: Tally, sounders: &[Row], channels: &[Row]) -> Answer
+    requires { ⌜ w .sounders ≤ length (now sounders) ⌝ }
+    requires { ⌜ w .channels ≤ length (now channels) ⌝ }
+    ensures { λ r. ⌜ r ≡ ending (now (file .entry)) (courseOf w (tables (now (sounders .entry)) (now (channels .entry)))) ⌝ }
 {
     let at = w.at;
     let n = file.len();
@@ -332,9 +305,9 @@ fn end(
     if !w.complete() {
         return layout::refuse(codes::CLASS_ABSENT, n);
     }
-    let wrong = links::first_wrong(docs, says, w.sounders, parents, w.channels);
+    let wrong = links::first_wrong(sounders, w.sounders, channels, w.channels);
     if wrong < w.sounders {
-        let place = places[wrong];
+        let place = links::wide(sounders[wrong][links::PLACE]);
         return layout::refuse(codes::WRONG_COUNT, place);
     }
     layout::accept(w.count, 0)
@@ -345,42 +318,37 @@ fn turn(
     file: &[u8],
     msb: bool,
     w: Tally,
-    docs: &mut [u32; SOUNDERS],
-    says: &mut [u16; SOUNDERS],
-    sounder_places: &mut [usize; SOUNDERS],
-    ids: &mut [u16; CHANNELS],
-    parents: &mut [u32; CHANNELS],
-    channel_places: &mut [usize; CHANNELS],
+    sounders: &mut [Row; SOUNDERS],
+    channels: &mut [Row; CHANNELS],
 ) -> Turned
     requires { ⌜ Standing (now file) w ⌝ }
+    requires { ⌜ Steady (courseOf w (tables (now sounders) (now channels)) .links) ⌝ }
     requires { ⌜ length (now file) ≤ limit ⌝ }
-    requires { ⌜ Sized (columns (now docs) (now says) (now «sounder_places») (now ids) (now parents) (now «channel_places»)) ⌝ }
+    requires { ⌜ Sized (tables (now sounders) (now channels)) ⌝ }
     ensures { λ r. ⌜ TurnedTo msb (now (file .entry)) w
-        (columns (now (docs .entry)) (now (says .entry)) (now («sounder_places» .entry)) (now (ids .entry)) (now (parents .entry)) (now («channel_places» .entry)))
+        (tables (now (sounders .entry)) (now (channels .entry)))
         r
-        (columns (now (docs .exit)) (now (says .exit)) (now («sounder_places» .exit)) (now (ids .exit)) (now (parents .exit)) (now («channel_places» .exit))) ⌝ }
+        (tables (now (sounders .exit)) (now (channels .exit))) ⌝ }
 {
     let at = w.at;
-    let line = w.sounders;
-    let entry = w.channels;
-    match judge(file, msb, at, w.count == 0, docs, line, ids, entry) {
-        Verdict::Fault { code, offset } => Turned::Done(layout::refuse(code, at + offset)),
-        Verdict::Fine => {
+    match judge(file, msb, w, sounders, channels) {
+        LinkVerdict::Faulty { code, offset } => Turned::Done(layout::refuse(code, at + offset)),
+        LinkVerdict::Linked { compared } => {
             let whole = frame::length_at(file, at, msb);
             let code = frame::kind_at(file, at, msb);
-            let mut next = w.past(whole, code);
+            let mut next = w.past(whole, code, compared);
             if code == types::SOUNDER {
-                declare_sounder(file, at, msb, line, docs, says, sounder_places);
-                next.sounders = line + 1;
+                links::put_sounder(sounders, w.sounders, sounder_at(file, at, msb), at);
+                next.sounders = w.sounders + 1;
                 return Turned::On(next);
             }
             if code == types::CHANNEL {
-                declare_channel(file, at, msb, entry, ids, parents, channel_places);
-                next.channels = entry + 1;
+                links::put_channel(channels, w.channels, channel_at(file, at, msb), at);
+                next.channels = w.channels + 1;
                 return Turned::On(next);
             }
             if code == types::FILE_END {
-                return Turned::Done(end(file, next, docs, says, sounder_places, parents));
+                return Turned::Done(end(file, next, sounders, channels));
             }
             Turned::On(next)
         }
@@ -392,32 +360,18 @@ fn run(
     file: &[u8],
     msb: bool,
     until: usize,
-    docs: &mut [u32; SOUNDERS],
-    says: &mut [u16; SOUNDERS],
-    sounder_places: &mut [usize; SOUNDERS],
-    ids: &mut [u16; CHANNELS],
-    parents: &mut [u32; CHANNELS],
-    channel_places: &mut [usize; CHANNELS],
+    sounders: &mut [Row; SOUNDERS],
+    channels: &mut [Row; CHANNELS],
 ) -> Turned
     requires { ⌜ 4 ≤ length (now file) ⌝ }
     requires { ⌜ length (now file) ≤ limit ⌝ }
-    requires { ⌜ Sized (columns (now docs) (now says) (now «sounder_places») (now ids) (now parents) (now «channel_places»)) ⌝ }
+    requires { ⌜ Sized (tables (now sounders) (now channels)) ⌝ }
     ensures { λ r. ⌜ RunTo msb (now (file .entry)) until r
-        (columns (now (docs .exit)) (now (says .exit)) (now («sounder_places» .exit)) (now (ids .exit)) (now (parents .exit)) (now («channel_places» .exit))) ⌝ }
+        (tables (now (sounders .exit)) (now (channels .exit))) ⌝ }
 {
     let mut w = Tally::begin();
     while w.at != until {
-        match turn(
-            file,
-            msb,
-            w,
-            docs,
-            says,
-            sounder_places,
-            ids,
-            parents,
-            channel_places,
-        ) {
+        match turn(file, msb, w, sounders, channels) {
             Turned::On(next) => {
                 w = next;
             }
@@ -440,23 +394,9 @@ pub fn check(file: &[u8]) -> Answer
         return layout::refuse(codes::NO_MARK, 0);
     }
     let msb = frame::is_msb(file);
-    let mut docs = [0u32; SOUNDERS];
-    let mut says = [0u16; SOUNDERS];
-    let mut sounder_places = [0usize; SOUNDERS];
-    let mut ids = [0u16; CHANNELS];
-    let mut parents = [0u32; CHANNELS];
-    let mut channel_places = [0usize; CHANNELS];
-    match run(
-        file,
-        msb,
-        file.len(),
-        &mut docs,
-        &mut says,
-        &mut sounder_places,
-        &mut ids,
-        &mut parents,
-        &mut channel_places,
-    ) {
+    let mut sounders = [links::BLANK; SOUNDERS];
+    let mut channels = [links::BLANK; CHANNELS];
+    match run(file, msb, file.len(), &mut sounders, &mut channels) {
         Turned::On(_) => layout::refuse(codes::NO_END, file.len()),
         Turned::Done(answer) => answer,
     }
@@ -472,20 +412,17 @@ pub fn is_ping(code: u16) -> bool
     code == types::PING_C
 }
 
-// The parents of the ping at a place of an accepted file, by the declarations before it; 9 where no listed ping is there.
+// The parents of the ping where the tally stands in an accepted file, by the declarations before it; 9 where no listed ping is there.
 fn ask_here(
     file: &[u8],
     msb: bool,
     w: Tally,
     tuples: usize,
-    docs: &[u32],
-    sounder_places: &[usize],
-    ids: &[u16],
-    parents: &[u32],
-    channel_places: &[usize],
+    sounders: &[Row],
+    channels: &[Row],
 ) -> Asked
-    requires { ⌜ AskIn msb (now file) w (now docs) (now «sounder_places») (now ids) (now parents) (now «channel_places») ⌝ }
-    ensures { λ r. ⌜ r ≡ askColumns msb (now (file .entry)) w tuples (now (docs .entry)) (now («sounder_places» .entry)) (now (ids .entry)) (now (parents .entry)) (now («channel_places» .entry)) ⌝ }
+    requires { ⌜ AskIn msb (now file) w (tables (now sounders) (now channels)) ⌝ }
+    ensures { λ r. ⌜ r ≡ askWhere msb (now (file .entry)) tuples (courseOf w (tables (now (sounders .entry)) (now (channels .entry)))) ⌝ }
 {
     let at = w.at;
     if !is_ping(frame::kind_at(file, at, msb)) {
@@ -494,15 +431,16 @@ fn ask_here(
             place: at,
         };
     }
-    let channel = SoftwareChannel(order::read2(file, at + NAMED_CHANNEL, msb));
-    let entry = links::find_channel(ids, w.channels, channel);
-    let sounder = DocumentId(parents[entry]);
-    let line = links::find_sounder(docs, w.sounders, sounder);
+    let channel = named_at(file, at, msb);
+    let entry = links::find_channel(channels, w.channels, channel);
+    let row = channels[entry];
+    let sounder = DocumentId(row[links::PARENT]);
+    let line = links::find_sounder(sounders, w.sounders, sounder);
     Asked::Parents {
         channel,
-        channel_place: channel_places[entry],
+        channel_place: links::wide(row[links::PLACE]),
         sounder,
-        sounder_place: sounder_places[line],
+        sounder_place: links::wide(sounders[line][links::PLACE]),
         tuples,
     }
 }
@@ -513,34 +451,10 @@ fn ask_accepted(file: &[u8], place: usize, counts: Counts) -> Asked
     ensures { λ r. ⌜ r ≡ askAccepted (now (file .entry)) place (counts .tuples) ⌝ }
 {
     let msb = frame::is_msb(file);
-    let mut docs = [0u32; SOUNDERS];
-    let mut says = [0u16; SOUNDERS];
-    let mut sounder_places = [0usize; SOUNDERS];
-    let mut ids = [0u16; CHANNELS];
-    let mut parents = [0u32; CHANNELS];
-    let mut channel_places = [0usize; CHANNELS];
-    match run(
-        file,
-        msb,
-        place,
-        &mut docs,
-        &mut says,
-        &mut sounder_places,
-        &mut ids,
-        &mut parents,
-        &mut channel_places,
-    ) {
-        Turned::On(w) => ask_here(
-            file,
-            msb,
-            w,
-            counts.tuples,
-            &docs,
-            &sounder_places,
-            &ids,
-            &parents,
-            &channel_places,
-        ),
+    let mut sounders = [links::BLANK; SOUNDERS];
+    let mut channels = [links::BLANK; CHANNELS];
+    match run(file, msb, place, &mut sounders, &mut channels) {
+        Turned::On(w) => ask_here(file, msb, w, counts.tuples, &sounders, &channels),
         Turned::Done(_) => Asked::Refused {
             code: codes::UNFIT,
             place,

@@ -2,33 +2,33 @@
 use Prim.Native.Nat.{_-_}
 use lib.ListN.{length}
 use borrow.Author.Needs.{needs}
-use Rattle.intake.specs.inner.Tallies.{columns}
+use Rattle.intake.specs.inner.Tallies.{tables}
 use Rattle.intake.proofs.Runs.{Running, running-begin, running-there, running-again, running-less, running-done}
 use Rattle.intake.proofs.run.Statement.{statement}
 use Rattle.intake.proofs.run.Tie as tie
 
 abbrev Inv-loop : tie.InvT-loop
-Inv-loop file msb until docs₀ says₀ sounder-places₀ ids₀ parents₀ channel-places₀ w₀ docs says sounder-places ids parents channel-places w =
-    Running msb file until w (columns docs says sounder-places ids parents channel-places)
+Inv-loop file msb until sounders₀ channels₀ w₀ sounders channels w =
+    Running msb file until w (tables sounders channels)
 
 abbrev μ-loop : tie.MeasureT-loop
-μ-loop file msb until docs₀ says₀ sounder-places₀ ids₀ parents₀ channel-places₀ w₀ docs says sounder-places ids parents channel-places w =
+μ-loop file msb until sounders₀ channels₀ w₀ sounders channels w =
     length file - w .at
 
 loop-holds : tie.Need-loop-holds Inv-loop μ-loop
 loop-holds c = let p = c .before .before .pre in running-begin _ _ _ _ _ (p .0) (p .1 .1) (c .begin .ensures)
 
 turn-requires : tie.Need-turn-requires Inv-loop μ-loop
-turn-requires c κs = let g = c .before .before .before .before .before .before .before .before .loop .inv in (g .standing, (c .before .before .before .before .before .before .before .before .before .before .before .pre .1 .0, g .sized))
+turn-requires c κs = let g = c .before .before .before .before .loop .inv in (g .standing, (g .steady, (c .before .before .before .before .before .before .before .pre .1 .0, g .sized)))
 
 loop-less : tie.Need-loop-less Inv-loop μ-loop
-loop-less c = running-less _ _ _ _ _ (c .before .before .before .before .before .before .before .before .before .before .before .before .loop .inv) _ _ (c .before .before .before .turn .ensures) _ (c .before .next .given .1)
+loop-less c = running-less _ _ _ _ _ (c .before .before .before .before .before .before .before .before .loop .inv) _ _ (c .before .before .before .turn .ensures) _ (c .before .next .given .1)
 
 loop-again : tie.Need-loop-again Inv-loop μ-loop
-loop-again c = running-again _ _ _ _ _ (c .before .before .before .before .before .before .before .before .before .before .before .before .loop .inv) _ _ (c .before .before .before .turn .ensures) (c .before .before .before .before .before .before .before .before .before .before .if1 .taken) _ (c .before .next .given .1)
+loop-again c = running-again _ _ _ _ _ (c .before .before .before .before .before .before .before .before .loop .inv) _ _ (c .before .before .before .turn .ensures) (c .before .before .before .before .before .before .if1 .taken) _ (c .before .next .given .1)
 
 returns : tie.Need-returns Inv-loop μ-loop
-returns c = running-done _ _ _ _ _ (c .before .before .before .before .before .before .before .before .before .before .before .before .loop .inv) _ _ (c .before .before .before .turn .ensures) (c .before .before .before .before .before .before .before .before .before .before .if1 .taken) _ (c .before .answer .given .1)
+returns c = running-done _ _ _ _ _ (c .before .before .before .before .before .before .before .before .loop .inv) _ _ (c .before .before .before .turn .ensures) (c .before .before .before .before .before .before .if1 .taken) _ (c .before .answer .given .1)
 
 returns-2 : tie.Need-returns-2 Inv-loop μ-loop
 returns-2 c = running-there _ _ _ _ _ (c .before .before .loop .inv) (c .if1 .left)

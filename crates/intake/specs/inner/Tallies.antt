@@ -1,89 +1,99 @@
--- Where the code's check stands: a tally and the columns of the declarations, and the course that they stand for. Assumes nothing.
+-- Where the code's check stands: a tally and the tables of the declarations, and the course that they stand for. Assumes nothing.
 use mathlib.Core.Path.{_≡_}
 use Prim.Native.Nat.{ℕ, _+_, _-_, _*_, _≤_, _<_}
-use mathlib.Core.Bool.{Bool, true, false, cond, not, _&&_, _||_}
+use mathlib.Core.Bool.{Bool, true, false, cond, _||_}
 use mathlib.Core.List.{List, [], _∷_, _++_}
 use mathlib.Core.Option.{some}
 use mathlib.Core.Option
-use lib.Dec.{ltb, leb, eqb}
-use lib.ListN.{length, take, drop, getD, set}
+use lib.Dec.{eqb}
+use lib.ListN.{length, take, drop, set}
 use Rattle.order.specs.Order.{numOf}
-use Rattle.rules.specs.Rules.{Rule, _⇒_, firstOf}
+use Rattle.rules.specs.Rules.{_⇒_}
+use Rattle.layout.specs.declared.SoftwareChannel.{SoftwareChannel}
 use Rattle.layout.specs.declared.Answer.{Answer}
-use Rattle.layout.specs.declared.Answer.the-variants as answers
 use Rattle.layout.specs.declared.Verdict.{Verdict}
 use Rattle.layout.specs.declared.Verdict.the-variants.{Fine}
-use Rattle.layout.specs.Answers.{both, judged, _byte_, accepting}
+use Rattle.layout.specs.Answers.{both, judged, _byte_}
 use Rattle.layout.specs.Types.{kindOf, lineOf, fitting, inClass}
 use Rattle.layout.specs.Types
 use Rattle.frame.specs.Frames.{Tup, lenAt, kindAt, tupAt, framing}
-use Rattle.links.specs.Links.{Link, none, sounder, channel, names, signRules}
-use Rattle.links.specs.inner.Tables.{soundersOf, channelsOf, placeIn, firstOff, sounderVerdict, channelVerdict, nameVerdict}
+use Rattle.links.specs.declared.LinkVerdict.{LinkVerdict}
+use Rattle.links.specs.declared.Sounder.{Sounder}
+use Rattle.links.specs.declared.Channel.{Channel}
+use Rattle.links.specs.Links.{idOf, mostSounders, mostChannels, signRules, rulesAmong, comparesAmong, Apart, Steady}
+use Rattle.links.specs.inner.Tables.{soundersIn, channelsIn, tuplesIn, comparing, linking}
 use Rattle.content.specs.Items.{headRules, innerRules, digest}
 use Rattle.intake.specs.declared.Asked.{Asked}
-use Rattle.intake.specs.declared.Asked.the-variants.{Parents, Refused}
+use Rattle.intake.specs.declared.Asked.the-variants.{Refused}
 use Rattle.intake.specs.declared.Tally.{Tally}
 use Rattle.intake.specs.declared.Turned.{Turned}
 use Rattle.intake.specs.declared.Turned.the-variants.{On, Done}
 use Rattle.intake.specs.Check.{Course, begin, Turn, stop, go, turn, checkFrom}
-use Rattle.intake.specs.Asking.{courseTo}
+use Rattle.intake.specs.Asking.{courseTo, channelLine, parentOf, sounderLine, parentsIn}
 
--- the columns: the sounders' identifiers, numbers of channels and places; the channels' identifiers, parents and places
-pub record Columns : Type 0 where
-  pub docs : List ℕ
-  pub says : List ℕ
-  pub sounders : List ℕ
-  pub ids : List ℕ
-  pub parents : List ℕ
-  pub channels : List ℕ
+-- the tables: a row for each sounder, and for each channel
+pub record Tables : Type 0 where
+  pub sounders : List (List ℕ)
+  pub channels : List (List ℕ)
 
-abbrev pub columns : List ℕ → List ℕ → List ℕ → List ℕ → List ℕ → List ℕ → Columns
-columns docs says sounders ids parents channels =
-    record { docs = docs; says = says; sounders = sounders; ids = ids; parents = parents; channels = channels }
+abbrev pub tables : List (List ℕ) → List (List ℕ) → Tables
+tables sounders channels = record { sounders = sounders; channels = channels }
 
 -- they are as long as the most sounders and channels
-pub record Sized (c : Columns) : Type 0 where
-  pub docs : length (c .docs) ≡ 16
-  pub says : length (c .says) ≡ 16
-  pub sounders : length (c .sounders) ≡ 16
-  pub ids : length (c .ids) ≡ 64
-  pub parents : length (c .parents) ≡ 64
-  pub channels : length (c .channels) ≡ 64
+pub record Sized (c : Tables) : Type 0 where
+  pub sounders : length (c .sounders) ≡ mostSounders
+  pub channels : length (c .channels) ≡ mostChannels
 
--- the course: as many lines of the columns as the tally says are declared
-abbrev pub courseOf : Tally → Columns → Course
+-- what is declared: as many rows as the tally says
+abbrev pub soundersBy : Tally → Tables → List Sounder
+soundersBy w c = soundersIn (w .sounders) (c .sounders)
+
+abbrev pub channelsBy : Tally → Tables → List Channel
+channelsBy w c = channelsIn (w .channels) (c .channels)
+
+-- the course
+abbrev pub courseOf : Tally → Tables → Course
 courseOf w c =
-    let n = w .sounders in
-    let m = w .channels in
     record {
       at = w .at;
       count = w .count;
       links = record {
-        sounders = soundersOf (take n (c .docs)) (take n (c .says));
-        channels = channelsOf (take m (c .ids)) (take m (c .parents));
+        sounders = soundersBy w c;
+        channels = channelsBy w c;
         position = w .position;
         sounder = w .sounder;
         channel = w .channel;
         ping = w .ping;
       };
-      sounders = take n (c .sounders);
-      channels = take m (c .channels);
+      sounders = tuplesIn (w .sounders) (c .sounders);
+      channels = tuplesIn (w .channels) (c .channels);
     }
 
-abbrev pub turnOf : Turned → Columns → Turn
+abbrev pub turnOf : Turned → Tables → Turn
 turnOf (On w) c = go (courseOf w c)
 turnOf (Done a) c = stop a
 
--- the columns have room for what the tally counts, and the place is in the file
+-- the tables hold what the tally counts, and no two channels have the same identifier
+pub record Held (w : Tally) (c : Tables) : Type 0 where
+  pub sounders : w .sounders ≤ length (c .sounders)
+  pub channels : w .channels ≤ length (c .channels)
+  pub apart : Apart idOf (channelsBy w c)
+
+-- the tally counts no more than there may be, and its place is in the file
 pub record Standing (f : List ℕ) (w : Tally) : Type 0 where
   pub few : w .count * 16 + 4 ≤ w .at
   pub within : w .at ≤ length f
-  pub sounders : w .sounders ≤ 16
-  pub channels : w .channels ≤ 64
+  pub sounders : w .sounders ≤ mostSounders
+  pub channels : w .channels ≤ mostChannels
 
 abbrev pub StandsOn : List ℕ → Turned → Type 0
 StandsOn f (On w) = Standing f w
 StandsOn f (Done a) = Unit {0}
+
+-- what the rules keep of the declarations, where the check goes on
+abbrev pub SteadyOn : Turned → Tables → Type 0
+SteadyOn (On w) c = Steady (courseOf w c .links)
+SteadyOn (Done a) c = Unit {0}
 
 -- ---- a tuple at a place, framed: its whole length and its type code
 pub record Here (o : Bool) (f : List ℕ) (at n k : ℕ) : Type 0 where
@@ -95,20 +105,24 @@ pub record Here (o : Bool) (f : List ℕ) (at n k : ℕ) : Type 0 where
 abbrev pub Fits : ℕ → ℕ → Type 0
 Fits n k = fitting (lineOf (kindOf k) .length) n ≡ true
 
+-- what a sounder tuple and a channel tuple declare, and the channel that another names, by their bytes
+abbrev pub sounderAt : Bool → List ℕ → ℕ → Sounder
+sounderAt o f at = record { doc = record { 0 = numOf o (take 4 (drop (at + 8) f)) }; says = numOf o (take 2 (drop (at + 6) f)) }
+
+abbrev pub channelAt : Bool → List ℕ → ℕ → Channel
+channelAt o f at = record { id = record { 0 = numOf o (take 2 (drop (at + 6) f)) }; parent = record { 0 = numOf o (take 4 (drop (at + 8) f)) } }
+
+abbrev pub namedAt : Bool → List ℕ → ℕ → SoftwareChannel
+namedAt o f at = record { 0 = numOf o (take 2 (drop (at + 12) f)) }
+
 -- ---- the verdicts of its parts
 -- 7; 9, 8
 unfoldable pub headVerdict : Bool → Bool → Tup → Verdict
 headVerdict o first t = both (judged (signRules first (digest o t))) (judged (headRules o t))
 
--- 12, 14, 13 over the columns of identifiers
-abbrev pub linkBy : Link → List ℕ → List ℕ → Verdict
-linkBy none docs ids = Fine
-linkBy (sounder d n) docs ids = sounderVerdict d docs
-linkBy (channel c d) docs ids = channelVerdict c d ids docs
-linkBy (names c) docs ids = nameVerdict c ids
-
-unfoldable pub linkVerdict : Bool → Tup → List ℕ → List ℕ → Verdict
-linkVerdict o t docs ids = linkBy (digest o t .link) docs ids
+-- 12, 14, 13
+unfoldable pub linkVerdict : Bool → Tup → List Sounder → List Channel → Verdict
+linkVerdict o t ss cs = judged (rulesAmong ss cs (digest o t .link))
 
 -- 11; 23, or 24 and 25
 unfoldable pub innerVerdict : Bool → Tup → Verdict
@@ -119,92 +133,84 @@ unfoldable pub ownVerdict : Bool → Tup → Verdict
 ownVerdict o t = judged (headRules o t ++ innerRules o t)
 
 -- all of them, of what is left of the file: 4; 3, 5, 3, 6; then the tuple's
-unfoldable pub turnVerdict : Bool → Bool → List ℕ → List ℕ → List ℕ → Verdict
-turnVerdict o first docs ids r =
+unfoldable pub turnVerdict : Bool → Bool → List Sounder → List Channel → List ℕ → Verdict
+turnVerdict o first ss cs r =
     let t = tupAt o r in
     both (judged ((eqb (length r) 0 ⇒ 4 byte 0) ∷ []))
-    (both (framing o r) (both (headVerdict o first t) (both (linkVerdict o t docs ids) (innerVerdict o t))))
+    (both (framing o r) (both (headVerdict o first t) (both (linkVerdict o t ss cs) (innerVerdict o t))))
 
--- ---- the tally behind the mark, and past a tuple of n bytes and of a type code, before what it declares
+-- ---- what is said of the tuple where a tally stands, and what is told of it: by its links alone, and by all rules
+abbrev pub said : Bool → List ℕ → Tally → Tables → Verdict
+said o f w c = turnVerdict o (eqb (w .count) 0) (soundersBy w c) (channelsBy w c) (drop (w .at) f)
+
+abbrev pub compares : Bool → List ℕ → Tally → Tables → ℕ
+compares o f w c = comparesAmong (soundersBy w c) (channelsBy w c) (digest o (tupAt o (drop (w .at) f)) .link)
+
+unfoldable pub linkTold : Bool → List ℕ → Tally → Tables → LinkVerdict
+linkTold o f w c = linking (soundersBy w c) (channelsBy w c) (digest o (tupAt o (drop (w .at) f)) .link)
+
+unfoldable pub turnTold : Bool → List ℕ → Tally → Tables → LinkVerdict
+turnTold o f w c = comparing (said o f w c) (compares o f w c)
+
+-- ---- the tally behind the mark, and past a tuple of n bytes and of a type code, before what it declares; the next channel is
+-- looked for first on any line
 abbrev pub tallyBegin : Tally
-tallyBegin = record { at = 4; count = 0; sounders = 0; channels = 0; position = false; sounder = false; channel = false; ping = false }
+tallyBegin = record { at = 4; count = 0; sounders = 0; channels = 0; near = 0; position = false; sounder = false; channel = false; ping = false }
 
-abbrev pub tallyPast : Tally → ℕ → ℕ → Tally
-tallyPast w n k =
+abbrev pub tallyPast : Tally → ℕ → ℕ → ℕ → Tally
+tallyPast w n k near =
     record {
       at = w .at + n;
       count = w .count + 1;
       sounders = w .sounders;
       channels = w .channels;
+      near = near;
       position = w .position || inClass Types.position k;
       sounder = w .sounder || inClass Types.sounder k;
       channel = w .channel || inClass Types.channel k;
       ping = w .ping || inClass Types.ping k;
     }
 
--- ---- what a tuple declares: one more in the tally, and its line in the columns
-abbrev pub oneSounder : Tally → Tally
-oneSounder w =
+-- ---- what a tuple declares: so many in the tally, and its row
+abbrev pub declaring : Tally → ℕ → ℕ → Tally
+declaring w sounders channels =
     record {
       at = w .at;
       count = w .count;
-      sounders = w .sounders + 1;
-      channels = w .channels;
+      sounders = sounders;
+      channels = channels;
+      near = w .near;
       position = w .position;
       sounder = w .sounder;
       channel = w .channel;
       ping = w .ping;
     }
+
+abbrev pub oneSounder : Tally → Tally
+oneSounder w = declaring w (w .sounders + 1) (w .channels)
 
 abbrev pub oneChannel : Tally → Tally
-oneChannel w =
-    record {
-      at = w .at;
-      count = w .count;
-      sounders = w .sounders;
-      channels = w .channels + 1;
-      position = w .position;
-      sounder = w .sounder;
-      channel = w .channel;
-      ping = w .ping;
-    }
+oneChannel w = declaring w (w .sounders) (w .channels + 1)
 
--- a sounder's identifier, number of channels and place; a channel's identifier, parent and place
-abbrev pub sounderLine : Columns → ℕ → ℕ → ℕ → ℕ → Columns
-sounderLine c i doc says at = columns (set (c .docs) i doc) (set (c .says) i says) (set (c .sounders) i at) (c .ids) (c .parents) (c .channels)
+abbrev pub withSounder : Tables → ℕ → List ℕ → Tables
+withSounder c i r = tables (set (c .sounders) i r) (c .channels)
 
-abbrev pub channelLine : Columns → ℕ → ℕ → ℕ → ℕ → Columns
-channelLine c i id parent at = columns (c .docs) (c .says) (c .sounders) (set (c .ids) i id) (set (c .parents) i parent) (set (c .channels) i at)
-
--- ---- behind the end of file, over the columns
-pub record Ended (w : Tally) (docs says places parents : List ℕ) : Type 0 where
-  pub docsLong : w .sounders ≤ length docs
-  pub saysLong : w .sounders ≤ length says
-  pub placesLong : w .sounders ≤ length places
-  pub parentsLong : w .channels ≤ length parents
-
-abbrev pub endBy : List ℕ → Tally → List ℕ → ℕ → List (Rule Answer)
-endBy f w places wrong =
-    (ltb (w .at) (length f) ⇒ answers.Refused 15 (w .at))
-    ∷ (not (w .position && w .sounder && w .channel && w .ping) ⇒ answers.Refused 16 (length f))
-    ∷ (not (leb (w .sounders) wrong) ⇒ answers.Refused 17 (getD (take (w .sounders) places) wrong 0))
-    ∷ []
-
-unfoldable pub endAnswer : List ℕ → Tally → List ℕ → List ℕ → List ℕ → List ℕ → Answer
-endAnswer f w docs says places parents =
-    firstOf (endBy f w places (firstOff (take (w .sounders) docs) (take (w .sounders) says) (take (w .channels) parents))) (accepting (w .count) 0)
+abbrev pub withChannel : Tables → ℕ → List ℕ → Tables
+withChannel c i r = tables (c .sounders) (set (c .channels) i r)
 
 -- ---- what a turn takes and hands back
-pub record TurnedTo (o : Bool) (f : List ℕ) (w : Tally) (c : Columns) (r : Turned) (d : Columns) : Type 0 where
+pub record TurnedTo (o : Bool) (f : List ℕ) (w : Tally) (c : Tables) (r : Turned) (d : Tables) : Type 0 where
   pub turns : turnOf r d ≡ turn o f (courseOf w c)
   pub stands : StandsOn f r
   pub sized : Sized d
+  pub steady : SteadyOn r d
 
 -- ---- what the turns from the mark hand back: the tally that stands at a place p, with what is still to come of the check,
-pub record StoodAt (o : Bool) (f : List ℕ) (p : ℕ) (w : Tally) (c : Columns) : Type 0 where
+pub record StoodAt (o : Bool) (f : List ℕ) (p : ℕ) (w : Tally) (c : Tables) : Type 0 where
   pub there : w .at ≡ p
   pub standing : Standing f w
   pub sized : Sized c
+  pub steady : Steady (courseOf w c .links)
   pub found : courseTo (length f) o f p begin ≡ some (courseOf w c)
   pub same : checkFrom (length f) o f begin ≡ checkFrom (length f - w .count) o f (courseOf w c)
 
@@ -213,39 +219,21 @@ pub record EndedBefore (o : Bool) (f : List ℕ) (p : ℕ) (a : Answer) : Type 0
   pub answer : a ≡ checkFrom (length f) o f begin
   pub missed : courseTo (length f) o f p begin ≡ Option.none
 
-abbrev pub RunTo : Bool → List ℕ → ℕ → Turned → Columns → Type 0
+abbrev pub RunTo : Bool → List ℕ → ℕ → Turned → Tables → Type 0
 RunTo o f p (On w) c = StoodAt o f p w c
 RunTo o f p (Done a) c = EndedBefore o f p a
 
--- ---- asking where a tally stands, over the columns
--- the type code there is a listed ping's, and the channel that it names
+-- ---- asking where a tally stands
+-- the type code there is a listed ping's
 abbrev pub pingAt : Bool → List ℕ → ℕ → Bool
 pingAt o f at = eqb (kindAt o (drop at f)) 10000 || eqb (kindAt o (drop at f)) 10010
 
-abbrev pub namedAt : Bool → List ℕ → ℕ → ℕ
-namedAt o f at = numOf o (take 2 (drop (at + 12) f))
-
--- the lines of the channel and of its sounder, and the sounder's identifier
-abbrev pub channelLineOf : Bool → List ℕ → Tally → List ℕ → ℕ
-channelLineOf o f w ids = placeIn (namedAt o f (w .at)) (take (w .channels) ids)
-
-abbrev pub sounderNamed : Bool → List ℕ → Tally → List ℕ → List ℕ → ℕ
-sounderNamed o f w ids parents = getD parents (channelLineOf o f w ids) 0
-
-abbrev pub sounderLineOf : Bool → List ℕ → Tally → List ℕ → List ℕ → List ℕ → ℕ
-sounderLineOf o f w docs ids parents = placeIn (sounderNamed o f w ids parents) (take (w .sounders) docs)
-
-unfoldable pub askColumns : Bool → List ℕ → Tally → ℕ → List ℕ → List ℕ → List ℕ → List ℕ → List ℕ → Asked
-askColumns o f w n docs sounders ids parents channels =
-    let i = channelLineOf o f w ids in
-    let j = sounderLineOf o f w docs ids parents in
-    cond (pingAt o f (w .at))
-    (Parents (record { 0 = namedAt o f (w .at) }) (getD channels i 0) (record { 0 = sounderNamed o f w ids parents }) (getD sounders j 0) n)
-    (Refused 9 (w .at))
+unfoldable pub askWhere : Bool → List ℕ → ℕ → Course → Asked
+askWhere o f n w = cond (pingAt o f (w .at)) (parentsIn w (namedAt o f (w .at)) n) (Refused 9 (w .at))
 
 -- what asking there rests on: a frame's bytes are left, and a ping's lines are declared
-pub record AskIn (o : Bool) (f : List ℕ) (w : Tally) (docs sounders ids parents channels : List ℕ) : Type 0 where
+pub record AskIn (o : Bool) (f : List ℕ) (w : Tally) (c : Tables) : Type 0 where
   pub left : w .at + 16 ≤ length f
-  pub sounderRoom : (w .sounders ≤ length docs) × (w .sounders ≤ length sounders)
-  pub channelRoom : (w .channels ≤ length ids) × (w .channels ≤ length parents) × (w .channels ≤ length channels)
-  pub declared : pingAt o f (w .at) ≡ true → (channelLineOf o f w ids < w .channels) × (sounderLineOf o f w docs ids parents < w .sounders)
+  pub sounderRoom : w .sounders ≤ length (c .sounders)
+  pub channelRoom : w .channels ≤ length (c .channels)
+  pub declared : pingAt o f (w .at) ≡ true → (channelLine (courseOf w c) (namedAt o f (w .at)) < w .channels) × (sounderLine (courseOf w c) (parentOf (courseOf w c) (namedAt o f (w .at))) < w .sounders)
