@@ -1,12 +1,12 @@
 -- Demand 1 in words, of a ping's samples: which number, word or count breaks their rules first, and where it stands. Assumes nothing.
 use mathlib.Core.Path.{_≡_}
 use mathlib.Core.Bool.{Bool, true, _||_}
-use mathlib.Core.List.{List, _∷_, _++_}
+use mathlib.Core.List.{List, _++_}
 use Prim.Native.Nat.{ℕ, _+_, _-_, _*_, _≤_, _<_}
 use lib.Dec.{eqb}
 use lib.ListN.{length, drop, getD}
-use Rattle.rules.specs.Rules.{Rule, _⇒_, AllPass}
-use Rattle.layout.specs.Answers.{Breach, _byte_}
+use Rattle.rules.specs.Rules.{Rule, AllPass}
+use Rattle.layout.specs.Answers.{Breach}
 use Rattle.frame.specs.declared.Walk.{Walk}
 use Rattle.frame.specs.declared.Step.the-variants.{Tuple}
 use Rattle.frame.specs.Frames.{Tup, tupAt, frameRules}
@@ -14,10 +14,9 @@ use Rattle.frame.specs.Files.{isMsb, fileRules}
 use Rattle.frame.specs.Steps.{stepForward}
 use Rattle.samples.specs.Words.{Sample}
 use Rattle.samples.specs.Runs.{radix, values}
-use Rattle.links.specs.Links.{signRules, linkRules}
 use Rattle.content.specs.Pings.{headC, wordsIn, countIn, contentU}
-use Rattle.content.specs.Items.{digest, headRules}
-use Rattle.intake.specs.Check.{Course}
+use Rattle.content.specs.Items.{headRules}
+use Rattle.intake.specs.Check.{Course, earlierRules}
 use Rattle.tuples.specs.Readers.{tupleThere}
 use Rattle.demands.specs.Causes.{tupleIn, Comes}
 
@@ -71,16 +70,9 @@ abbrev pub ofSamples : ℕ → Bool
 ofSamples c = eqb c 10 || (eqb c 11 || (eqb c 23 || (eqb c 24 || eqb c 25)))
 
 -- ---- where they are given
--- the rules of a tuple before those of its samples
+-- the rules of the tuple where a course stands, before those of its samples
 abbrev pub earlierIn : List ℕ → Course → List (Rule Breach)
-earlierIn f w =
-    let o = isMsb f in
-    let r = drop (w .at) f in
-    let t = tupAt o r in
-    let d = digest o t in
-    (eqb (length r) 0 ⇒ 4 byte 0)
-    ∷ frameRules o r
-    ++ (signRules (eqb (w .count) 0) d ++ (headRules o t ++ linkRules (w .links) (d .link)))
+earlierIn f w = earlierRules (isMsb f) w (drop (w .at) f)
 
 -- the check comes to a tuple that keeps these, and that offends
 pub record Sampled (f : List ℕ) (c p : ℕ) : Type 0 where

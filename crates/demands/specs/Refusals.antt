@@ -60,11 +60,11 @@ pub record Demand1 : Type 0 where
   pub tuple-small : (f : List ℕ) (room : ℕ) → AllPass (singleRules f room) → length (singleForm f) ≤ limit
   -- asking
   pub asking : {f : List ℕ} {p : ℕ} {r : Asked} → Bytes f → AskedFor f p r → {c q : ℕ} → (r ≡ Asked.Refused c q) ↔ AskCause f p c q
-  -- ---- of samples: each code exactly where its rule is the first one broken, at the first offender. The rules of a tuple's samples,
+  -- ---- of samples: each code exactly where its rule is the first one broken, at the first offender
+  -- the rules of a tuple's samples, none of which gives 10
   pub samples : (o : Bool) (t : Tup) {c q : ℕ} → Broken (innerRules o t) (c byte q) ↔ Offends o t c q
-  -- which gives no 10;
   pub no-ten : {o : Bool} {t : Tup} {q : ℕ} → Offends o t 10 q → ⊥
-  -- the check, the normaliser and asking,
+  -- the check, the normaliser and asking
   pub check-samples : {f : List ℕ} {r : Answer} → Checked f r → {c p : ℕ} → ofSamples c ≡ true → (r ≡ Refused c p) ↔ Sampled f c p
   pub normal-samples : {f out left : List ℕ} {r : Answer} → Normalised f out r left → {c p : ℕ} → ofSamples c ≡ true → (r ≡ Refused c p) ↔ Sampled f c p
   pub ask-samples : {f : List ℕ} (p : ℕ) {r : Asked} → Bytes f → AskedFor f p r → {c q : ℕ} → ofSamples c ≡ true → (r ≡ Asked.Refused c q) ↔ Sampled f c q
