@@ -88,7 +88,9 @@ pub fn show() -> Result<(), String> {
     println!();
     let folder = std::env::temp_dir().join(format!("bench-{}", std::process::id()));
     fs::create_dir_all(&folder).map_err(|error| error.to_string())?;
-    let all = deposits::all().map_err(|refusal: Refusal| refusal.to_string())?;
+    let said = |refusal: Refusal| refusal.to_string();
+    let mut all = deposits::long().map_err(said)?;
+    all.extend(deposits::small().map_err(said)?);
     let rows = all.iter().try_for_each(|deposit| row(deposit, &folder));
     fs::remove_dir_all(&folder).map_err(|error| error.to_string())?;
     rows

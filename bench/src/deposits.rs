@@ -1,9 +1,9 @@
-//! The deposits that are timed: each just below the limit of a file.
+//! The deposits that are timed: most just below the limit of a file, and some small.
 
 use hac::{
     write_c32, write_u32, Attitude, Channel, DocumentId, FileEnd, Navigation, Order, PingHeader,
-    Position, Refusal, Signature, SoftwareChannel, Sounder, Transceiver, FILE_LIMIT, REMARK,
-    TUPLE_LIMIT,
+    Position, Refusal, Signature, SoftwareChannel, Sounder, Transceiver, Walk, CHANNEL_LIMIT,
+    FILE_LIMIT, REMARK, TUPLE_LIMIT,
 };
 
 /// The one sounder of a deposit, and the first of its channels.
@@ -17,6 +17,13 @@ const CRUISE_CHANNELS: u16 = 3;
 /// The bytes of a mixed cruise: its normal form is longer than it is, for its
 /// C-32 pings become U-32, and has to stay within the limit of a file.
 const CRUISE_LIMIT: usize = FILE_LIMIT / 4 * 3;
+
+/// The channels of a deposit with some, and of one with as many as may be.
+const SOME_CHANNELS: u16 = 64;
+const MOST_CHANNELS: u16 = CHANNEL_LIMIT as u16;
+
+/// Small deposits are told in these bytes.
+const KIB: usize = 1 << 10;
 
 /// Samples of a U-32 ping.
 const SAMPLES: u32 = 1000;
@@ -38,6 +45,12 @@ pub struct Deposit {
     pub name: &'static str,
     pub bytes: Vec<u8>,
     pub taken: bool,
+}
+
+impl Deposit {
+    pub fn tuples(&self) -> usize {
+        Walk::START.forwards(&self.bytes).count()
+    }
 }
 
 /// Numbers that look like chance and are the same at every run.
@@ -247,6 +260,24 @@ fn cruise(order: Order) -> Result<Vec<u8>, Refusal> {
     })
 }
 
+/// Pings of one sample, the shortest there are, so that linking them weighs the
+/// most. `named` gives the number of the channel that a ping names.
+fn short_pings(channels: u16, mut named: impl FnMut(u32) -> u16) -> Result<Vec<u8>, Refusal> {
+    Draft::new(Order::Lsb, channels)?.fill(FILE_LIMIT, |order, count, tuple| {
+        let header = header(nth_channel(named(count)), count);
+        write_u32(&header, 0, &[0], &[5], order, tuple)
+    })
+}
+
+fn in_turn(channels: u16) -> Result<Vec<u8>, Refusal> {
+    short_pings(channels, |count| (count % u32::from(channels)) as u16)
+}
+
+fn by_chance(channels: u16) -> Result<Vec<u8>, Refusal> {
+    let mut chance = Chance(24680);
+    short_pings(channels, |_| (chance.next() % u32::from(channels)) as u16)
+}
+
 /// The small tuples again, the last one's backlink altered.
 fn refused_at_last(accepted: &[u8]) -> Vec<u8> {
     let mut bytes = accepted.to_vec();
@@ -256,11 +287,46 @@ fn refused_at_last(accepted: &[u8]) -> Vec<u8> {
     bytes
 }
 
-/// All of them.
-pub fn all() -> Result<Vec<Deposit>, Refusal> {
+/// Deposits that are taken.
+fn taken<const COUNT: usize>(named: [(&'static str, Vec<u8>); COUNT]) -> Vec<Deposit> {
+    named
+        .map(|(name, bytes)| Deposit {
+            name,
+            bytes,
+            taken: true,
+        })
+        .into()
+}
+
+/// Those that show what linking costs: 40-byte pings on few and on many channels.
+pub fn linked() -> Result<Vec<Deposit>, Refusal> {
+    Ok(taken([
+        ("1 channel", in_turn(1)?),
+        ("64 channels in turn", in_turn(SOME_CHANNELS)?),
+        ("64 channels by chance", by_chance(SOME_CHANNELS)?),
+        ("1,024 channels in turn", in_turn(MOST_CHANNELS)?),
+        ("1,024 channels by chance", by_chance(MOST_CHANNELS)?),
+        (
+            "1,024 channels, the last",
+            short_pings(MOST_CHANNELS, |_| MOST_CHANNELS - 1)?,
+        ),
+    ]))
+}
+
+/// Those that show what a call costs whatever its file's length: 28-byte tuples.
+pub fn small() -> Result<Vec<Deposit>, Refusal> {
+    let within = |limit| Draft::new(Order::Lsb, 1)?.fill(limit, navigation);
+    Ok(taken([
+        ("4 KiB", within(4 * KIB)?),
+        ("64 KiB", within(64 * KIB)?),
+    ]))
+}
+
+/// Those of every kind, each as long as may be.
+pub fn long() -> Result<Vec<Deposit>, Refusal> {
     let small = Draft::new(Order::Lsb, 1)?.fill(FILE_LIMIT, navigation)?;
     let refused = refused_at_last(&small);
-    let named = [
+    let mut long = taken([
         ("28-byte tuples, LSB", small),
         (
             "28-byte tuples, MSB",
@@ -272,18 +338,11 @@ pub fn all() -> Result<Vec<Deposit>, Refusal> {
         ("U-32 pings, MSB", pairs(Order::Msb)?),
         ("mixed cruise, LSB", cruise(Order::Lsb)?),
         ("mixed cruise, MSB", cruise(Order::Msb)?),
-    ];
-    let mut all: Vec<Deposit> = named
-        .map(|(name, bytes)| Deposit {
-            name,
-            bytes,
-            taken: true,
-        })
-        .into();
-    all.push(Deposit {
+    ]);
+    long.push(Deposit {
         name: "refused at the last tuple",
         bytes: refused,
         taken: false,
     });
-    Ok(all)
+    Ok(long)
 }

@@ -4,9 +4,9 @@
 use crate::deposits::{Deposit, Draft};
 use hac::*;
 
-/// The most sounders and channels of a file.
-const SOUNDERS: u32 = 16;
-const CHANNELS: u16 = 64;
+/// The most sounders and channels of a file, as the numbers that name them.
+const SOUNDERS: u32 = SOUNDER_LIMIT as u32;
+const CHANNELS: u16 = CHANNEL_LIMIT as u16;
 
 /// A sounder that so many channels name.
 fn sounder(document: u32, channels: u16) -> Sounder {

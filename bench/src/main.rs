@@ -1,8 +1,9 @@
-//! Times the check and the normal form of deposits of 16 MiB, the proved
-//! library's beside the second program's and beside a plain copy of the same
-//! bytes, in one run; with `count`, counts the instructions of the same calls;
-//! with `stack`, measures the library's stack. docs/SPEED.md says what was
-//! measured, and how.
+//! Times the check and the normal form of deposits of 16 MiB, of short pings on
+//! many channels and of small files, the proved library's beside the second
+//! program's and beside a plain copy of the same bytes, in one run; with `count`,
+//! counts the instructions of the same calls, but for the short pings; with
+//! `stack`, measures the library's stack. docs/SPEED.md says what was measured,
+//! and how.
 
 mod count;
 mod deposits;
@@ -10,7 +11,7 @@ mod limits;
 mod stack;
 
 use deposits::Deposit;
-use hac::FILE_LIMIT;
+use hac::{Refusal, FILE_LIMIT};
 use std::hint::black_box;
 use std::time::Instant;
 
@@ -18,11 +19,41 @@ use std::time::Instant;
 /// counts.
 const ROUNDS: usize = 25;
 
-/// The time of one go, in seconds.
-fn time<T>(go: impl FnOnce() -> T) -> f64 {
+/// What a table says of a call.
+struct Unit {
+    name: &'static str,
+    /// What is said of a call on a deposit that took so many seconds.
+    of: fn(&Deposit, f64) -> f64,
+    /// So many calls in a row are timed together: the clock is too coarse for a
+    /// short one.
+    calls: u32,
+}
+
+const SPEED: Unit = Unit {
+    name: "GB/s",
+    of: |deposit, seconds| deposit.bytes.len() as f64 / seconds / 1e9,
+    calls: 1,
+};
+
+const PER_TUPLE: Unit = Unit {
+    name: "40-byte pings: ns a tuple",
+    of: |deposit, seconds| seconds * 1e9 / deposit.tuples() as f64,
+    calls: 1,
+};
+
+const PER_CALL: Unit = Unit {
+    name: "small files of 28-byte tuples: microseconds a call",
+    of: |_, seconds| seconds * 1e6,
+    calls: 1000,
+};
+
+/// The time of one call among some in a row, in seconds.
+fn time<T>(calls: u32, mut call: impl FnMut() -> T) -> f64 {
     let start = Instant::now();
-    black_box(go());
-    start.elapsed().as_secs_f64()
+    for _ in 0..calls {
+        black_box(call());
+    }
+    start.elapsed().as_secs_f64() / f64::from(calls)
 }
 
 /// The shortest times of what is compared.
@@ -33,7 +64,7 @@ struct Times {
 }
 
 impl Times {
-    fn of(file: &[u8]) -> Times {
+    fn of(file: &[u8], calls: u32) -> Times {
         let mut out = vec![0; FILE_LIMIT];
         let mut copy = vec![0; file.len()];
         let mut best = Times {
@@ -42,15 +73,21 @@ impl Times {
             normal: [f64::MAX; 2],
         };
         let keep = |best: &mut f64, time: f64| *best = best.min(time);
+        let file = || black_box(file);
         for _ in 0..ROUNDS {
-            let file = black_box(file);
-            keep(&mut best.copy, time(|| copy.copy_from_slice(file)));
-            keep(&mut best.check[0], time(|| hac::check(file)));
-            keep(&mut best.check[1], time(|| second::check(file)));
-            keep(&mut best.normal[0], time(|| hac::normalise(file, &mut out)));
+            keep(
+                &mut best.copy,
+                time(calls, || black_box(&mut copy).copy_from_slice(file())),
+            );
+            keep(&mut best.check[0], time(calls, || hac::check(file())));
+            keep(&mut best.check[1], time(calls, || second::check(file())));
+            keep(
+                &mut best.normal[0],
+                time(calls, || hac::normalise(file(), &mut out)),
+            );
             keep(
                 &mut best.normal[1],
-                time(|| second::normalise(file, &mut out)),
+                time(calls, || second::normalise(file(), &mut out)),
             );
         }
         best
@@ -62,7 +99,10 @@ fn agree(deposit: &Deposit) -> bool {
     let file = &deposit.bytes;
     let said = second::check(file);
     let same = match hac::check(file) {
-        Ok(tuples) => said.is_accepted() && said.tuples == tuples as u64,
+        Ok(counts) => {
+            let told = (counts.tuples as u64, counts.compared as u64);
+            said.is_accepted() && told == (said.tuples, said.compared)
+        }
         Err(refusal) => {
             u32::from(refusal.code.number()) == said.code && refusal.place as u64 == said.place
         }
@@ -73,38 +113,45 @@ fn agree(deposit: &Deposit) -> bool {
     same && taken == deposit.taken && out == other
 }
 
-fn show(deposit: &Deposit) {
-    let bytes = deposit.bytes.len() as f64;
-    let times = Times::of(&deposit.bytes);
-    let speed = |seconds: f64| bytes / seconds / 1e9;
+fn show(deposit: &Deposit, unit: &Unit) {
+    let times = Times::of(&deposit.bytes, unit.calls);
+    let said = |seconds: f64| (unit.of)(deposit, seconds);
     let pair = |[proved, second]: [f64; 2]| {
-        let (a, b) = (speed(proved), speed(second));
+        let (a, b) = (said(proved), said(second));
         format!("{a:7.2} {b:7.2} {:6.2}", second / proved)
     };
     println!(
         "{:26} {:7.2} | {} | {}",
         deposit.name,
-        speed(times.copy),
+        said(times.copy),
         pair(times.check),
         pair(times.normal)
     );
 }
 
-fn speeds() -> Result<(), String> {
+fn table(unit: &Unit, deposits: Result<Vec<Deposit>, Refusal>) -> Result<(), String> {
     println!(
-        "GB/s, the best of {ROUNDS}; ratio: the second program's time over the proved library's"
+        "{}, the best of {ROUNDS}; ratio: the second program's time over the proved library's",
+        unit.name
     );
     println!(
         "{:26} {:>7} | {:>7} {:>7} {:>6} | {:>7} {:>7} {:>6}",
         "deposit", "copy", "check", "second", "ratio", "normal", "second", "ratio"
     );
-    for deposit in deposits::all().map_err(|refusal| refusal.to_string())? {
+    for deposit in deposits.map_err(|refusal| refusal.to_string())? {
         if !agree(&deposit) {
             return Err(format!("{}: the two differ", deposit.name));
         }
-        show(&deposit);
+        show(&deposit, unit);
     }
+    println!();
     Ok(())
+}
+
+fn speeds() -> Result<(), String> {
+    table(&SPEED, deposits::long())?;
+    table(&PER_TUPLE, deposits::linked())?;
+    table(&PER_CALL, deposits::small())
 }
 
 fn main() -> Result<(), String> {

@@ -213,8 +213,8 @@ fn measure_file(file: &[u8], lent: &mut Lent, found: &mut Found) -> Result<(), S
 struct Found(BTreeMap<&'static str, [usize; 2]>);
 
 impl Found {
-    /// Makes a call twice: painted, and on a thread whose stack is all that the
-    /// small machine has, where one byte too many would end the program.
+    /// Makes a call twice: painted, which measures it, and on a thread whose stack
+    /// is all that the small machine has, where it has to say the same.
     fn measure(&mut self, name: &'static str, mut call: Call<'_>) -> Result<(), String> {
         let (bytes, accepted) = depth(&mut call)?;
         if apart(MOST, &mut call)? != accepted {
@@ -233,7 +233,7 @@ pub fn show() -> Result<(), String> {
     let mut lent = Lent::new();
     let said = |refusal: Refusal| refusal.to_string();
     let mut files: Vec<Deposit> = limits::files().map_err(said)?;
-    files.extend(deposits::all().map_err(said)?);
+    files.extend(deposits::long().map_err(said)?);
     for deposit in &files {
         if check(&deposit.bytes).is_ok() != deposit.taken {
             return Err(format!("{} is not what it is called", deposit.name));

@@ -37,16 +37,23 @@ const SHOWN: usize = 32;
 const FULL: usize = 1 << 20;
 const FULL_GIVEN: usize = 64 << 20;
 
-/// An answer's four numbers, which fields may follow.
-pub fn four(answer: Answer) -> Vec<u64> {
+/// An answer's five numbers, which fields may follow.
+pub fn five(answer: Answer) -> Vec<u64> {
     let Answer {
         code,
         place,
         tuples,
         length,
+        compared,
     } = answer;
-    vec![code.into(), place, tuples, length]
+    vec![code.into(), place, tuples, length, compared]
 }
+
+/// Where an answer's numbers end and its fields start.
+pub const FIELDS: usize = 5;
+
+/// Where among the numbers that of identifiers compared stands.
+const COMPARED: usize = 4;
 
 /// Memory that a call gets: to read from, or to write to.
 #[derive(Clone, Copy, PartialEq, Eq, Debug)]
@@ -230,7 +237,7 @@ impl Batch {
     /// At times makes it again with too few entries, which alters nothing.
     pub fn call(&mut self, export: Export, arguments: &[Arg], numbers: &[u64]) {
         let code = numbers[0];
-        let before = self.tally.count(export, code);
+        let before = self.tally.count(export, code, numbers[COMPARED]);
         let spare = (before % SPARE) as usize;
         self.tell(export, arguments, export.entries + spare, numbers, code);
         if before.is_multiple_of(SHORT) {

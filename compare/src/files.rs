@@ -1,11 +1,11 @@
 //! What is compared of a file: the check, the walks, every reader at many
 //! places, and the normal form.
 
-use crate::batch::{four, Arg, Batch, File, FILL};
+use crate::batch::{five, Arg, Batch, File, FILL};
 use crate::exports::{Export, CALLS};
 use crate::records::{header_numbers, reply_numbers, Field, KINDS};
 use second::gen::{Case, Rng};
-use second::layout::{FILE_LIMIT, VALUE_LIMIT};
+use second::layout::{CHANNEL_LIMIT, FILE_LIMIT, VALUE_LIMIT};
 use second::programs::normalise_tuple;
 use second::records::{Ping, PingKind};
 use second::samples::read_samples;
@@ -22,6 +22,9 @@ const LARGE: usize = 1 << 20;
 /// Asking looks at about so many bytes of one file, or asks so many times.
 const ASKED_BYTES: usize = 1 << 19;
 const ASKED_LEAST: usize = 3;
+
+/// Of a file of more tuples than this about so many are read, evenly apart.
+const MANY: usize = 200;
 
 /// The place of a file's first tuple.
 const FIRST: u64 = 4;
@@ -70,19 +73,25 @@ type Writer = fn(&[u8], &mut [u8]) -> Answer;
 fn step_numbers(step: Step) -> Vec<u64> {
     match step {
         Step::Tuple { tuple, next } => {
-            let mut numbers = four(Answer::accepted(1, 0));
+            let mut numbers = five(Answer::accepted(1, 0));
             numbers.extend([tuple.place, tuple.length, tuple.code.into(), next]);
             numbers
         }
-        Step::End => four(Answer::accepted(0, 0)),
-        Step::Refused(answer) => four(answer),
+        Step::End => five(Answer::accepted(0, 0)),
+        Step::Refused(answer) => five(answer),
     }
 }
 
 fn ask_numbers(file: &[u8], place: u64) -> Vec<u64> {
     reply_numbers(parents(file, place), |found| {
-        let (channel, sounder) = (found.channel.number(), found.sounder.number());
-        vec![channel, found.channel_place, sounder, found.sounder_place]
+        vec![
+            found.channel.number(),
+            found.channel_place,
+            found.sampling_rate.into(),
+            found.type_of_data_sample.into(),
+            found.sounder.number(),
+            found.sounder_place,
+        ]
     })
 }
 
@@ -111,18 +120,25 @@ pub fn compare_whole(batch: &mut Batch, case: &Case) -> io::Result<Option<Vec<u8
     let mut file = File::new(&case.bytes);
     check_file(batch, &mut file, case.expected);
     let tuples = walk_both(batch, &mut file)?;
+    each_ping(batch, &mut file, &tuples)?;
+    compare_normal(batch, CALLS.normalise, normalise, &mut file)
+}
+
+/// Fields and samples of each ping, and the parents of the first and the last.
+fn each_ping(batch: &mut Batch, file: &mut File, tuples: &[u64]) -> io::Result<()> {
     let mut pings = Vec::new();
     for place in tuples {
-        if ping_at(batch, &mut file, place) != OTHER_TYPE {
-            let lent = (place as usize % 11, place as usize % 13);
-            samples_at(batch, &mut file, place, lent);
-            pings.push(place);
+        if ping_at(batch, file, *place) != OTHER_TYPE {
+            let lent = (*place as usize % 11, *place as usize % 13);
+            samples_at(batch, file, *place, lent);
+            pings.push(*place);
         }
+        batch.rest()?;
     }
     for place in pings.first().into_iter().chain(pings.last()) {
-        ask_at(batch, &mut file, *place);
+        ask_at(batch, file, *place);
     }
-    compare_normal(batch, CALLS.normalise, normalise, &mut file)
+    Ok(())
 }
 
 /// All comparisons of a file. Gives its normal form, where it has one.
@@ -130,6 +146,10 @@ pub fn compare_file(batch: &mut Batch, case: &Case, rng: &mut Rng) -> io::Result
     let mut file = File::new(&case.bytes);
     check_file(batch, &mut file, case.expected);
     let tuples = walk_both(batch, &mut file)?;
+    if tuples.len() > MANY {
+        each_ping(batch, &mut file, &tuples)?;
+    }
+    let tuples = some_of(tuples);
     let places = places(file.bytes, &tuples);
     for place in &places {
         read_at(batch, &mut file, *place);
@@ -148,14 +168,26 @@ pub fn compare_file(batch: &mut Batch, case: &Case, rng: &mut Rng) -> io::Result
     compare_normal(batch, CALLS.normalise, normalise, &mut file)
 }
 
-/// The check, held also to what the making of the case tells.
+/// All tuples of a file, or some where they are many, the last among them.
+fn some_of(tuples: Vec<u64>) -> Vec<u64> {
+    let apart = tuples.len().div_ceil(MANY).max(1);
+    let mut some: Vec<u64> = tuples.into_iter().rev().step_by(apart).collect();
+    some.reverse();
+    some
+}
+
+/// The check, held also to what the making of the case tells, and to the most
+/// identifiers that may be compared.
 fn check_file(batch: &mut Batch, file: &mut File, told: Option<(u32, u64)>) {
     let answer = check(file.bytes);
     if told.is_some_and(|told| told != (answer.code, answer.place)) {
         batch.differ("the making of the case tells another answer of the check");
     }
+    if answer.compared > CHANNEL_LIMIT as u64 * answer.tuples {
+        batch.differ("more identifiers are compared than 1,024 a tuple");
+    }
     let given = batch.file(file);
-    batch.call(CALLS.check, &[given.into()], &four(answer));
+    batch.call(CALLS.check, &[given.into()], &five(answer));
 }
 
 /// Both walks all through. Gives the places of the tuples found forward.
@@ -253,7 +285,7 @@ fn samples_at(batch: &mut Batch, file: &mut File, place: u64, lent: (usize, usiz
     let of_numbers = lend_words(batch, numbers.into_iter());
     let of_values = lend_words(batch, values.into_iter().map(|value| value as u32));
     let arguments = [given.into(), place.into(), of_numbers, of_values];
-    batch.call(CALLS.read_samples, &arguments, &four(answer));
+    batch.call(CALLS.read_samples, &arguments, &five(answer));
 }
 
 /// Lends entries of four bytes, which the second program left like this.
@@ -305,7 +337,7 @@ fn compare_normal(
         let given = batch.file(file);
         let out = batch.lend(length);
         let answer = writer(file.bytes, batch.expected(&out));
-        batch.call(export, &[given.into(), out.into()], &four(answer));
+        batch.call(export, &[given.into(), out.into()], &five(answer));
         batch.rest()?;
     }
     Ok(normal)

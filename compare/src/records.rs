@@ -1,6 +1,6 @@
 //! The listed types but the pings: a reader and a writer each.
 
-use crate::batch::four;
+use crate::batch::five;
 use crate::exports::Export;
 use second::gen::Rng;
 use second::records::*;
@@ -73,8 +73,8 @@ pub struct Kind {
 /// A reader's numbers: the answer, and on acceptance the fields.
 pub fn reply_numbers<T>(reply: Reply<T>, fields: impl Fn(T) -> Vec<u64>) -> Vec<u64> {
     match reply {
-        Ok((answer, record)) => [four(answer), fields(record)].concat(),
-        Err(answer) => four(answer),
+        Ok((answer, record)) => [five(answer), fields(record)].concat(),
+        Err(answer) => five(answer),
     }
 }
 

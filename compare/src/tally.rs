@@ -1,8 +1,8 @@
-//! What was compared: how often each export was called, which codes it gave,
-//! and which files there were.
+//! What was compared: how often each export was called, which codes it gave, how
+//! many identifiers it told as compared, and which files there were.
 
 use crate::exports::{Export, EXPORTS};
-use second::layout::FILE_LIMIT;
+use second::layout::{CHANNEL_LIMIT, FILE_LIMIT};
 use second::Order;
 
 /// The codes of 01 and 02, and 0 for acceptance.
@@ -27,20 +27,48 @@ fn sample_codes(name: &str) -> &'static [usize] {
     }
 }
 
+/// The least number of identifiers compared that a call which checks a whole file
+/// can accept with, by its export's name: asking needs a ping, its channel and
+/// that one's sounder.
+fn least_compared(name: &str) -> Option<u64> {
+    match name {
+        "check" | "normalise" => Some(0),
+        "ask" => Some(2),
+        _ => None,
+    }
+}
+
+/// The most identifiers that one search compares. Only a number above it shows
+/// that searches among many were added up.
+const FEW_COMPARED: u64 = CHANNEL_LIMIT as u64;
+
 /// Of one export.
 #[derive(Clone, Default)]
 struct Count {
     codes: [u64; CODES],
     /// The calls that were also made with too few entries: none, and one less.
     short: u64,
+    /// The least and the largest number of identifiers compared that it accepted
+    /// with.
+    compared: Option<(u64, u64)>,
 }
 
 impl Count {
     fn add(&mut self, other: &Count) {
         self.short += other.short;
+        if let Some((least, most)) = other.compared {
+            self.compare(least);
+            self.compare(most);
+        }
         for (sum, count) in self.codes.iter_mut().zip(&other.codes) {
             *sum += count;
         }
+    }
+
+    /// Notes a number of identifiers compared.
+    fn compare(&mut self, number: u64) {
+        let (least, most) = self.compared.unwrap_or((number, number));
+        self.compared = Some((least.min(number), most.max(number)));
     }
 
     fn accepted(&self) -> u64 {
@@ -87,11 +115,16 @@ impl Default for Tally {
 }
 
 impl Tally {
-    /// Counts a call; says how many of the export gave this code before.
-    pub fn count(&mut self, export: Export, code: u64) -> u64 {
-        let count = &mut self.exports[export.number].codes[code as usize];
-        *count += 1;
-        *count - 1
+    /// Counts a call by its code and the identifiers compared; says how many of
+    /// the export gave this code before.
+    pub fn count(&mut self, export: Export, code: u64, compared: u64) -> u64 {
+        let count = &mut self.exports[export.number];
+        if code == 0 {
+            count.compare(compared);
+        }
+        let times = &mut count.codes[code as usize];
+        *times += 1;
+        *times - 1
     }
 
     pub fn count_short(&mut self, export: Export) {
@@ -124,7 +157,8 @@ impl Tally {
         }
     }
 
-    /// In words: cases and files, calls by export, codes by kind of call.
+    /// In words: cases and files, calls by export, identifiers compared, codes by
+    /// kind of call.
     pub fn tell(&self) -> String {
         let [lsb, msb] = &self.marked;
         let calls: u64 = self.exports.iter().map(Count::calls).sum();
@@ -132,7 +166,7 @@ impl Tally {
         let (files, marked) = (self.files, lsb.files + msb.files);
         format!(
             "{} cases, {files} files ({} LSB, {} MSB, {} without a mark; of 16 MiB {} LSB, {} MSB; past it {} LSB, {} MSB), \
-             {} bytes, {calls} calls, {short} of them with 0 entries and with one too few, too; calls: {}; codes: {}",
+             {} bytes, {calls} calls, {short} of them with 0 entries and with one too few, too; calls: {}; identifiers compared: {}; codes: {}",
             self.cases,
             lsb.files,
             msb.files,
@@ -143,6 +177,7 @@ impl Tally {
             msb.past_limit,
             self.bytes,
             self.by_export(),
+            self.by_compared(),
             self.by_code(),
         )
     }
@@ -153,6 +188,18 @@ impl Tally {
         let told = counts.map(|(export, count)| {
             let (calls, accepted) = (count.calls(), count.accepted());
             format!("{} {calls} ({accepted} accepted)", export.name)
+        });
+        told.collect::<Vec<_>>().join(", ")
+    }
+
+    /// Of each export that checks a whole file: the least and the most identifiers
+    /// compared that it told of an accepted one.
+    fn by_compared(&self) -> String {
+        let counts = EXPORTS.iter().zip(&self.exports);
+        let checking = counts.filter(|(export, _)| least_compared(export.name).is_some());
+        let told = checking.map(|(export, count)| match count.compared {
+            Some((least, most)) => format!("{} {least} to {most}", export.name),
+            None => format!("{} never", export.name),
         });
         told.collect::<Vec<_>>().join(", ")
     }
@@ -193,31 +240,16 @@ impl Tally {
             .then(|| format!("code {GONE}, which is no longer given, was given {times} times"))
     }
 
-    /// What was not compared: codes that no call gave; exports never accepted,
-    /// never refused or never called with too few entries; those that judge
-    /// samples and never gave a code of them; files at the limit and past it in
-    /// either order.
+    /// What was not compared: codes that no call gave; what an export never did;
+    /// files at the limit and past it in either order.
     pub fn missing(&self) -> Vec<String> {
         let codes = refusals().filter(|code| self.given(*code) == 0);
         let mut missing: Vec<String> = codes
             .map(|code| format!("no call gave code {code}"))
             .collect();
         for (export, count) in EXPORTS.iter().zip(&self.exports) {
-            let name = export.name;
-            for (what, times) in [
-                ("accepted", count.accepted()),
-                ("refused", count.refused()),
-                ("called with too few entries", count.short),
-            ] {
-                if times == 0 {
-                    missing.push(format!("{name} was never {what}"));
-                }
-            }
-            for code in sample_codes(name) {
-                if count.codes[*code] == 0 {
-                    missing.push(format!("{name} never gave code {code}"));
-                }
-            }
+            missing.extend(never_done(export.name, count));
+            missing.extend(never_compared(export.name, count));
         }
         for (order, marked) in Order::BOTH.iter().zip(&self.marked) {
             for (what, files) in [("of", marked.at_limit), ("past", marked.past_limit)] {
@@ -228,6 +260,47 @@ impl Tally {
         }
         missing
     }
+}
+
+/// Whether an export was never accepted, never refused or never called with too
+/// few entries; of one that judges samples, which code of them it never gave.
+fn never_done(name: &str, count: &Count) -> Vec<String> {
+    let mut never = Vec::new();
+    for (what, times) in [
+        ("accepted", count.accepted()),
+        ("refused", count.refused()),
+        ("called with too few entries", count.short),
+    ] {
+        if times == 0 {
+            never.push(format!("{name} was never {what}"));
+        }
+    }
+    for code in sample_codes(name) {
+        if count.codes[*code] == 0 {
+            never.push(format!("{name} never gave code {code}"));
+        }
+    }
+    never
+}
+
+/// Of an export that checks a whole file: whether it was never accepted with the
+/// fewest identifiers compared that there can be, or never with many.
+fn never_compared(name: &str, count: &Count) -> Vec<String> {
+    let (Some(fewest), Some((least, most))) = (least_compared(name), count.compared) else {
+        return Vec::new();
+    };
+    let mut never = Vec::new();
+    if least > fewest {
+        never.push(format!(
+            "{name} was never accepted with {fewest} identifiers compared"
+        ));
+    }
+    if most <= FEW_COMPARED {
+        never.push(format!(
+            "{name} was never accepted with over {FEW_COMPARED} identifiers compared"
+        ));
+    }
+    never
 }
 
 /// The kind of a call, by its export's name: the records' readers are one, and

@@ -1,7 +1,7 @@
 //! What is compared of the writers: what they answer and leave in lent memory,
 //! and that the proved readers find the same fields in it.
 
-use crate::batch::{four, Arg, Batch, File};
+use crate::batch::{five, Arg, Batch, File, FIELDS};
 use crate::exports::{Export, CALLS};
 use crate::files::{lend_samples, ping_at, ping_numbers, WORD};
 use crate::lists::{draw_lists, limit_lists, Lists};
@@ -21,9 +21,8 @@ const ROOM: usize = TUPLE_LIMIT as usize + 64;
 const SPARE: usize = 9;
 const REFUSED_LENGTHS: [usize; 3] = [0, 24, 200];
 
-/// Where a tuple behind a mark starts, and where an answer's fields do.
+/// Where a tuple behind a mark starts.
 const BEHIND_MARK: u64 = 4;
-const FIELDS: usize = 4;
 
 /// Lengths of remarks: mostly the field's width, some beside it.
 const REMARKS: [usize; 6] = [30, 30, 30, 29, 31, 0];
@@ -65,7 +64,7 @@ fn compare_writer(
         let out = batch.lend(length);
         let answer = write(batch.expected(&out));
         arguments.extend([u64::from(order == Order::Msb).into(), out.into()]);
-        batch.call(export, &arguments, &four(answer));
+        batch.call(export, &arguments, &five(answer));
         batch.rest()?;
     }
     Ok(whole.is_accepted().then_some(written))

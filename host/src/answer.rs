@@ -3,7 +3,7 @@
 use std::error::Error;
 use std::fmt;
 
-/// The codes, each with the words of document 01, or of 02 for the last three.
+/// The codes, each with the words of document 01, or of 02 where it has others.
 macro_rules! codes {
     ($($number:literal $code:ident $words:literal)*) => {
         /// The rule that was broken. Document 01 has them in a table; 02 put 23, 24 and
@@ -48,7 +48,7 @@ codes! {
     11 Overfull "ping over 32,764 values, or writer's tuple over 262,144"
     12 DeclaredTwice "identifier declared twice"
     13 NoParent "parent not declared earlier"
-    14 TooMany "17th sounder or 65th channel"
+    14 TooMany "65th sounder or 1,025th channel"
     15 BehindEnd "bytes after end of file"
     16 ClassAbsent "a required class is absent"
     17 WrongCount "sounder's channel count wrong"

@@ -12,13 +12,15 @@ use crate::file::Order;
 use crate::ping::PingHeader;
 use crate::record::*;
 
-/// How many numbers every answer begins with. Many have no more.
-pub(crate) const HEAD: usize = 4;
+/// How many numbers every answer begins with. Many have no more; the others tell
+/// their fields behind these.
+pub(crate) const HEAD: usize = 5;
 
-/// The places of three of them.
-const PLACE: usize = 1;
+/// The places of four of them.
+pub(crate) const PLACE: usize = 1;
 pub(crate) const TUPLES: usize = 2;
 pub(crate) const LENGTH: usize = 3;
+pub(crate) const COMPARED: usize = 4;
 
 /// The entries that an accepted call answers with, or its refusal.
 pub(crate) type Answer<const ENTRIES: usize> = Result<[u64; ENTRIES], Refusal>;
@@ -42,10 +44,10 @@ pub(crate) fn hac_check(file: &[u8]) -> Answer<HEAD> {
     })
 }
 
-/// Calls that take a file and a place.
+/// Calls that take a file and a place, each with how many fields it tells.
 macro_rules! at_place {
-    ($($name:ident[$entries:literal])*) => {$(
-        pub(crate) fn $name(file: &[u8], place: usize) -> Answer<$entries> {
+    ($($name:ident[$told:literal])*) => {$(
+        pub(crate) fn $name(file: &[u8], place: usize) -> Answer<{ HEAD + $told }> {
             answered(|answer, entries| {
                 // SAFETY: the module's: `file` is a slice, and nobody else has
                 // `answer`. Any place may be asked for.
@@ -55,7 +57,7 @@ macro_rules! at_place {
     )*};
 }
 
-at_place!(hac_forward[8] hac_backward[8] hac_ask[8] hac_read_ping[13]);
+at_place!(hac_forward[4] hac_backward[4] hac_ask[6] hac_read_ping[9]);
 
 pub(crate) fn hac_read_samples(
     file: &[u8],
@@ -151,10 +153,10 @@ ping_writers!(hac_write_u32 hac_write_c32);
 macro_rules! of_records {
     ($(
         $(#[$about:meta])*
-        $record:ident = $type:ident: $read:ident[$entries:literal] => ($($beside:ident)?),
+        $record:ident = $type:ident: $read:ident[$told:literal] => ($($beside:ident)?),
         $write:ident <= ($($characters:ident)?) { $($field:ident: $kind:ty,)* }
     )*) => {
-        at_place!($($read[$entries])*);
+        at_place!($($read[$told])*);
 
         $(pub(crate) fn $write(
             record: &$record,

@@ -83,7 +83,7 @@ macro_rules! ping_writers {
 macro_rules! of_records {
     ($(
         $(#[$about:meta])*
-        $record:ident = $type:ident: $read:ident[$entries:literal] => ($($beside:ident)?),
+        $record:ident = $type:ident: $read:ident[$told:literal] => ($($beside:ident)?),
         $write:ident <= ($($characters:ident)?) { $($field:ident: $kind:ty,)* }
     )*) => {
         at_place!($($read)*);

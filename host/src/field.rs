@@ -25,8 +25,8 @@ pub(crate) trait Field {
     fn of_entry(entry: u64) -> Self;
 }
 
-/// Numbers: the lower bits of the entry. A `usize` is a number of tuples, a place
-/// or a length.
+/// Numbers: the lower bits of the entry. A `usize` is a number of tuples or of
+/// identifiers, a place or a length.
 macro_rules! numbers {
     ($($number:ty)*) => {$(
         impl Field for $number {
@@ -56,7 +56,7 @@ identifiers!(DocumentId SoftwareChannel Transceiver);
 pub(crate) struct Fields<'a>(std::slice::Iter<'a, u64>);
 
 impl<'a> Fields<'a> {
-    /// The fields behind an answer's four numbers.
+    /// The fields behind the numbers that every answer begins with.
     pub fn of(answer: &'a [u64]) -> Fields<'a> {
         Fields(answer[crate::call::HEAD..].iter())
     }

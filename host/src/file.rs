@@ -1,7 +1,7 @@
 //! A whole file: its limits, its byte order, its check, and a ping's parents.
 
 use crate::answer::Refusal;
-use crate::call::{self, TUPLES};
+use crate::call::{self, COMPARED, TUPLES};
 use crate::field::{DocumentId, Field, Fields, SoftwareChannel};
 
 /// The most bytes of a file, and of a normal form.
@@ -12,6 +12,12 @@ pub const TUPLE_LIMIT: usize = 262_144;
 
 /// The most values of a ping.
 pub const VALUE_LIMIT: usize = 32_764;
+
+/// The most sounders of a file.
+pub const SOUNDER_LIMIT: usize = 64;
+
+/// The most channels of a file.
+pub const CHANNEL_LIMIT: usize = 1024;
 
 /// The place of a file's first tuple, behind the mark.
 pub const FIRST_PLACE: usize = 4;
@@ -56,12 +62,28 @@ impl Order {
     }
 }
 
-/// Checks a whole file and counts its tuples. Refuses by 1, 2; tuple by tuple 4,
-/// 3, 5, 3, 6, 7, 9, 8, 12, 14, 13, 11, 23, 24, 25; behind the end of file 15, 16,
-/// 17. [`crate::wrong_sample`] tells more of 23, 24 and 25.
-pub fn check(file: &[u8]) -> Result<usize, Refusal> {
+/// What is counted in a file that the check accepts.
+#[derive(Clone, Copy, Debug, PartialEq, Eq)]
+pub struct Counts {
+    /// How many tuples it has.
+    pub tuples: usize,
+    /// How many identifiers are compared while it is linked: while a channel's
+    /// sounder is looked for among the sounders, and the channel of a ping, a
+    /// threshold or an attitude among the channels. Each search goes in declaration
+    /// order and stops at its match; an attitude for all channels compares none. At
+    /// most [`CHANNEL_LIMIT`] times the tuples.
+    pub compared: usize,
+}
+
+/// Checks a whole file and counts in it. Refuses by 1, 2; tuple by tuple 4, 3, 5,
+/// 3, 6, 7, 9, 8, 12, 14, 13, 11, 23, 24, 25; behind the end of file 15, 16, 17.
+/// [`crate::wrong_sample`] tells more of 23, 24 and 25.
+pub fn check(file: &[u8]) -> Result<Counts, Refusal> {
     let answer = call::hac_check(file)?;
-    Ok(Field::of_entry(answer[TUPLES]))
+    Ok(Counts {
+        tuples: Field::of_entry(answer[TUPLES]),
+        compared: Field::of_entry(answer[COMPARED]),
+    })
 }
 
 /// The channel and the sounder of a ping.
@@ -71,12 +93,19 @@ pub struct Parents {
     pub channel: SoftwareChannel,
     /// Where the channel's tuple starts.
     pub channel_place: usize,
+    /// The channel's sampling rate.
+    pub sampling_rate: u32,
+    /// The channel's type of data sample.
+    pub type_of_data_sample: u16,
     /// The sounder that the channel names.
     pub sounder: DocumentId,
     /// Where the sounder's tuple starts.
     pub sounder_place: usize,
     /// How many tuples the file has.
     pub tuples: usize,
+    /// How many identifiers are compared while the file is linked, as [`Counts`] has
+    /// it.
+    pub compared: usize,
 }
 
 /// The parents of the ping at a place. Refuses as [`check`] does; then by 9 where
@@ -87,8 +116,11 @@ pub fn ask(file: &[u8], place: usize) -> Result<Parents, Refusal> {
     Ok(Parents {
         channel: fields.next(),
         channel_place: fields.next(),
+        sampling_rate: fields.next(),
+        type_of_data_sample: fields.next(),
         sounder: fields.next(),
         sounder_place: fields.next(),
         tuples: Field::of_entry(answer[TUPLES]),
+        compared: Field::of_entry(answer[COMPARED]),
     })
 }

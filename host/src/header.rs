@@ -1,7 +1,9 @@
-//! Holds include/hac.h to the tables of this crate: records, codes, types, limits.
+//! Holds include/hac.h to the tables of this crate: answers, records, codes, types,
+//! limits.
 
-use crate::call::HEAD;
-use crate::{types, Code, FILE_LIMIT, FIRST_PLACE, REMARK, TUPLE_LIMIT, VALUE_LIMIT};
+use crate::call::{COMPARED, HEAD, LENGTH, PLACE, TUPLES};
+use crate::{types, Code, CHANNEL_LIMIT, FILE_LIMIT, FIRST_PLACE, REMARK};
+use crate::{SOUNDER_LIMIT, TUPLE_LIMIT, VALUE_LIMIT};
 
 /// The header, blanks and line ends made alike.
 fn header() -> String {
@@ -39,7 +41,7 @@ struct Row {
     code: u16,
     read: &'static str,
     write: &'static str,
-    entries: usize,
+    told: usize,
     beside: Option<&'static str>,
     characters: Option<&'static str>,
     fields: Vec<(&'static str, &'static str)>,
@@ -55,7 +57,10 @@ impl Row {
         holds_number(header, &format!("TYPE_{}", self.kind), self.code.into());
         holds(
             header,
-            &format!("enum {{ HAC_READ_{upper}_ENTRIES = {} }};", self.entries),
+            &format!(
+                "enum {{ HAC_READ_{upper}_ENTRIES = {} }};",
+                HEAD + self.told
+            ),
         );
         holds(header, &format!("enum {{ {} }};", self.places(&upper)));
         let asked = "const uint8_t *file, size_t length, size_t place";
@@ -82,7 +87,7 @@ impl Row {
             ["place", "length"].map(|end| (format!("{part}_{end}").to_uppercase(), "size_t"))
         });
         let told: Vec<_> = told.chain(parts).collect();
-        assert_eq!(HEAD + told.len(), self.entries, "{}", self.read);
+        assert_eq!(told.len(), self.told, "{}", self.read);
         let line = |(at, (field, kind)): (usize, &(String, &str))| {
             let comma = if at + 1 < told.len() { "," } else { "" };
             let sign = match kind.starts_with("int") {
@@ -114,7 +119,7 @@ impl Row {
 macro_rules! rows {
     ($(
         $(#[$about:meta])*
-        $record:ident = $type:ident: $read:ident[$entries:literal] => ($($beside:ident)?),
+        $record:ident = $type:ident: $read:ident[$told:literal] => ($($beside:ident)?),
         $write:ident <= ($($characters:ident)?) { $($field:ident: $kind:ty,)* }
     )*) => {
         vec![$(Row {
@@ -122,7 +127,7 @@ macro_rules! rows {
             code: crate::$record::CODE,
             read: stringify!($read),
             write: stringify!($write),
-            entries: $entries,
+            told: $told,
             beside: None $(.or(Some(stringify!($beside))))?,
             characters: None $(.or(Some(stringify!($characters))))?,
             fields: vec![$((stringify!($field), stringify!($kind))),*],
@@ -136,6 +141,63 @@ fn records() {
     let header = header();
     assert_eq!(rows.len(), 11);
     rows.iter().for_each(|row| row.holds(&header));
+}
+
+#[test]
+fn numbers_of_every_answer() {
+    let header = header();
+    for (name, at) in [
+        ("PLACE", PLACE),
+        ("TUPLES", TUPLES),
+        ("LENGTH", LENGTH),
+        ("COMPARED", COMPARED),
+        // of calls that tell no more
+        ("CHECK_ENTRIES", HEAD),
+        ("NORMALISE_ENTRIES", HEAD),
+        ("NORMALISE_TUPLE_ENTRIES", HEAD),
+        ("READ_SAMPLES_ENTRIES", HEAD),
+        ("WRITE_ENTRIES", HEAD),
+    ] {
+        holds_number(&header, name, at);
+    }
+}
+
+/// The fields of a step, of a question and of a ping, in the order in which they are
+/// taken from an answer.
+#[test]
+fn fields_of_other_calls() {
+    let header = header();
+    let step = ["PLACE", "LENGTH", "TYPE", "NEXT"];
+    let ask = [
+        "CHANNEL",
+        "CHANNEL_PLACE",
+        "SAMPLING_RATE",
+        "TYPE_OF_DATA_SAMPLE",
+        "SOUNDER",
+        "SOUNDER_PLACE",
+    ];
+    let ping = [
+        "TIME_FRACTION",
+        "TIME_CPU",
+        "SOFTWARE_CHANNEL_IDENTIFIER",
+        "TRANSMITTER_MODE",
+        "PING_NUMBER",
+        "DETECTED_BOTTOM_RANGE",
+        "TUPLE_ATTRIBUTE",
+        "KIND",
+        "VALUES",
+    ];
+    for (call, kind, fields) in [
+        ("FORWARD", "STEP", &step[..]),
+        ("BACKWARD", "STEP", &step),
+        ("ASK", "ASK", &ask),
+        ("READ_PING", "PING", &ping),
+    ] {
+        holds_number(&header, &format!("{call}_ENTRIES"), HEAD + fields.len());
+        for (nth, field) in fields.iter().enumerate() {
+            holds_number(&header, &format!("{kind}_{field}"), HEAD + nth);
+        }
+    }
 }
 
 /// A name in capitals: `NoParent` is `NO_PARENT`.
@@ -175,6 +237,8 @@ fn limits_and_pings() {
         ("FILE_LIMIT", FILE_LIMIT),
         ("TUPLE_LIMIT", TUPLE_LIMIT),
         ("VALUE_LIMIT", VALUE_LIMIT),
+        ("SOUNDER_LIMIT", SOUNDER_LIMIT),
+        ("CHANNEL_LIMIT", CHANNEL_LIMIT),
         ("REMARK", REMARK),
         ("FIRST_PLACE", FIRST_PLACE),
         ("TYPE_PING_U", types::PING_U.into()),

@@ -3,8 +3,9 @@
 //!
 //! A file is a slice of bytes and may hold anything; a place is a byte offset
 //! in it. Every call accepts, or gives a [`Refusal`]: the first rule broken, in
-//! document 01's order. A refused call leaves lent memory as it was; an accepted
-//! one leaves what stands past what it wrote.
+//! document 01's order, in which 02's codes follow in the place of 10. A refused
+//! call leaves lent memory as it was; an accepted one leaves what stands past what
+//! it wrote.
 //!
 //! ```
 //! use hac::{Navigation, Order};
@@ -53,7 +54,10 @@ mod wrong;
 
 pub use answer::{Code, Refusal};
 pub use field::{DocumentId, SoftwareChannel, Transceiver};
-pub use file::{ask, check, Order, Parents, FILE_LIMIT, FIRST_PLACE, TUPLE_LIMIT, VALUE_LIMIT};
+pub use file::{
+    ask, check, Counts, Order, Parents, CHANNEL_LIMIT, FILE_LIMIT, FIRST_PLACE, SOUNDER_LIMIT,
+    TUPLE_LIMIT, VALUE_LIMIT,
+};
 pub use normal::{normal_form, normalise, normalise_tuple, Normal};
 pub use ping::{
     read_ping, read_samples, samples, write_c32, write_u32, Ping, PingHeader, PingKind, Samples,

@@ -1,7 +1,7 @@
 //! The normal form of a file, and of one tuple.
 
 use crate::answer::Refusal;
-use crate::call::{self, HEAD, LENGTH, TUPLES};
+use crate::call::{self, COMPARED, HEAD, LENGTH, TUPLES};
 use crate::field::Field;
 use crate::file::FILE_LIMIT;
 
@@ -12,6 +12,9 @@ pub struct Normal {
     pub tuples: usize,
     /// How many bytes were written.
     pub length: usize,
+    /// How many identifiers are compared while the file handed in is linked, as
+    /// [`crate::Counts`] has it; 0 for one tuple.
+    pub compared: usize,
 }
 
 impl Normal {
@@ -19,6 +22,7 @@ impl Normal {
         Normal {
             tuples: Field::of_entry(answer[TUPLES]),
             length: Field::of_entry(answer[LENGTH]),
+            compared: Field::of_entry(answer[COMPARED]),
         }
     }
 }

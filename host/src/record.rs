@@ -35,7 +35,7 @@ macro_rules! give {
 macro_rules! define {
     ($(
         $(#[$about:meta])*
-        $record:ident = $type:ident: $read:ident[$entries:literal] => ($($beside:ident)?),
+        $record:ident = $type:ident: $read:ident[$told:literal] => ($($beside:ident)?),
         $write:ident <= ($($characters:ident)?) { $($field:ident: $kind:ty,)* }
     )*) => {$(
         $(#[$about])*

@@ -1,15 +1,15 @@
 //! The eleven records, said once.
 
 /// Hands the table of records to a macro. A row: the record and its type, its
-/// reader with the entries of its answer and the characters that stand beside
-/// what it reads, its writer with the characters that it takes, and the fields
-/// in the order of both.
+/// reader with how many fields it tells and the characters that stand beside
+/// what it reads (told as two fields, place and length), its writer with the
+/// characters that it takes, and the fields in the order of both.
 macro_rules! records {
     ($then:ident) => {
         $then! {
             /// Signature, type 65535: TR Table 18. Its identifier is no field: 44204 and 44201
             /// are read, and 44204 is written.
-            Signature = SIGNATURE: hac_read_signature[8] => (), hac_write_signature <= () {
+            Signature = SIGNATURE: hac_read_signature[4] => (), hac_write_signature <= () {
                 hac_version: u16,
                 acquisition_software_version: u16,
                 acquisition_software_identifier: u32,
@@ -17,7 +17,7 @@ macro_rules! records {
             }
             /// Echosounder, type 100: TR Table 2. Its remarks, [`REMARK`] characters, stand
             /// beside it; to write others is refused by 9 at 0.
-            Sounder = SOUNDER: hac_read_sounder[19] => (remarks), hac_write_sounder <= (remarks) {
+            Sounder = SOUNDER: hac_read_sounder[15] => (remarks), hac_write_sounder <= (remarks) {
                 number_of_software_channels: u16,
                 echosounder_document_identifier: DocumentId,
                 sound_speed: u16,
@@ -34,7 +34,7 @@ macro_rules! records {
             }
             /// Channel, type 1000: TR Table 4. Its remarks, [`REMARK`] characters, stand
             /// beside it; to write others is refused by 9 at 0.
-            Channel = CHANNEL: hac_read_channel[31] => (remarks), hac_write_channel <= (remarks) {
+            Channel = CHANNEL: hac_read_channel[27] => (remarks), hac_write_channel <= (remarks) {
                 software_channel_identifier: SoftwareChannel,
                 echosounder_document_identifier: DocumentId,
                 sampling_rate: u32,
@@ -62,7 +62,7 @@ macro_rules! records {
                 tuple_attribute: i32,
             }
             /// Threshold, type 10100: TR Table 8.
-            Threshold = THRESHOLD: hac_read_threshold[16] => (), hac_write_threshold <= () {
+            Threshold = THRESHOLD: hac_read_threshold[12] => (), hac_write_threshold <= () {
                 time_fraction: u16,
                 time_cpu: u32,
                 software_channel_identifier: SoftwareChannel,
@@ -77,7 +77,7 @@ macro_rules! records {
                 tuple_attribute: i32,
             }
             /// Position, type 20: TR Table 7, whose time fraction is signed.
-            Position = POSITION: hac_read_position[11] => (), hac_write_position <= () {
+            Position = POSITION: hac_read_position[7] => (), hac_write_position <= () {
                 time_fraction: i16,
                 time_cpu: u32,
                 gps_time: u32,
@@ -87,7 +87,7 @@ macro_rules! records {
                 tuple_attribute: i32,
             }
             /// Navigation, type 30: TR Table 9.
-            Navigation = NAVIGATION: hac_read_navigation[10] => (), hac_write_navigation <= () {
+            Navigation = NAVIGATION: hac_read_navigation[6] => (), hac_write_navigation <= () {
                 time_fraction: u16,
                 time_cpu: u32,
                 navigation_system: u16,
@@ -97,7 +97,7 @@ macro_rules! records {
             }
             /// Platform attitude, type 40: TR Table 10. [`SoftwareChannel::ALL`] means all
             /// channels.
-            Attitude = ATTITUDE: hac_read_attitude[14] => (), hac_write_attitude <= () {
+            Attitude = ATTITUDE: hac_read_attitude[10] => (), hac_write_attitude <= () {
                 time_fraction: u16,
                 time_cpu: u32,
                 software_channel_identifier: SoftwareChannel,
@@ -112,26 +112,26 @@ macro_rules! records {
             /// Event marker, type 10110: TR Table 11. Its text, a multiple of four characters
             /// and not none, stands beside it; to write another is refused by 9 at 0, one that
             /// makes the tuple too long by 11 at 0.
-            Event = EVENT: hac_read_event[9] => (text), hac_write_event <= (text) {
+            Event = EVENT: hac_read_event[5] => (text), hac_write_event <= (text) {
                 time_fraction: u16,
                 time_cpu: u32,
                 tuple_attribute: i32,
             }
             /// Start of run, type 65516: TR Table 15.
-            RunStart = RUN_START: hac_read_run_start[7] => (), hac_write_run_start <= () {
+            RunStart = RUN_START: hac_read_run_start[3] => (), hac_write_run_start <= () {
                 time_fraction: u16,
                 time_cpu: u32,
                 tuple_attribute: i32,
             }
             /// End of run, type 65517: TR Table 16.
-            RunEnd = RUN_END: hac_read_run_end[7] => (), hac_write_run_end <= () {
+            RunEnd = RUN_END: hac_read_run_end[3] => (), hac_write_run_end <= () {
                 time_fraction: u16,
                 time_cpu: u32,
                 tuple_attribute: i32,
             }
             /// End of file, type 65534: TR Table 17. Its possible data stand beside it when
             /// read; it is written with two bytes of them, both 0.
-            FileEnd = FILE_END: hac_read_file_end[10] => (data), hac_write_file_end <= () {
+            FileEnd = FILE_END: hac_read_file_end[6] => (data), hac_write_file_end <= () {
                 time_fraction: u16,
                 time_cpu: u32,
                 closing_mode: u16,

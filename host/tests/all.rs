@@ -8,6 +8,7 @@ mod damage;
 mod face;
 mod json;
 mod known;
+mod links;
 mod many;
 mod names;
 mod normal;

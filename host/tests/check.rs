@@ -2,7 +2,7 @@
 
 use crate::damage;
 use crate::json;
-use crate::known::{e1, repository, vector, Known, NORMAL, SPELLINGS};
+use crate::known::{self, e1, repository, vector, Known, NORMAL, SPELLINGS};
 use crate::room::{hac, run, Room};
 use hac::{check, Code, Refusal};
 use std::collections::BTreeSet;
@@ -19,7 +19,7 @@ fn refused(code: u8, place: usize) -> Refusal {
 fn samples_are_accepted() {
     for name in SPELLINGS.iter().chain([&NORMAL]) {
         let known = Known::sample(name);
-        assert_eq!(check(&known.bytes), Ok(known.tuples.len()), "{name}");
+        assert_eq!(check(&known.bytes), Ok(known.counts()), "{name}");
     }
 }
 
@@ -65,8 +65,8 @@ fn refused_vectors() {
         let file = vector(&name);
         let answer = match code {
             // the normaliser's alone
-            18 => hac::normal_form(&file).map(|_| 0),
-            _ => check(&file),
+            18 => hac::normal_form(&file).map(drop),
+            _ => check(&file).map(drop),
         };
         assert_eq!(
             answer.map_err(|refusal| refusal.code.number()),
@@ -85,11 +85,8 @@ fn refused_vectors() {
 fn one_accepted_file() {
     let known = Known::sample("cruise-msb");
     let ran = run(hac(["check"]).arg(&known.path));
-    let line = format!(
-        "{}: accepted, {} tuples\n",
-        known.path.display(),
-        known.tuples.len()
-    );
+    let verdict = known::accepted(known.counts());
+    let line = format!("{}: {verdict}\n", known.path.display());
     assert_eq!((ran.status, ran.out, ran.err), (0, line, String::new()));
 }
 
@@ -126,13 +123,14 @@ fn objects() {
     let [accepted, refused, unread, summary] = &json::objects(&ran.out)[..] else {
         panic!("four objects: {}", ran.out);
     };
-    assert_eq!(accepted.keys(), ["file", "outcome", "tuples"]);
+    assert_eq!(accepted.keys(), ["file", "outcome", "tuples", "compared"]);
     assert_eq!(
         accepted.text("file"),
         known.path.to_str().expect("a plain name")
     );
     assert_eq!(accepted.text("outcome"), "accepted");
     assert_eq!(accepted.number("tuples"), known.tuples.len() as i128);
+    assert_eq!(accepted.number("compared"), known::COMPARED as i128);
     assert_eq!(
         refused.keys(),
         ["file", "outcome", "code", "words", "place"]
@@ -160,11 +158,7 @@ fn order_and_status() {
     let missing = room.at("m.hac");
     let ran = run(hac(["check"]).args([&sound, &broken]));
     let lines = [
-        format!(
-            "{}: accepted, {} tuples",
-            sound.display(),
-            known.tuples.len()
-        ),
+        format!("{}: {}", sound.display(), known::accepted(known.counts())),
         format!("{}: refused, {}", broken.display(), refused(4, 4)),
         "files 2, accepted 1, refused 1, not read 0".into(),
         format!("{:>8}  {}", 1, Code::NoEnd),

@@ -96,9 +96,9 @@ const CHANNEL: u16 = 1000;
 const PING_U: u16 = 10000;
 const PING_C: u16 = 10010;
 
-/// 01's limits: sounders and channels of a file, values of a ping.
-const SOUNDERS: usize = 16;
-const CHANNELS: usize = 64;
+/// 02's limits: sounders and channels of a file.
+const SOUNDERS: usize = 64;
+const CHANNELS: usize = 1024;
 
 /// A C-32 ping of some values, all 1, with the header of another in LSB order.
 pub fn long_ping(like: &Tuple, values: usize) -> Vec<u8> {
@@ -220,12 +220,12 @@ fn links(known: &Known) -> Vec<Damaged> {
     let more = declarations(&known.tuples[sounder].bytes, 8, SOUNDERS);
     sounders.tuples.splice(end..end, more);
     let one_too_many = SOUNDERS - known.of(SOUNDER).count();
-    let seventeenth = sounders.place(end + one_too_many);
+    let sounder_over = sounders.place(end + one_too_many);
     let mut channels = draft();
     let more = declarations(&known.tuples[channel].bytes, 6, CHANNELS);
     channels.tuples.splice(end..end, more);
     let one_too_many = CHANNELS - known.of(CHANNEL).count();
-    let sixty_fifth = channels.place(end + one_too_many);
+    let channel_over = channels.place(end + one_too_many);
     let mut silent = draft();
     silent
         .tuples
@@ -233,8 +233,8 @@ fn links(known: &Known) -> Vec<Damaged> {
     let length = silent.bytes().len();
     vec![
         same.refused("12-channel", 12, again),
-        sounders.refused("14-sounders", 14, seventeenth),
-        channels.refused("14-channels", 14, sixty_fifth),
+        sounders.refused("14-sounders", 14, sounder_over),
+        channels.refused("14-channels", 14, channel_over),
         silent.refused("16-no-ping", 16, length),
         draft().broken("17-count", 17, sounder, |tuple| tuple[6] += 1),
     ]

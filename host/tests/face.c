@@ -3,6 +3,7 @@
 
 #include <stdio.h>
 #include <stdlib.h>
+#include <string.h>
 
 typedef unsigned long long number;
 
@@ -12,10 +13,15 @@ static size_t length;
 /* The fields of each call that was accepted. */
 static uint64_t answer[HAC_READ_CHANNEL_ENTRIES];
 
+static void print_counts(void) {
+    printf("%llu tuples, %llu compared\n", (number)answer[HAC_TUPLES], (number)answer[HAC_COMPARED]);
+}
+
 /* Ends the program where a call is refused. */
 static void accept(uint8_t code) {
     if (code != HAC_ACCEPTED) {
-        printf("refused %d at %llu\n", (int)answer[HAC_CODE], (number)answer[HAC_PLACE]);
+        printf("refused %d at %llu: ", (int)answer[HAC_CODE], (number)answer[HAC_PLACE]);
+        print_counts();
         exit(1);
     }
 }
@@ -35,12 +41,13 @@ static void print_event(size_t place) {
     printf("event %.*s\n", (int)answer[HAC_EVENT_TEXT_LENGTH], (const char *)file + answer[HAC_EVENT_TEXT_PLACE]);
 }
 
-/* A ping's parents, and the sum of its samples. */
+/* A ping's parents, what its channel says of its samples, and the sum of these. */
 static void print_ping(size_t place) {
     static uint32_t numbers[HAC_VALUE_LIMIT];
     static int32_t values[HAC_VALUE_LIMIT];
     accept(hac_ask(file, length, place, answer, HAC_ASK_ENTRIES));
-    printf("ping of %llu of %llu", (number)answer[HAC_ASK_CHANNEL], (number)answer[HAC_ASK_SOUNDER]);
+    printf("ping of %llu of %llu, rate %llu, type %llu", (number)answer[HAC_ASK_CHANNEL], (number)answer[HAC_ASK_SOUNDER],
+        (number)answer[HAC_ASK_SAMPLING_RATE], (number)answer[HAC_ASK_TYPE_OF_DATA_SAMPLE]);
     accept(hac_read_samples(file, length, place, numbers, HAC_VALUE_LIMIT, values, HAC_VALUE_LIMIT, answer,
         HAC_READ_SAMPLES_ENTRIES));
     long long sum = 0;
@@ -67,8 +74,10 @@ int main(int count, char **arguments) {
     }
     length = fread(file, 1, sizeof file, from);
     fclose(from);
+    /* what a call doesn't write would be seen */
+    memset(answer, 0xA5, sizeof answer);
     accept(hac_check(file, length, answer, HAC_CHECK_ENTRIES));
-    printf("%llu tuples\n", (number)answer[HAC_TUPLES]);
+    print_counts();
     uint64_t step[HAC_FORWARD_ENTRIES];
     for (size_t place = HAC_FIRST_PLACE;; place = (size_t)step[HAC_STEP_NEXT]) {
         accept(hac_forward(file, length, place, step, HAC_FORWARD_ENTRIES));

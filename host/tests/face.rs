@@ -1,7 +1,7 @@
 //! The header: by itself, and in C programs linked with the archive.
 
 use crate::damage;
-use crate::known::{repository, Known, Tuple, NORMAL, SPELLINGS};
+use crate::known::{repository, Known, Tuple, COMPARED, NORMAL, SPELLINGS};
 use crate::room::{run, Ran, Room};
 use std::fmt::Write;
 use std::path::{Path, PathBuf};
@@ -98,14 +98,19 @@ fn printed(known: &Known, tuple: &Tuple, normal: &mut dyn Iterator<Item = &Tuple
             let channel = known
                 .of(1000)
                 .find(|channel| channel.two(6) == tuple.two(12));
-            let sounder = channel.expect("a channel").four(8);
+            let channel = channel.expect("a channel");
+            let (number, sounder) = (channel.two(6), channel.four(8));
+            let (rate, kind) = (channel.four(12), channel.two(16));
             let pairs = match normal.kind() {
                 10000 => (normal.bytes.len() - 32) / 8,
                 _ => 0,
             };
             let values = (0..pairs).map(|nth| i64::from(normal.four(28 + 8 * nth) as i32));
-            let (channel, sum) = (tuple.two(12), values.sum::<i64>());
-            format!("ping of {channel} of {sounder}: {pairs} samples, sum {sum}\n")
+            let sum: i64 = values.sum();
+            format!(
+                "ping of {number} of {sounder}, rate {rate}, type {kind}: \
+                 {pairs} samples, sum {sum}\n"
+            )
         }
         _ => String::new(),
     }
@@ -118,7 +123,8 @@ fn face() {
     let normal = Known::sample(NORMAL);
     for name in SPELLINGS {
         let known = Known::sample(name);
-        let mut expected = format!("{} tuples\n", known.tuples.len());
+        let tuples = known.tuples.len();
+        let mut expected = format!("{tuples} tuples, {COMPARED} compared\n");
         let mut pings = normal.tuples.iter().filter(|tuple| tuple.is_ping());
         for tuple in &known.tuples {
             write!(expected, "{}", printed(&known, tuple, &mut pings)).expect("a string");
@@ -134,17 +140,21 @@ fn face() {
         }
         let path = room.put(copy.name, &copy.bytes);
         let ran = run(Command::new(&program).arg(path));
-        let said = format!("refused {} at {}\n", copy.code, copy.place);
+        let refused = format!("refused {} at {}", copy.code, copy.place);
+        let said = format!("{refused}: 0 tuples, 0 compared\n");
         assert_eq!((ran.status, ran.out), (1, said), "{}", copy.name);
     }
 }
 
-/// All calls of the header are tried, and each refuses too few entries.
+/// All calls of the header are tried, and each refuses too few entries; those that
+/// check a file tell how many identifiers were compared, and a refusal tells none.
 #[test]
 fn few_entries() {
     let room = Room::new();
     let program = built(&room, "few");
-    let ran = run(Command::new(&program).arg(Known::sample("cruise-msb").path));
+    let mut command = Command::new(&program);
+    command.arg(Known::sample("cruise-msb").path);
+    let ran = run(command.arg(COMPARED.to_string()));
     let mut tried = ran.lines();
     tried.sort_unstable();
     let header = std::fs::read_to_string(repository("include/hac.h")).expect("the header");

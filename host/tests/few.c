@@ -1,6 +1,7 @@
 /* Every call with each number of entries from none to its own. With fewer it returns HAC_NO_ROOM and writes nothing; with its own
-   it is accepted and leaves what stands behind. Prints the calls that were tried. Takes a sound file with a tuple of each listed
-   type. */
+   it is accepted, tells how many identifiers it compared and leaves what stands behind. Prints the calls that were tried. Then
+   refusals of a file, which tell no counts. Takes a sound file with a tuple of each listed type, and how many identifiers are
+   compared while it is linked. */
 #include "hac.h"
 
 #include <stdio.h>
@@ -24,9 +25,23 @@ static struct {
 static uint8_t file[HAC_FILE_LIMIT];
 static size_t length;
 
+/* How many identifiers are compared while the file is linked. */
+static uint64_t linked;
+
 static void fail(const char *call, size_t entries) {
     printf("%s with %d entries\n", call, (int)entries);
     exit(1);
+}
+
+/* How many a call compares that is accepted: a check, a question and the normaliser link the file, the others none. */
+static uint64_t compared_by(const char *call) {
+    static const char *const whole[] = {"hac_check", "hac_ask", "hac_normalise"};
+    for (size_t i = 0; i < sizeof whole / sizeof *whole; i++) {
+        if (strcmp(call, whole[i]) == 0) {
+            return linked;
+        }
+    }
+    return 0;
 }
 
 static void judge(const char *call, uint8_t code, size_t entries, size_t least) {
@@ -38,6 +53,7 @@ static void judge(const char *call, uint8_t code, size_t entries, size_t least) 
     }
     size_t behind = sizeof lent.answer - least * sizeof *lent.answer;
     if (code != HAC_ACCEPTED || lent.answer[HAC_CODE] != HAC_ACCEPTED || lent.answer[HAC_PLACE] != 0 ||
+        lent.answer[HAC_COMPARED] != compared_by(call) ||
         memcmp(lent.answer + least, before.answer + least, behind) != 0 || lent.answer[least - 1] == before.answer[least - 1]) {
         fail(call, entries);
     }
@@ -49,6 +65,20 @@ static void judge(const char *call, uint8_t code, size_t entries, size_t least) 
         memset(&lent, FILLED, sizeof lent);                                                   \
         judge(#call, call(__VA_ARGS__, lent.answer, entries), entries, least);                \
     }
+
+/* A refusal tells its code and its place, counts nothing, and leaves all else as it was. */
+static void judge_refused(const char *call, uint8_t code, uint8_t expected, size_t place) {
+    uint64_t told[HAC_COMPARED + 1] = {expected, place, 0, 0, 0};
+    bool tells = code == expected && memcmp(lent.answer, told, sizeof told) == 0;
+    memcpy(lent.answer, before.answer, sizeof told);
+    if (!tells || memcmp(&lent, &before, sizeof lent) != 0) {
+        fail(call, ENTRIES);
+    }
+}
+
+#define REFUSE(call, code, place, ...)                                                        \
+    memset(&lent, FILLED, sizeof lent);                                                       \
+    judge_refused(#call, call(__VA_ARGS__, lent.answer, ENTRIES), code, place);
 
 #define READ(call, least, type) TRY(call, least, file, length, place_of(type))
 
@@ -118,17 +148,29 @@ static void try_writers(void) {
     WRITE(hac_write_file_end, 1, 2, 3, 4)
 }
 
+/* Refusals behind all links of the file: its last tuple is cut short, no ping starts at the place, or memory is too short. */
+static void try_refused(void) {
+    size_t last = place_of(HAC_TYPE_FILE_END), cut = length - 1;
+    REFUSE(hac_check, HAC_CUT_SHORT, last, file, cut)
+    REFUSE(hac_ask, HAC_CUT_SHORT, last, file, cut, place_of(HAC_TYPE_PING_C))
+    REFUSE(hac_ask, HAC_UNFIT, last, file, length, last)
+    REFUSE(hac_normalise, HAC_CUT_SHORT, last, file, cut, lent.out, ROOM)
+    REFUSE(hac_normalise, HAC_NO_ROOM, 0, file, length, lent.out, 0)
+}
+
 int main(int count, char **arguments) {
-    FILE *from = count == 2 ? fopen(arguments[1], "rb") : NULL;
+    FILE *from = count == 3 ? fopen(arguments[1], "rb") : NULL;
     if (from == NULL) {
         return 2;
     }
     length = fread(file, 1, sizeof file, from);
     fclose(from);
     memset(&before, FILLED, sizeof before);
+    linked = strtoull(arguments[2], NULL, 10);
     try_whole();
     try_pings();
     try_readers();
     try_writers();
+    try_refused();
     return 0;
 }

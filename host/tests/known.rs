@@ -1,7 +1,7 @@
 //! What is known of the samples and the vectors, from their lines alone: a tuple
 //! a line, the mark on the first.
 
-use hac::Order;
+use hac::{Counts, Order};
 use std::fs;
 use std::path::{Path, PathBuf};
 
@@ -13,6 +13,11 @@ pub const SPELLINGS: [&str; 4] = [
     "cruise-msb-cut",
 ];
 pub const NORMAL: &str = "cruise-normal";
+
+/// How many identifiers linking the cruise compares, however it is spelled: for its
+/// channels 1, 1 and 2, for its attitudes 0 (for all channels) and 3, for its
+/// thresholds 1 and 2, for its pings 1, 2, 3, 2, 1 and 3.
+pub const COMPARED: usize = 22;
 
 /// A place in the repository.
 pub fn repository(path: &str) -> PathBuf {
@@ -107,6 +112,14 @@ impl Known {
         }
     }
 
+    /// What the check counts in it.
+    pub fn counts(&self) -> Counts {
+        Counts {
+            tuples: self.tuples.len(),
+            compared: COMPARED,
+        }
+    }
+
     /// The tuples of a type.
     pub fn of(&self, kind: u16) -> impl Iterator<Item = &Tuple> {
         self.tuples.iter().filter(move |tuple| tuple.kind() == kind)
@@ -120,6 +133,11 @@ impl Known {
     pub fn pings(&self) -> Vec<&Tuple> {
         self.tuples.iter().filter(|tuple| tuple.is_ping()).collect()
     }
+}
+
+/// What the program says of an accepted file.
+pub fn accepted(Counts { tuples, compared }: Counts) -> String {
+    format!("accepted, {tuples} tuples, {compared} identifiers compared")
 }
 
 /// The bytes of 01's examples E1, E3 and E4.

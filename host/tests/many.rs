@@ -2,17 +2,17 @@
 
 use crate::damage;
 use crate::json::{self, Value};
-use crate::known::{Known, NORMAL, SPELLINGS};
+use crate::known::{accepted, Known, NORMAL, SPELLINGS};
 use crate::room::{hac, run, Room};
-use hac::Code;
+use hac::{Code, Counts};
 use std::collections::BTreeMap;
 use std::fs::{self, File};
 use std::os::unix::fs::symlink;
 use std::path::{Path, PathBuf};
 use std::process::Command;
 
-/// What is known of a deposit: its tuples, or its refusal with what is said behind.
-type Expected = Result<usize, (u8, usize, &'static str)>;
+/// What is known of a deposit: its counts, or its refusal with what is said behind.
+type Expected = Result<Counts, (u8, usize, &'static str)>;
 
 /// A deposit that many copies are made of.
 struct Master {
@@ -25,7 +25,7 @@ fn masters() -> Vec<Master> {
     let sound = SPELLINGS.iter().chain([&NORMAL]).map(|name| {
         let known = Known::sample(name);
         Master {
-            expected: Ok(known.tuples.len()),
+            expected: Ok(known.counts()),
             bytes: known.bytes,
         }
     });
@@ -64,7 +64,7 @@ fn deposits(room: &Room) -> BTreeMap<PathBuf, Expected> {
 fn line(path: &Path, expected: &Expected) -> String {
     let path = path.display();
     match expected {
-        Ok(tuples) => format!("{path}: accepted, {tuples} tuples"),
+        Ok(counts) => format!("{path}: {}", accepted(*counts)),
         Err((code, place, sample)) => {
             let code = Code::of(*code).expect("a code");
             format!("{path}: refused, {code}, at {place}{sample}")
@@ -121,7 +121,10 @@ fn a_thousand_objects() {
     for (object, (path, expected)) in objects.iter().zip(&deposits) {
         assert_eq!(object.text("file"), path.to_str().expect("a plain name"));
         match expected {
-            Ok(tuples) => assert_eq!(object.number("tuples"), *tuples as i128),
+            Ok(Counts { tuples, compared }) => {
+                assert_eq!(object.number("tuples"), *tuples as i128);
+                assert_eq!(object.number("compared"), *compared as i128);
+            }
             Err((code, place, _)) => {
                 assert_eq!(object.number("code"), (*code).into());
                 assert_eq!(object.number("place"), *place as i128);

@@ -1,7 +1,7 @@
 //! Names that depositors chose: control characters, and what is no UTF-8.
 
 use crate::json;
-use crate::known::Known;
+use crate::known::{accepted, Known};
 use crate::room::{hac, run, Room};
 use std::ffi::OsStr;
 use std::os::unix::ffi::OsStrExt;
@@ -30,9 +30,9 @@ fn shown_and_told() {
         let room = Room::new();
         let path = room.put(OsStr::from_bytes(name), &known.bytes);
         let folder = room.path().display();
-        let accepted = format!("{folder}/{line}: accepted, {} tuples", known.tuples.len());
+        let first = format!("{folder}/{line}: {}", accepted(known.counts()));
         let ran = run(hac(["check"]).arg(room.path()));
-        assert_eq!(ran.lines()[0], accepted);
+        assert_eq!(ran.lines()[0], first);
         assert_eq!(ran.status, 0);
 
         let ran = run(hac(["check", "--json"]).arg(&path));

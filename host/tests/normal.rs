@@ -3,7 +3,7 @@
 
 use crate::damage::{self, long_ping, Draft};
 use crate::json;
-use crate::known::{e3, e4, vector, Known, NORMAL, SPELLINGS};
+use crate::known::{e3, e4, vector, Known, COMPARED, NORMAL, SPELLINGS};
 use crate::room::{hac, run, Ran, Room};
 use hac::*;
 use std::fs;
@@ -39,6 +39,7 @@ fn lent_memory() {
     let normal = Normal {
         tuples: known.tuples.len(),
         length,
+        compared: COMPARED,
     };
     assert_eq!(normalise(&known.bytes, &mut out), Ok(normal));
     assert_eq!(out[..length], expected[..]);
@@ -74,7 +75,12 @@ fn unturnable() {
     unlisted[4..6].copy_from_slice(&[0, 5]);
     draft.tuples.insert(1, unlisted);
     let place = known.tuples[1].place;
-    assert_eq!(check(&draft.bytes()), Ok(known.tuples.len() + 1));
+    let tuples = known.tuples.len() + 1;
+    let counts = Counts {
+        tuples,
+        compared: COMPARED,
+    };
+    assert_eq!(check(&draft.bytes()), Ok(counts));
     assert_eq!(
         normal_form(&draft.bytes()),
         refused(Code::Unturnable, place)
@@ -90,7 +96,12 @@ fn over_the_limit() {
     let end = draft.tuples.len() - 1;
     let most = FILE_LIMIT / TUPLE_LIMIT;
     draft.tuples.splice(end..end, vec![ping; most]);
-    assert_eq!(check(&draft.bytes()), Ok(known.tuples.len() + most));
+    // of the first channel, so that each compares one identifier
+    let counts = Counts {
+        tuples: known.tuples.len() + most,
+        compared: COMPARED + most,
+    };
+    assert_eq!(check(&draft.bytes()), Ok(counts));
     assert_eq!(
         normal_form(&draft.bytes()),
         refused(Code::NormalOverLimit, 0)
@@ -104,6 +115,15 @@ fn over_the_limit() {
     );
 }
 
+/// One tuple's normal form: nothing is linked for it.
+fn one_tuple(length: usize) -> Normal {
+    Normal {
+        tuples: 1,
+        length,
+        compared: 0,
+    }
+}
+
 /// E3 and E4, an index tuple, bytes behind, and memory that is too short.
 #[test]
 fn tuples() {
@@ -111,16 +131,15 @@ fn tuples() {
     for (file, printed) in [(e3(), "e3.normal_tuple"), (e4(), "e4.normal_tuple")] {
         let expected = vector(printed);
         let length = expected.len();
-        let normal = Normal { tuples: 1, length };
+        let normal = one_tuple(length);
         assert_eq!(normalise_tuple(&file, &mut out), Ok(normal));
         assert_eq!(out[..length], expected[..]);
     }
     let index = vector("tuple-index-class.msb.txt");
-    let normal = Normal {
-        tuples: 1,
-        length: FIRST_PLACE,
-    };
-    assert_eq!(normalise_tuple(&index, &mut out), Ok(normal));
+    assert_eq!(
+        normalise_tuple(&index, &mut out),
+        Ok(one_tuple(FIRST_PLACE))
+    );
     assert_eq!(out[..FIRST_PLACE], Order::Lsb.mark());
     let behind = [e3(), vec![0]].concat();
     assert_eq!(

@@ -2,7 +2,7 @@
 
 use crate::damage::long_ping;
 use crate::json;
-use crate::known::{decode, e4, vector, Known, Tuple, NORMAL, SPELLINGS};
+use crate::known::{decode, e4, vector, Known, Tuple, COMPARED, NORMAL, SPELLINGS};
 use crate::room::{hac, run};
 use hac::*;
 
@@ -165,7 +165,8 @@ fn the_most_values() {
     assert_eq!(samples(&alone(VALUE_LIMIT + 1), FIRST_PLACE), Err(refusal));
 }
 
-/// The parents of a ping, found by its identifiers among the tuples before it.
+/// The parents of a ping, found by its identifiers among the tuples before it; the
+/// channel's rate and type stand at 12 and 16 of its tuple.
 fn parents_of(known: &Known, ping: &Tuple) -> Parents {
     let id = ping.two(12);
     let channel = known.of(1000).find(|channel| channel.two(6) == id);
@@ -175,9 +176,12 @@ fn parents_of(known: &Known, ping: &Tuple) -> Parents {
     Parents {
         channel: SoftwareChannel(id),
         channel_place: channel.place,
+        sampling_rate: channel.four(12),
+        type_of_data_sample: channel.two(16),
         sounder: DocumentId(document),
         sounder_place: sounder.expect("a sounder").place,
         tuples: known.tuples.len(),
+        compared: COMPARED,
     }
 }
 
@@ -206,24 +210,28 @@ fn printed_parents() {
         let place = ping.place.to_string();
         let ran = run(hac(["parents"]).arg(&known.path).arg(&place));
         let line = format!(
-            "channel {} at {}, echosounder {} at {}\n",
-            parents.channel.0, parents.channel_place, parents.sounder.0, parents.sounder_place
+            "channel {} at {}, sampling rate {}, type of data sample {}, echosounder {} at {}\n",
+            parents.channel.0,
+            parents.channel_place,
+            parents.sampling_rate,
+            parents.type_of_data_sample,
+            parents.sounder.0,
+            parents.sounder_place
         );
         assert_eq!((ran.status, ran.out, ran.err), (0, line, String::new()));
         let ran = run(hac(["parents", "--json"]).arg(&known.path).arg(&place));
         let object = &json::objects(&ran.out)[0];
-        let keys = ["channel", "channel_place", "sounder", "sounder_place"];
-        assert_eq!(object.keys(), keys);
-        assert_eq!(object.number("channel"), parents.channel.0.into());
-        assert_eq!(
-            object.number("channel_place"),
-            parents.channel_place as i128
-        );
-        assert_eq!(object.number("sounder"), parents.sounder.0.into());
-        assert_eq!(
-            object.number("sounder_place"),
-            parents.sounder_place as i128
-        );
+        let told = object.keys().into_iter();
+        let told: Vec<_> = told.map(|key| (key, object.number(key))).collect();
+        let expected: [(&str, i128); 6] = [
+            ("channel", parents.channel.0.into()),
+            ("channel_place", parents.channel_place as i128),
+            ("sampling_rate", parents.sampling_rate.into()),
+            ("type_of_data_sample", parents.type_of_data_sample.into()),
+            ("sounder", parents.sounder.0.into()),
+            ("sounder_place", parents.sounder_place as i128),
+        ];
+        assert_eq!(told, expected);
     }
 }
 

@@ -1,6 +1,6 @@
 //! Standard input and output: read once and no further than needed; closed, or full.
 
-use crate::known::{Known, NORMAL};
+use crate::known::{accepted, Known, NORMAL};
 use crate::room::{hac, run, Ran, Room, PATIENCE};
 use hac::Code;
 use std::fs::{self, File};
@@ -29,10 +29,7 @@ fn standard_input() {
     let room = Room::new();
     let known = Known::sample("cruise-msb");
     let ran = fed(&["check", "-"], &known.bytes);
-    assert_eq!(
-        ran.out,
-        format!("-: accepted, {} tuples\n", known.tuples.len())
-    );
+    assert_eq!(ran.out, format!("-: {}\n", accepted(known.counts())));
     assert_eq!((ran.status, ran.err.as_str()), (0, ""));
 
     let ran = fed(&["walk", "-"], &known.bytes);
@@ -70,11 +67,7 @@ fn lines_as_they_become_ready() {
             .try_for_each(|line| tell.send(line))
     });
     let next = || told.recv_timeout(PATIENCE).expect("a line in time");
-    let first = format!(
-        "{}: accepted, {} tuples",
-        known.path.display(),
-        known.tuples.len()
-    );
+    let first = format!("{}: {}", known.path.display(), accepted(known.counts()));
     assert_eq!(next(), first);
     drop(child.stdin.take());
     assert_eq!(next(), format!("-: refused, {}, at 0", Code::NoMark));

@@ -1,32 +1,42 @@
 //! Chapter "What intake says": the answer.
 
-/// A code, a place, a number of tuples and a length written.
+/// A code, a place, a number of tuples, a length written and, by request m of
+/// 02, a number of identifiers compared.
 #[derive(Clone, Copy, PartialEq, Eq, Debug)]
 pub struct Answer {
     pub code: u32,
     pub place: u64,
     pub tuples: u64,
     pub length: u64,
+    /// While linking the file handed in, where the call checks a whole file.
+    pub compared: u64,
 }
 
 impl Answer {
-    /// Acceptance: code 0 and place 0.
+    /// Acceptance by a call that checks no whole file: code 0 and place 0.
     pub const fn accepted(tuples: u64, length: u64) -> Answer {
+        Answer::checked(tuples, length, 0)
+    }
+
+    /// Acceptance by a call that checks a whole file.
+    pub const fn checked(tuples: u64, length: u64, compared: u64) -> Answer {
         Answer {
             code: 0,
             place: 0,
             tuples,
             length,
+            compared,
         }
     }
 
-    /// A refusal: no tuples and no length.
+    /// A refusal: no tuples, no length and nothing compared.
     pub const fn refused(code: u32, place: u64) -> Answer {
         Answer {
             code,
             place,
             tuples: 0,
             length: 0,
+            compared: 0,
         }
     }
 

@@ -2,7 +2,7 @@
 
 use crate::answer::{Answer, Fault};
 use crate::layout::{self, class, Class};
-use crate::links::{DocumentId, Links, SoftwareChannel};
+use crate::links::{ChannelLink, DocumentId, Links, SoftwareChannel};
 use crate::order::{four_at, two_at, Order};
 use crate::records::judge_fields;
 use crate::samples::{judge_ping, SILENT_LENGTH};
@@ -50,17 +50,16 @@ fn judge_links(links: &mut Links, tuple: &Tuple, bytes: &[u8], order: Order) -> 
     let four = |at| four_at(order, bytes, at);
     match tuple.code {
         layout::SOUNDER => links.declare_sounder(DocumentId(four(8)), two(6), tuple.place),
-        layout::CHANNEL => {
-            let (id, parent) = (SoftwareChannel(two(6)), DocumentId(four(8)));
-            links.declare_channel(id, parent, tuple.place)
-        }
+        layout::CHANNEL => links.declare_channel(ChannelLink {
+            id: SoftwareChannel(two(6)),
+            parent: DocumentId(four(8)),
+            sampling_rate: four(12),
+            type_of_data_sample: two(16),
+            place: tuple.place,
+        }),
         layout::ATTITUDE if SoftwareChannel(two(12)) == SoftwareChannel::ALL => Ok(()),
         layout::PING_U32 | layout::PING_C32 | layout::THRESHOLD | layout::ATTITUDE => {
-            if links.has_channel(SoftwareChannel(two(12))) {
-                Ok(())
-            } else {
-                Err(13)
-            }
+            links.name_channel(SoftwareChannel(two(12)))
         }
         _ => Ok(()),
     }
@@ -90,7 +89,7 @@ pub(crate) fn survey(file: &[u8]) -> Result<Survey, Answer> {
     let mut survey = Survey {
         order,
         tuples: 0,
-        links: Links::new(),
+        links: Links::default(),
         normal_length: 4,
         not_turnable: None,
     };
@@ -121,6 +120,11 @@ pub(crate) fn survey(file: &[u8]) -> Result<Survey, Answer> {
 }
 
 impl Survey {
+    /// The acceptance of a call that checks the file and writes so many bytes.
+    pub fn accepted(&self, length: u64) -> Answer {
+        Answer::checked(self.tuples, length, self.links.compared)
+    }
+
     /// One tuple: 3, 5, 3, 6, 7, 9, 8, 12, 14, 13, 11, then 24 and 25, or 23.
     fn take_tuple(&mut self, file: &[u8], place: usize, seen: &mut Seen) -> Result<Tuple, Fault> {
         let order = self.order;
@@ -145,7 +149,7 @@ impl Survey {
 /// Checks a whole file.
 pub fn check(file: &[u8]) -> Answer {
     match survey(file) {
-        Ok(survey) => Answer::accepted(survey.tuples, 0),
+        Ok(survey) => survey.accepted(0),
         Err(refusal) => refusal,
     }
 }

@@ -29,8 +29,8 @@ pub const TUPLE_LEAST: u64 = 16;
 pub const TUPLE_LIMIT: u64 = 262_144;
 /// Values in one ping, of either kind.
 pub const VALUE_LIMIT: u64 = 32_764;
-pub const SOUNDER_LIMIT: usize = 16;
-pub const CHANNEL_LIMIT: usize = 64;
+pub const SOUNDER_LIMIT: usize = 64;
+pub const CHANNEL_LIMIT: usize = 1024;
 
 /// A width of a row. Attribute and backlink, which end every row, aren't
 /// written out.

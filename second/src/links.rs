@@ -4,13 +4,14 @@
 //! accepted where another is meant.
 
 use crate::layout::{CHANNEL_LIMIT, SOUNDER_LIMIT};
+use std::collections::HashMap;
 
 /// Echosounder document identifier.
-#[derive(Clone, Copy, PartialEq, Eq, Debug)]
+#[derive(Clone, Copy, PartialEq, Eq, Hash, Debug)]
 pub struct DocumentId(pub u32);
 
 /// Software channel identifier.
-#[derive(Clone, Copy, PartialEq, Eq, Debug)]
+#[derive(Clone, Copy, PartialEq, Eq, Hash, Debug)]
 pub struct SoftwareChannel(pub u16);
 
 /// Transceiver (hardware) channel number; it links nothing.
@@ -22,7 +23,6 @@ impl SoftwareChannel {
     pub const ALL: SoftwareChannel = SoftwareChannel(65535);
 }
 
-#[derive(Clone, Copy)]
 pub(crate) struct SounderLink {
     pub id: DocumentId,
     pub place: u64,
@@ -32,103 +32,105 @@ pub(crate) struct SounderLink {
     named: u16,
 }
 
-#[derive(Clone, Copy)]
+/// What a channel tuple says to those who ask, so that nobody reads it again.
 pub(crate) struct ChannelLink {
     pub id: SoftwareChannel,
+    /// The document identifier that it names.
+    pub parent: DocumentId,
+    pub sampling_rate: u32,
+    pub type_of_data_sample: u16,
     pub place: u64,
-    sounder: usize,
 }
 
 /// What has been declared so far, in file order.
+///
+/// An identifier is declared once, so a map leads to the line that a search in
+/// declaration order would stop at.
+#[derive(Default)]
 pub(crate) struct Links {
-    sounders: [SounderLink; SOUNDER_LIMIT],
-    sounder_count: usize,
-    channels: [ChannelLink; CHANNEL_LIMIT],
-    channel_count: usize,
+    sounders: Vec<SounderLink>,
+    channels: Vec<ChannelLink>,
+    sounder_lines: HashMap<DocumentId, usize>,
+    channel_lines: HashMap<SoftwareChannel, usize>,
+    /// The line behind that of the channel named last: pings mostly come channel
+    /// by channel, and this one is looked at before the map.
+    next_line: usize,
+    /// The identifiers compared while linking.
+    pub compared: u64,
 }
 
 impl Links {
-    pub fn new() -> Links {
-        Links {
-            sounders: [SounderLink {
-                id: DocumentId(0),
-                place: 0,
-                stated: 0,
-                named: 0,
-            }; SOUNDER_LIMIT],
-            sounder_count: 0,
-            channels: [ChannelLink {
-                id: SoftwareChannel(0),
-                place: 0,
-                sounder: 0,
-            }; CHANNEL_LIMIT],
-            channel_count: 0,
-        }
-    }
-
-    fn sounders(&self) -> &[SounderLink] {
-        &self.sounders[..self.sounder_count]
-    }
-
-    fn channels(&self) -> &[ChannelLink] {
-        &self.channels[..self.channel_count]
-    }
-
-    fn sounder_index(&self, id: DocumentId) -> Option<usize> {
-        self.sounders().iter().position(|sounder| sounder.id == id)
-    }
-
     /// 12, then 14.
     pub fn declare_sounder(&mut self, id: DocumentId, stated: u16, place: u64) -> Result<(), u32> {
-        if self.sounder_index(id).is_some() {
+        if self.sounder_lines.contains_key(&id) {
             return Err(12);
         }
-        if self.sounder_count == SOUNDER_LIMIT {
+        if self.sounders.len() == SOUNDER_LIMIT {
             return Err(14);
         }
-        self.sounders[self.sounder_count] = SounderLink {
+        self.sounder_lines.insert(id, self.sounders.len());
+        self.sounders.push(SounderLink {
             id,
             place,
             stated,
             named: 0,
-        };
-        self.sounder_count += 1;
+        });
         Ok(())
     }
 
     /// 12, then 14, then 13.
-    pub fn declare_channel(
-        &mut self,
-        id: SoftwareChannel,
-        parent: DocumentId,
-        place: u64,
-    ) -> Result<(), u32> {
-        if self.has_channel(id) {
+    pub fn declare_channel(&mut self, channel: ChannelLink) -> Result<(), u32> {
+        if self.channel_lines.contains_key(&channel.id) {
             return Err(12);
         }
-        if self.channel_count == CHANNEL_LIMIT {
+        if self.channels.len() == CHANNEL_LIMIT {
             return Err(14);
         }
-        let sounder = self.sounder_index(parent).ok_or(13u32)?;
-        self.sounders[sounder].named += 1; // at most 64
-        self.channels[self.channel_count] = ChannelLink { id, place, sounder };
-        self.channel_count += 1;
+        let parent = self.sounder_lines.get(&channel.parent).copied();
+        let parent = self.link(parent)?;
+        self.sounders[parent].named += 1; // at most 1,024
+        self.channel_lines.insert(channel.id, self.channels.len());
+        self.channels.push(channel);
         Ok(())
     }
 
-    pub fn has_channel(&self, id: SoftwareChannel) -> bool {
-        self.channels().iter().any(|channel| channel.id == id)
+    /// The channel that a ping, a threshold or an attitude names: 13.
+    pub fn name_channel(&mut self, id: SoftwareChannel) -> Result<(), u32> {
+        let next = self.channels.get(self.next_line);
+        let line = if next.is_some_and(|channel| channel.id == id) {
+            Some(self.next_line)
+        } else {
+            self.channel_lines.get(&id).copied()
+        };
+        let behind = self.link(line)? + 1;
+        self.next_line = if behind < self.channels.len() {
+            behind
+        } else {
+            0
+        };
+        Ok(())
     }
 
-    /// The channel with an identifier, and its sounder.
+    /// A search that goes in declaration order and stops at its match has
+    /// compared the identifiers up to the match's line, that one included.
+    /// Without a match it is 13, and a refusal tells no count.
+    fn link(&mut self, line: Option<usize>) -> Result<usize, u32> {
+        let line = line.ok_or(13u32)?;
+        self.compared += line as u64 + 1;
+        Ok(line)
+    }
+
+    /// The channel with an identifier, and its sounder. Asking isn't linking
+    /// and counts no comparison.
     pub fn channel(&self, id: SoftwareChannel) -> Option<(&ChannelLink, &SounderLink)> {
-        let channel = self.channels().iter().find(|channel| channel.id == id)?;
-        Some((channel, &self.sounders[channel.sounder]))
+        let channel = &self.channels[*self.channel_lines.get(&id)?];
+        let sounder = &self.sounders[*self.sounder_lines.get(&channel.parent)?];
+        Some((channel, sounder))
     }
 
     /// The place of the first sounder whose stated channel count is wrong.
     pub fn wrong_count(&self) -> Option<u64> {
-        self.sounders()
+        self.sounders
             .iter()
             .find(|sounder| sounder.stated != sounder.named)
             .map(|sounder| sounder.place)

@@ -1,14 +1,16 @@
 //! The check once more, slowly: all faults of a tuple are gathered, each by
-//! its own rule and with its place, and 01's line on the order picks one. Meant
-//! for the files whose making doesn't tell the answer.
+//! its own rule and with its place, and 01's line on the order picks one; the
+//! identifiers compared are counted by searches. Meant for the files whose making
+//! doesn't tell the answer.
 
 mod common;
 
 use common::{count, sample_faults, seed, Faults, File};
-use second::check;
 use second::gen::{
-    fault, noise, random_damage, sound_case, two_faults, Case, Kind, Rng, FAULT_KINDS,
+    fault, limit, limit_count, noise, random_damage, sound_case, two_faults, Case, Kind, Rng,
+    FAULT_KINDS, LONG_KIND,
 };
+use second::{check, Answer};
 use std::collections::BTreeSet;
 
 /// 01's line on the order, for one tuple, with request c of 02; the two 3s are
@@ -25,6 +27,8 @@ struct Known {
     /// Identifier and parent of each channel.
     channels: Vec<(u64, u64)>,
     codes: Vec<u64>,
+    /// The identifiers compared.
+    compared: u64,
 }
 
 /// Lengths by 01's table and the readings.
@@ -74,7 +78,7 @@ fn link_faults(file: &File, at: usize, code: u64, known: &Known) -> Faults {
             if has_sounder(file.number(at + 8, 4)) {
                 faults.insert("12", at);
             }
-            if known.sounders.len() >= 16 {
+            if known.sounders.len() >= 64 {
                 faults.insert("14", at);
             }
         }
@@ -82,7 +86,7 @@ fn link_faults(file: &File, at: usize, code: u64, known: &Known) -> Faults {
             if has_channel(file.number(at + 6, 2)) {
                 faults.insert("12", at);
             }
-            if known.channels.len() >= 64 {
+            if known.channels.len() >= 1024 {
                 faults.insert("14", at);
             }
             if !has_sounder(file.number(at + 8, 4)) {
@@ -123,13 +127,73 @@ fn faults(file: &File, at: usize, known: &Known) -> Faults {
     all
 }
 
-/// Code and place by definition; code 0 with the number of tuples.
-fn defined(bytes: &[u8]) -> (u64, u64) {
+/// The identifiers that a search compares: those in the order of their
+/// declaration, up to its match.
+fn searched(declared: impl Iterator<Item = u64>, wanted: u64) -> u64 {
+    let mut compared = 0;
+    for id in declared {
+        compared += 1;
+        if id == wanted {
+            break;
+        }
+    }
+    compared
+}
+
+/// The identifiers compared to link the tuple at a place: request m of 02.
+fn comparisons(file: &File, at: usize, code: u64, known: &Known) -> u64 {
+    let sounders = known.sounders.iter().map(|sounder| sounder.0);
+    let channels = known.channels.iter().map(|channel| channel.0);
+    match code {
+        1000 => searched(sounders, file.number(at + 8, 4)),
+        40 if file.number(at + 12, 2) == 65535 => 0,
+        40 | 10000 | 10010 | 10100 => searched(channels, file.number(at + 12, 2)),
+        _ => 0,
+    }
+}
+
+impl Known {
+    /// A tuple without a fault.
+    fn note(&mut self, file: &File, at: usize) {
+        let code = file.number(at + 4, 2);
+        self.compared += comparisons(file, at, code, self);
+        let (two, four) = (file.number(at + 6, 2), file.number(at + 8, 4));
+        match code {
+            100 => self.sounders.push((four, two, at)),
+            1000 => self.channels.push((two, four)),
+            _ => {}
+        }
+        self.tuples += 1;
+        self.codes.push(code);
+    }
+
+    /// Code and place of what is wrong once the end of file is seen, which ends
+    /// at a place of a file of some length.
+    fn late_fault(&self, end: usize, length: usize) -> Option<(u64, u64)> {
+        if end != length {
+            return Some((15, end as u64));
+        }
+        for range in [20..30, 100..1000, 1000..10000, 10000..10100] {
+            if !self.codes.iter().any(|code| range.contains(code)) {
+                return Some((16, end as u64));
+            }
+        }
+        let wrong = self.sounders.iter().find(|(id, stated, _)| {
+            let named = self.channels.iter().filter(|channel| channel.1 == *id);
+            named.count() as u64 != *stated
+        });
+        wrong.map(|(_, _, place)| (17, *place as u64))
+    }
+}
+
+/// The check's answer by definition.
+fn defined(bytes: &[u8]) -> Answer {
+    let refused = |code: u64, place: u64| Answer::refused(code as u32, place);
     if bytes.len() > 16_777_216 {
-        return (1, 0);
+        return refused(1, 0);
     }
     let Some(file) = File::new(bytes) else {
-        return (2, 0);
+        return refused(2, 0);
     };
     let mut known = Known::default();
     let mut at = 4;
@@ -137,40 +201,19 @@ fn defined(bytes: &[u8]) -> (u64, u64) {
         let found = faults(&file, at, &known);
         if let Some(first) = ORDER.iter().find(|code| found.contains_key(*code)) {
             let digits = first.split(' ').next().unwrap();
-            return (digits.parse().unwrap(), found[first] as u64);
+            return refused(digits.parse().unwrap(), found[first] as u64);
         }
+        known.note(&file, at);
         let code = file.number(at + 4, 2);
-        match code {
-            100 => known
-                .sounders
-                .push((file.number(at + 8, 4), file.number(at + 6, 2), at)),
-            1000 => known
-                .channels
-                .push((file.number(at + 6, 2), file.number(at + 8, 4))),
-            _ => {}
-        }
-        known.tuples += 1;
-        known.codes.push(code);
         at += file.number(at, 4) as usize + 10;
         if code == 65534 {
             break;
         }
     }
-    if at != bytes.len() {
-        return (15, at as u64);
+    match known.late_fault(at, bytes.len()) {
+        Some((code, place)) => refused(code, place),
+        None => Answer::checked(known.tuples, 0, known.compared),
     }
-    for range in [20..30, 100..1000, 1000..10000, 10000..10100] {
-        if !known.codes.iter().any(|code| range.contains(code)) {
-            return (16, at as u64);
-        }
-    }
-    for (id, stated, place) in &known.sounders {
-        let named = known.channels.iter().filter(|channel| channel.1 == *id);
-        if named.count() as u64 != *stated {
-            return (17, *place as u64);
-        }
-    }
-    (0, known.tuples)
 }
 
 #[test]
@@ -193,13 +236,9 @@ fn check_does_what_the_definition_says() {
         let mut rng = Rng::of_case(seed ^ 0x6465_6669, index);
         let case = makers[index as usize % makers.len()](&mut rng);
         let answer = check(&case.bytes);
-        let said = match answer.code {
-            0 => (0, answer.tuples),
-            code => (u64::from(code), answer.place),
-        };
         let name = &case.name;
         assert_eq!(
-            said,
+            answer,
             defined(&case.bytes),
             "seed {seed} file {index} {name}"
         );
@@ -211,4 +250,24 @@ fn check_does_what_the_definition_says() {
         seen,
         (0..=25).filter(|code| !others.contains(code)).collect()
     );
+}
+
+/// The limit cases, full tables of sounders and channels among them, and files
+/// with a channel too many.
+#[test]
+fn check_does_what_the_definition_says_of_limits() {
+    let seed = seed();
+    let long = (0..20).map(|index| {
+        let mut rng = Rng::of_case(seed ^ 0x6C6F_6E67, index);
+        fault(&mut rng, LONG_KIND)
+    });
+    let mut most = 0;
+    for case in (0..limit_count()).flat_map(limit).chain(long) {
+        let answer = check(&case.bytes);
+        let name = &case.name;
+        assert_eq!(answer, defined(&case.bytes), "seed {seed} {name}");
+        assert!(answer.compared <= 1024 * answer.tuples, "{name}");
+        most = most.max(answer.compared);
+    }
+    assert!(most > 1_000_000, "{most}");
 }

@@ -33,6 +33,9 @@ const LSB: [&str; 2] = [
     0e000000feff07003e00000000006f6b0000000018000000",
 ];
 
+/// Its one channel names its one sounder, and its ping that channel.
+const COMPARED: u64 = 2;
+
 /// The same in MSB order.
 const MSB: [&str; 2] = [
     "000000ac 0000000e ffff",
@@ -95,7 +98,7 @@ fn spelled_out() {
     let [lsb, msb] = [LSB, MSB].map(|[before, behind]| {
         move |number: &str| check(&bytes(&format!("{before} {number} {behind}")))
     });
-    let (accepted, refused) = (Answer::accepted(6, 0), Answer::refused(8, 4));
+    let (accepted, refused) = (Answer::checked(6, 0, COMPARED), Answer::refused(8, 4));
     assert_eq!([lsb("acac"), msb("acac")], [accepted, accepted]);
     assert_eq!([lsb("a9ac"), msb("aca9")], [accepted, accepted]);
     assert_eq!([lsb("aca9"), msb("a9ac")], [refused, refused]);
@@ -104,7 +107,8 @@ fn spelled_out() {
 #[test]
 fn checked() {
     for (order, number, file) in spellings() {
-        assert_eq!(check(&file), Answer::accepted(6, 0), "{order:?} {number}");
+        let accepted = Answer::checked(6, 0, COMPARED);
+        assert_eq!(check(&file), accepted, "{order:?} {number}");
     }
 }
 
@@ -133,7 +137,8 @@ fn one_normal_form() {
         let length = normal.len();
         let mut out = lent(length + 5);
         let answer = normalise(&file, &mut out);
-        assert_eq!(answer, Answer::accepted(6, length as u64), "{name}");
+        let accepted = Answer::checked(6, length as u64, COMPARED);
+        assert_eq!(answer, accepted, "{name}");
         assert_eq!(out[..length], normal, "{name}");
         assert_eq!(out[length..], lent(length + 5)[length..], "{name}");
         let mut short = lent(length - 1);

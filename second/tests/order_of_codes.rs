@@ -91,15 +91,15 @@ fn file(tuples: &[&str]) -> Vec<u8> {
     bytes(&(MARK.to_string() + &tuples.concat()))
 }
 
-/// Sixteen sounders, 1 to 16, from place 28 on; they end at 28 + 16 * 72 = 1180.
-fn sixteen() -> String {
-    (1..=16).map(|id| sounder(0, id)).collect()
+/// Sounders 1 to 64, from place 28 on; they end at 28 + 64 * 72 = 4636.
+fn all_sounders() -> String {
+    (1..=64).map(|id| sounder(0, id)).collect()
 }
 
-/// A sounder at 28 and 64 channels, 1 to 64, from 100 to 100 + 64 * 108 = 7012.
-fn sixty_four() -> String {
-    let channels: String = (1..=64).map(|id| channel(id, 1)).collect();
-    sounder(64, 1) + &channels
+/// A sounder at 28 and channels 1 to 1,024, from 100 to 100 + 1,024 * 108 = 110,692.
+fn all_channels() -> String {
+    let channels: String = (1..=1024).map(|id| channel(id, 1)).collect();
+    sounder(1024, 1) + &channels
 }
 
 #[test]
@@ -172,13 +172,18 @@ fn check_answers() {
         ("9 before 12 and 13", six(&[&long_channel, END]), 9, 284),
         ("9 before 13", six(&[short_ping, END]), 9, 284),
         ("9 before 15", six(&[short_end, END]), 9, 284),
-        // 12 before 14: the 17th sounder is 16 again, the 65th channel 64 again
-        ("12 before 14, sounders", file(&[SIGNATURE, &sixteen(), &sounder(0, 16), END]), 12, 1180),
-        ("14, sounders", file(&[SIGNATURE, &sixteen(), &sounder(0, 17), END]), 14, 1180),
-        ("12 before 14, channels", file(&[SIGNATURE, &sixty_four(), &channel(64, 1), END]), 12, 7012),
-        ("12 before 14 and 13", file(&[SIGNATURE, &sixty_four(), &channel(64, 2), END]), 12, 7012),
-        // 14 before 13: the 65th channel names sounder 2, which isn't there
-        ("14 before 13", file(&[SIGNATURE, &sixty_four(), &channel(65, 2), END]), 14, 7012),
+        // 12 before 14: the 65th sounder is 64 again, the 1,025th channel 1,024 again
+        ("12 before 14, sounders", file(&[SIGNATURE, &all_sounders(), &sounder(0, 64), END]), 12, 4636),
+        ("12 before 14, the first sounder", file(&[SIGNATURE, &all_sounders(), &sounder(0, 1), END]), 12, 4636),
+        ("14, sounders", file(&[SIGNATURE, &all_sounders(), &sounder(0, 65), END]), 14, 4636),
+        ("12 before 14, channels", file(&[SIGNATURE, &all_channels(), &channel(1024, 1), END]), 12, 110_692),
+        ("12 before 14, the first channel", file(&[SIGNATURE, &all_channels(), &channel(1, 1), END]), 12, 110_692),
+        ("12 before 14 and 13", file(&[SIGNATURE, &all_channels(), &channel(1024, 2), END]), 12, 110_692),
+        ("14, channels", file(&[SIGNATURE, &all_channels(), &channel(1025, 1), END]), 14, 110_692),
+        // 14 before 13: the 1,025th channel names sounder 2, which isn't there
+        ("14 before 13", file(&[SIGNATURE, &all_channels(), &channel(1025, 2), END]), 14, 110_692),
+        ("13 behind a full table", file(&[SIGNATURE, &all_channels(), &ping(1025), END]), 13, 110_692),
+        ("full, channels", file(&[SIGNATURE, &all_channels(), POSITION, &ping(1024), END]), 0, 0),
         // 12 before 13: channel 1 again, of an unknown sounder
         ("12 before 13", six(&[&channel(1, 9), END]), 12, 284),
         ("13, channel of an unknown sounder", six(&[&channel(2, 9), END]), 13, 284),
@@ -254,12 +259,17 @@ fn eighteen_comes_last_but_before_nineteen() {
 
     let mut out = [0; 400];
     let sound = bytes(&[&head, index, end].concat());
-    assert_eq!(check(&sound), Answer::accepted(7, 0));
-    assert_eq!(normalise(&sound, &mut out), Answer::accepted(7, 308));
+    // the channel's sounder and the ping's channel
+    let compared = 2;
+    assert_eq!(check(&sound), Answer::checked(7, 0, compared));
+    assert_eq!(
+        normalise(&sound, &mut out),
+        Answer::checked(7, 308, compared)
+    );
     assert_eq!(normalise(&sound, &mut out[..307]), Answer::refused(19, 0));
 
     let unlisted = bytes(&[&head, index, private, private, end].concat());
-    assert_eq!(check(&unlisted), Answer::accepted(9, 0));
+    assert_eq!(check(&unlisted), Answer::checked(9, 0, compared));
     assert_eq!(normalise(&unlisted, &mut out), Answer::refused(18, 300));
     assert_eq!(normalise(&unlisted, &mut []), Answer::refused(18, 300));
 

@@ -4,7 +4,7 @@
 
 mod common;
 
-use common::{count, first_sample_fault, lent, sample_faults, seed, tuples_found, File};
+use common::{count, first_sample_fault, lent, sample_faults, seed, tuples_found, Bytes, File};
 use second::gen::{fault, frames, line_case, Case, Kind, Rng, Spot, FAULT_KINDS};
 use second::programs::{decode, normalise_tuple, program_one, program_two, BYTE_LIMIT};
 use second::records::Ping;
@@ -21,42 +21,7 @@ enum Samples {
     Words(u32, Vec<u32>),
 }
 
-/// Bytes under way, in one order.
-struct Bytes {
-    order: Order,
-    bytes: Vec<u8>,
-}
-
 impl Bytes {
-    fn new(order: Order) -> Bytes {
-        let bytes = Vec::new();
-        Bytes { order, bytes }
-    }
-
-    fn two(&mut self, number: u16) {
-        self.bytes.extend(match self.order {
-            Order::Lsb => number.to_le_bytes(),
-            Order::Msb => number.to_be_bytes(),
-        });
-    }
-
-    fn four(&mut self, number: u32) {
-        self.bytes.extend(match self.order {
-            Order::Lsb => number.to_le_bytes(),
-            Order::Msb => number.to_be_bytes(),
-        });
-    }
-
-    /// A tuple of a length: the numbers that `fill` writes, then zeros.
-    fn tuple(&mut self, code: u16, length: usize, fill: impl Fn(&mut Bytes)) {
-        let start = self.bytes.len();
-        self.four(length as u32 - 10);
-        self.two(code);
-        fill(self);
-        self.bytes.resize(start + length - 4, 0);
-        self.four(length as u32);
-    }
-
     /// A ping of channel 1. Its header has 18 bytes, so that pairs and count
     /// stand 24 bytes behind its start.
     fn ping(&mut self, samples: &Samples) {
@@ -177,7 +142,8 @@ fn refused(samples: &Samples, code: u32, within: usize) {
 fn sound(samples: &Samples, values: u64) {
     for order in Order::BOTH {
         let file = whole(order, std::slice::from_ref(samples));
-        assert_eq!(check(&file), Answer::accepted(6, 0), "{samples:?}");
+        // the channel's sounder and the ping's channel
+        assert_eq!(check(&file), Answer::checked(6, 0, 2), "{samples:?}");
         let (mut numbers, mut read) = (vec![0; 32_764], vec![0; 32_764]);
         let answer = read_samples(&file, PING as u64, &mut numbers, &mut read);
         assert_eq!(answer, Answer::accepted(1, values), "{samples:?}");

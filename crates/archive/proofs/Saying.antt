@@ -11,35 +11,35 @@ use Rattle.layout.specs.declared.Answer.{Answer}
 use Rattle.layout.specs.Answers.{numbers}
 use Rattle.frame.specs.declared.Step.{Step}
 use Rattle.frame.specs.declared.Step.the-variants.{Tuple, End, Refused}
-use Rattle.archive.specs.Saying.{SaidIf, Said, SaidAlone}
-use Rattle.archive.specs.Numbers.{four, stepTold}
+use Rattle.archive.specs.Saying.{head, SaidIf, Said, SaidAlone}
+use Rattle.archive.specs.Numbers.{five, stepTold}
 
 module _ {O M : Type 0} (n : ℕ) (numbers : O → List ℕ) (promise : O → M → Type 0) (lent : List ℕ) (memory : M) where
   -- too few entries
-  pub untold : length lent < n → Said n numbers promise lent memory 19 lent memory
-  untold h = subst (λ (b : Bool). SaidIf b numbers promise lent memory 19 lent memory) (sym (lt-ltb (length lent) n h)) (record { said = refl; entries = refl; stays = refl })
+  pub untold : length lent < head + n → Said n numbers promise lent memory 19 lent memory
+  untold h = subst (λ (b : Bool). SaidIf b numbers promise lent memory 19 lent memory) (sym (lt-ltb (length lent) (head + n) h)) (record { said = refl; entries = refl; stays = refl })
 
   -- entries enough, and an outcome told in them
-  pub told : (o : O) (code : ℕ) (left : List ℕ) (kept : M) → n ≤ length lent → length (numbers o) ≤ n → promise o kept
+  pub told : (o : O) (code : ℕ) (left : List ℕ) (kept : M) → head + n ≤ length lent → length (numbers o) ≤ head + n → promise o kept
       → code ≡ getD (numbers o) 0 0 → left ≡ sets lent 0 (numbers o) → Said n numbers promise lent memory code left kept
   told o code left kept h k p c e =
       let z : 0 + length (numbers o) ≡ length (numbers o) = omega arith in
-      subst (λ (b : Bool). SaidIf b numbers promise lent memory code left kept) (sym (le-ltb (length lent) n h))
+      subst (λ (b : Bool). SaidIf b numbers promise lent memory code left kept) (sym (le-ltb (length lent) (head + n) h))
       (record { outcome = o; promised = p; said = c; entries = e ∙ sets-eq (numbers o) lent 0 (omega arith) ∙ ap (λ (i : ℕ). numbers o ++ drop i lent) z })
 
 -- ---- a call that says no more than an answer
 module _ {M : Type 0} (promise : Answer → M → Type 0) (lent : List ℕ) (memory : M) where
-  pub answer-told : (a : Answer) (code : ℕ) (left : List ℕ) (kept : M) → 4 ≤ length lent → promise a kept
-      → (code ≡ numbers a .code) × (left ≡ sets lent 0 (four a)) → Said 4 four promise lent memory code left kept
-  answer-told a code left kept h p e = told 4 four promise lent memory a code left kept h (omega arith) p (e .0) (e .1)
+  pub answer-told : (a : Answer) (code : ℕ) (left : List ℕ) (kept : M) → head ≤ length lent → promise a kept
+      → (code ≡ numbers a .code) × (left ≡ sets lent 0 (five a)) → Said 0 five promise lent memory code left kept
+  answer-told a code left kept h p e = told 0 five promise lent memory a code left kept h (omega arith) p (e .0) (e .1)
 
 -- ---- a call that is lent nothing but entries
 module _ {O : Type 0} (n : ℕ) (numbers : O → List ℕ) (promise : O → Type 0) (lent : List ℕ) where
-  pub alone-untold : length lent < n → SaidAlone n numbers promise lent 19 lent
+  pub alone-untold : length lent < head + n → SaidAlone n numbers promise lent 19 lent
   alone-untold h = untold n numbers (λ o m. promise o) lent (record {}) h
 
   -- an outcome, with the numbers that were told for it
-  pub alone-told : (o : O) (ws : List ℕ) (code : ℕ) (left : List ℕ) → n ≤ length lent → length ws ≤ n → promise o
+  pub alone-told : (o : O) (ws : List ℕ) (code : ℕ) (left : List ℕ) → head + n ≤ length lent → length ws ≤ head + n → promise o
       → numbers o ≡ ws → code ≡ getD ws 0 0 → left ≡ sets lent 0 ws → SaidAlone n numbers promise lent code left
   alone-told o ws code left h k p e c l = told n numbers (λ x m. promise x) lent (record {}) o code left (record {}) h (rw e k) p (rw e c) (rw e l)
 
@@ -47,8 +47,8 @@ module _ {O : Type 0} (n : ℕ) (numbers : O → List ℕ) (promise : O → Type
 pub of-same : {S A : Type 0} (W : S → A → Type 0) {r s : S} {x y : A} → r ≡ s → x ≡ y → W r x → W s y
 of-same {S = S} {A = A} W {r} {s} {x} {y} e f w = subst (λ (z : A). W s z) f (subst (λ (z : S). W z x) e w)
 
--- a step is told in at most eight entries
-pub step-short : (s : Step) → length (stepTold s) ≤ 8
+-- a step is told in at most four fields
+pub step-short : (s : Step) → length (stepTold s) ≤ head + 4
 step-short (Tuple at n k next) = omega arith
 step-short End = omega arith
 step-short (Refused c p) = omega arith

@@ -19,12 +19,12 @@ use Rattle.intake.specs.declared.Asked.{Asked}
 use Rattle.intake.specs.declared.Asked.the-variants as asked
 use Rattle.intake.specs.Asking.{askedNumbers}
 
--- 01's four numbers, in its order: code, place, tuples, length; fields stand behind them
-abbrev pub fourOf : Numbers → List ℕ
-fourOf n = n .code ∷ n .place ∷ n .tuples ∷ n .length ∷ []
+-- an answer's five numbers, in order: code, place, tuples, length, identifiers compared; fields stand behind them
+abbrev pub fiveOf : Numbers → List ℕ
+fiveOf n = n .code ∷ n .place ∷ n .tuples ∷ n .length ∷ n .compared ∷ []
 
-abbrev pub four : Answer → List ℕ
-four a = fourOf (numbers a)
+abbrev pub five : Answer → List ℕ
+five a = fiveOf (numbers a)
 
 -- a step: of a tuple its place, length, type and the next place
 abbrev pub stepFields : Step → List ℕ
@@ -33,19 +33,19 @@ stepFields step.End = []
 stepFields (step.Refused c p) = []
 
 abbrev pub stepTold : Step → List ℕ
-stepTold s = fourOf (stepNumbers s) ++ stepFields s
+stepTold s = fiveOf (stepNumbers s) ++ stepFields s
 
--- a ping's channel and sounder: the identifiers and the places of both tuples
+-- a ping's channel and sounder: the channel's identifier, place, sampling rate and type of data sample; the sounder's identifier and place
 abbrev pub askedFields : Asked → List ℕ
-askedFields (asked.Parents c cp d dp n) = c .0 ∷ cp ∷ d .0 ∷ dp ∷ []
+askedFields (asked.Parents c cp r k d dp n) = c .0 ∷ cp ∷ r ∷ k ∷ d .0 ∷ dp ∷ []
 askedFields (asked.Refused c p) = []
 
 abbrev pub askedTold : Asked → List ℕ
-askedTold s = fourOf (askedNumbers s) ++ askedFields s
+askedTold s = fiveOf (askedNumbers s) ++ askedFields s
 
 -- ---- a record that was read: one tuple, then the numbers of its row in order, the attribute last
 abbrev pub recordTold : List ℕ → List ℕ
-recordTold ns = four (accepting 1 0) ++ ns
+recordTold ns = five (accepting 1 0) ++ ns
 
 -- characters, behind the numbers: where they stand in the file, and how many they are
 abbrev pub partTold : Part → List ℕ
@@ -61,4 +61,4 @@ pingFields (ping.Read h a k n) = numbersIn (headOf h) ++ (patternOf 4 a ∷ kind
 pingFields (ping.Refused c p) = []
 
 abbrev pub pingTold : PingRead → List ℕ
-pingTold s = four (answerOf s) ++ pingFields s
+pingTold s = five (answerOf s) ++ pingFields s

@@ -1,4 +1,4 @@
--- The numbers by which each record's reader is told: 01's four; then, of a record that was read, those of its row, the attribute last, and,
+-- The numbers by which each record's reader is told: an answer's five; then, of a record that was read, those of its row, the attribute last, and,
 -- where it has characters, their place and number. Assumes nothing.
 use mathlib.Core.List.{List, [], _++_}
 use Prim.Native.Nat.{ℕ}
@@ -47,81 +47,81 @@ use Rattle.file_end.specs.FileEnd.{fileEndValues}
 use Rattle.file_end.specs.FileEnd as file_ends
 use Rattle.file_end.specs.declared.FileEndRead.{FileEndRead}
 use Rattle.file_end.specs.declared.FileEndRead.the-variants as file_end
-use Rattle.archive.specs.Numbers.{four, partTold}
+use Rattle.archive.specs.Numbers.{five, partTold}
 
 abbrev pub signatureFields : SignatureRead → List ℕ
 signatureFields («signature».Read r) = numbersIn (signatureValues r)
 signatureFields («signature».Refused c p) = []
 
 abbrev pub signatureTold : SignatureRead → List ℕ
-signatureTold s = four («signatures».answerOf s) ++ signatureFields s
+signatureTold s = five («signatures».answerOf s) ++ signatureFields s
 
 abbrev pub sounderFields : SounderRead → List ℕ
 sounderFields («sounder».Read r t) = numbersIn (sounderValues r []) ++ partTold t
 sounderFields («sounder».Refused c p) = []
 
 abbrev pub sounderTold : SounderRead → List ℕ
-sounderTold s = four («sounders».answerOf s) ++ sounderFields s
+sounderTold s = five («sounders».answerOf s) ++ sounderFields s
 
 abbrev pub channelFields : ChannelRead → List ℕ
 channelFields («channel».Read r t) = numbersIn (channelValues r []) ++ partTold t
 channelFields («channel».Refused c p) = []
 
 abbrev pub channelTold : ChannelRead → List ℕ
-channelTold s = four («channels».answerOf s) ++ channelFields s
+channelTold s = five («channels».answerOf s) ++ channelFields s
 
 abbrev pub thresholdFields : ThresholdRead → List ℕ
 thresholdFields («threshold».Read r) = numbersIn (thresholdValues r)
 thresholdFields («threshold».Refused c p) = []
 
 abbrev pub thresholdTold : ThresholdRead → List ℕ
-thresholdTold s = four («thresholds».answerOf s) ++ thresholdFields s
+thresholdTold s = five («thresholds».answerOf s) ++ thresholdFields s
 
 abbrev pub positionFields : PositionRead → List ℕ
 positionFields («position».Read r) = numbersIn (positionValues r)
 positionFields («position».Refused c p) = []
 
 abbrev pub positionTold : PositionRead → List ℕ
-positionTold s = four («positions».answerOf s) ++ positionFields s
+positionTold s = five («positions».answerOf s) ++ positionFields s
 
 abbrev pub navigationFields : NavigationRead → List ℕ
 navigationFields («navigation».Read r) = numbersIn (navigationValues r)
 navigationFields («navigation».Refused c p) = []
 
 abbrev pub navigationTold : NavigationRead → List ℕ
-navigationTold s = four («navigations».answerOf s) ++ navigationFields s
+navigationTold s = five («navigations».answerOf s) ++ navigationFields s
 
 abbrev pub attitudeFields : AttitudeRead → List ℕ
 attitudeFields («attitude».Read r) = numbersIn (attitudeValues r)
 attitudeFields («attitude».Refused c p) = []
 
 abbrev pub attitudeTold : AttitudeRead → List ℕ
-attitudeTold s = four («attitudes».answerOf s) ++ attitudeFields s
+attitudeTold s = five («attitudes».answerOf s) ++ attitudeFields s
 
 abbrev pub eventFields : EventRead → List ℕ
 eventFields («event».Read r t) = numbersIn (eventValues r []) ++ partTold t
 eventFields («event».Refused c p) = []
 
 abbrev pub eventTold : EventRead → List ℕ
-eventTold s = four («events».answerOf s) ++ eventFields s
+eventTold s = five («events».answerOf s) ++ eventFields s
 
 abbrev pub runStartFields : RunStartRead → List ℕ
 runStartFields («run_start».Read r) = numbersIn (runStartValues r)
 runStartFields («run_start».Refused c p) = []
 
 abbrev pub runStartTold : RunStartRead → List ℕ
-runStartTold s = four («run_starts».answerOf s) ++ runStartFields s
+runStartTold s = five («run_starts».answerOf s) ++ runStartFields s
 
 abbrev pub runEndFields : RunEndRead → List ℕ
 runEndFields («run_end».Read r) = numbersIn (runEndValues r)
 runEndFields («run_end».Refused c p) = []
 
 abbrev pub runEndTold : RunEndRead → List ℕ
-runEndTold s = four («run_ends».answerOf s) ++ runEndFields s
+runEndTold s = five («run_ends».answerOf s) ++ runEndFields s
 
 abbrev pub fileEndFields : FileEndRead → List ℕ
 fileEndFields («file_end».Read r t) = numbersIn (fileEndValues r) ++ partTold t
 fileEndFields («file_end».Refused c p) = []
 
 abbrev pub fileEndTold : FileEndRead → List ℕ
-fileEndTold s = four («file_ends».answerOf s) ++ fileEndFields s
+fileEndTold s = five («file_ends».answerOf s) ++ fileEndFields s

@@ -1,5 +1,5 @@
 // Event marker, start and end of run, end of file: each read and written.
-use super::FOUR;
+use super::HEAD;
 use super::tell_answer;
 use super::tell_record;
 use super::tell_refusal;
@@ -17,22 +17,22 @@ ghost use Rattle.event.specs.Event.{EventAt, EventWritten};
 ghost use Rattle.run_start.specs.RunStart.{RunStartAt, RunStartWritten};
 ghost use Rattle.run_end.specs.RunEnd.{RunEndAt, RunEndWritten};
 ghost use Rattle.file_end.specs.FileEnd.{FileEndAt, FileEndWritten};
-ghost use Rattle.archive.specs.Saying.{Said, SaidAlone};
-ghost use Rattle.archive.specs.Numbers.{four};
+ghost use Rattle.archive.specs.Saying.{head, Said, SaidAlone};
+ghost use Rattle.archive.specs.Numbers.{five};
 ghost use Rattle.archive.specs.Records.{eventTold, runStartTold, runEndTold, fileEndTold};
 
 // The entries that each reader may tell.
-const EVENT: usize = 9;
+const EVENT: usize = HEAD + 5;
 
-const RUN_START: usize = 7;
+const RUN_START: usize = HEAD + 3;
 
-const RUN_END: usize = 7;
+const RUN_END: usize = HEAD + 3;
 
-const FILE_END: usize = 10;
+const FILE_END: usize = HEAD + 6;
 
 #[no_mangle]
 pub extern "C" fn hac_read_event(file: &[u8], place: usize, answer: &mut [u64]) -> u8
-    ensures { λ r. ⌜ SaidAlone 9 eventTold (EventAt (now (file .entry)) place) (now (answer .entry)) r (now (answer .exit)) ⌝ }
+    ensures { λ r. ⌜ SaidAlone 5 eventTold (EventAt (now (file .entry)) place) (now (answer .entry)) r (now (answer .exit)) ⌝ }
 {
     if answer.len() < EVENT {
         return codes::NO_ROOM;
@@ -53,9 +53,9 @@ pub extern "C" fn hac_write_event(
     out: &mut [u8],
     answer: &mut [u64],
 ) -> u8
-    ensures { λ r. ⌜ Said 4 four (EventWritten msb (record { «time_fraction» = «time_fraction»; «time_cpu» = «time_cpu»; «tuple_attribute» = «tuple_attribute» }) (now (text .entry)) (now (out .entry))) (now (answer .entry)) (now (out .entry)) r (now (answer .exit)) (now (out .exit)) ⌝ }
+    ensures { λ r. ⌜ Said 0 five (EventWritten msb (record { «time_fraction» = «time_fraction»; «time_cpu» = «time_cpu»; «tuple_attribute» = «tuple_attribute» }) (now (text .entry)) (now (out .entry))) (now (answer .entry)) (now (out .entry)) r (now (answer .exit)) (now (out .exit)) ⌝ }
 {
-    if answer.len() < FOUR {
+    if answer.len() < HEAD {
         return codes::NO_ROOM;
     }
     let record = Event::new(time_fraction, time_cpu, tuple_attribute);
@@ -64,7 +64,7 @@ pub extern "C" fn hac_write_event(
 
 #[no_mangle]
 pub extern "C" fn hac_read_run_start(file: &[u8], place: usize, answer: &mut [u64]) -> u8
-    ensures { λ r. ⌜ SaidAlone 7 runStartTold (RunStartAt (now (file .entry)) place) (now (answer .entry)) r (now (answer .exit)) ⌝ }
+    ensures { λ r. ⌜ SaidAlone 3 runStartTold (RunStartAt (now (file .entry)) place) (now (answer .entry)) r (now (answer .exit)) ⌝ }
 {
     if answer.len() < RUN_START {
         return codes::NO_ROOM;
@@ -84,9 +84,9 @@ pub extern "C" fn hac_write_run_start(
     out: &mut [u8],
     answer: &mut [u64],
 ) -> u8
-    ensures { λ r. ⌜ Said 4 four (RunStartWritten msb (record { «time_fraction» = «time_fraction»; «time_cpu» = «time_cpu»; «tuple_attribute» = «tuple_attribute» }) (now (out .entry))) (now (answer .entry)) (now (out .entry)) r (now (answer .exit)) (now (out .exit)) ⌝ }
+    ensures { λ r. ⌜ Said 0 five (RunStartWritten msb (record { «time_fraction» = «time_fraction»; «time_cpu» = «time_cpu»; «tuple_attribute» = «tuple_attribute» }) (now (out .entry))) (now (answer .entry)) (now (out .entry)) r (now (answer .exit)) (now (out .exit)) ⌝ }
 {
-    if answer.len() < FOUR {
+    if answer.len() < HEAD {
         return codes::NO_ROOM;
     }
     let record = RunStart::new(time_fraction, time_cpu, tuple_attribute);
@@ -95,7 +95,7 @@ pub extern "C" fn hac_write_run_start(
 
 #[no_mangle]
 pub extern "C" fn hac_read_run_end(file: &[u8], place: usize, answer: &mut [u64]) -> u8
-    ensures { λ r. ⌜ SaidAlone 7 runEndTold (RunEndAt (now (file .entry)) place) (now (answer .entry)) r (now (answer .exit)) ⌝ }
+    ensures { λ r. ⌜ SaidAlone 3 runEndTold (RunEndAt (now (file .entry)) place) (now (answer .entry)) r (now (answer .exit)) ⌝ }
 {
     if answer.len() < RUN_END {
         return codes::NO_ROOM;
@@ -115,9 +115,9 @@ pub extern "C" fn hac_write_run_end(
     out: &mut [u8],
     answer: &mut [u64],
 ) -> u8
-    ensures { λ r. ⌜ Said 4 four (RunEndWritten msb (record { «time_fraction» = «time_fraction»; «time_cpu» = «time_cpu»; «tuple_attribute» = «tuple_attribute» }) (now (out .entry))) (now (answer .entry)) (now (out .entry)) r (now (answer .exit)) (now (out .exit)) ⌝ }
+    ensures { λ r. ⌜ Said 0 five (RunEndWritten msb (record { «time_fraction» = «time_fraction»; «time_cpu» = «time_cpu»; «tuple_attribute» = «tuple_attribute» }) (now (out .entry))) (now (answer .entry)) (now (out .entry)) r (now (answer .exit)) (now (out .exit)) ⌝ }
 {
-    if answer.len() < FOUR {
+    if answer.len() < HEAD {
         return codes::NO_ROOM;
     }
     let record = RunEnd::new(time_fraction, time_cpu, tuple_attribute);
@@ -126,7 +126,7 @@ pub extern "C" fn hac_write_run_end(
 
 #[no_mangle]
 pub extern "C" fn hac_read_file_end(file: &[u8], place: usize, answer: &mut [u64]) -> u8
-    ensures { λ r. ⌜ SaidAlone 10 fileEndTold (FileEndAt (now (file .entry)) place) (now (answer .entry)) r (now (answer .exit)) ⌝ }
+    ensures { λ r. ⌜ SaidAlone 6 fileEndTold (FileEndAt (now (file .entry)) place) (now (answer .entry)) r (now (answer .exit)) ⌝ }
 {
     if answer.len() < FILE_END {
         return codes::NO_ROOM;
@@ -147,9 +147,9 @@ pub extern "C" fn hac_write_file_end(
     out: &mut [u8],
     answer: &mut [u64],
 ) -> u8
-    ensures { λ r. ⌜ Said 4 four (FileEndWritten msb (record { «time_fraction» = «time_fraction»; «time_cpu» = «time_cpu»; «closing_mode» = «closing_mode»; «tuple_attribute» = «tuple_attribute» }) (now (out .entry))) (now (answer .entry)) (now (out .entry)) r (now (answer .exit)) (now (out .exit)) ⌝ }
+    ensures { λ r. ⌜ Said 0 five (FileEndWritten msb (record { «time_fraction» = «time_fraction»; «time_cpu» = «time_cpu»; «closing_mode» = «closing_mode»; «tuple_attribute» = «tuple_attribute» }) (now (out .entry))) (now (answer .entry)) (now (out .entry)) r (now (answer .exit)) (now (out .exit)) ⌝ }
 {
-    if answer.len() < FOUR {
+    if answer.len() < HEAD {
         return codes::NO_ROOM;
     }
     let record = FileEnd::new(time_fraction, time_cpu, closing_mode, tuple_attribute);

@@ -1,5 +1,5 @@
 // Pings: fields and samples read, and both kinds written.
-use super::FOUR;
+use super::HEAD;
 use super::tell_answer;
 use super::tell_record;
 use super::tell_refusal;
@@ -10,7 +10,7 @@ use pings::PingKind;
 use pings::PingRead;
 ghost use mathlib.Core.Path.{_≡_};
 ghost use mathlib.Core.List.{List};
-ghost use Prim.Native.Nat.{ℕ, _≤_};
+ghost use Prim.Native.Nat.{ℕ, _+_, _≤_};
 ghost use lib.IntN.{ℤ};
 ghost use lib.ListN.{length};
 ghost use lib.Seq.{sets};
@@ -19,8 +19,8 @@ ghost use Rattle.pings.specs.declared.PingRead.the-variants.{Read};
 ghost use Rattle.pings.specs.Fields.{PingAt};
 ghost use Rattle.pings.specs.Readers.{SamplesRead};
 ghost use Rattle.pings.specs.Headers.{WrittenU, WrittenC};
-ghost use Rattle.archive.specs.Saying.{Said, SaidAlone};
-ghost use Rattle.archive.specs.Numbers.{four, kindTold, pingTold};
+ghost use Rattle.archive.specs.Saying.{head, Said, SaidAlone};
+ghost use Rattle.archive.specs.Numbers.{five, kindTold, pingTold};
 
 // The kinds of ping as numbers.
 const U32: u32 = 0;
@@ -28,9 +28,9 @@ const U32: u32 = 0;
 const C32: u32 = 1;
 
 // The entries of a ping's fields; the last is the number of its values.
-const PING: usize = 13;
+const PING: usize = HEAD + 9;
 
-const VALUES: usize = 12;
+const VALUES: usize = HEAD + 8;
 
 fn kind_number(kind: PingKind) -> u32
     ensures { λ r. ⌜ r ≡ kindTold kind ⌝ }
@@ -48,7 +48,7 @@ fn tell_ping(
     kind: PingKind,
     values: usize,
 ) -> u8
-    requires { ⌜ 13 ≤ length (now answer) ⌝ }
+    requires { ⌜ head + 9 ≤ length (now answer) ⌝ }
     ensures { λ r. ⌜ r ≡ 0 ⌝ }
     ensures { λ _. ⌜ now (answer .exit) ≡ sets (now (answer .entry)) 0 (pingTold (Read header attribute kind values)) ⌝ }
 {
@@ -69,7 +69,7 @@ fn tell_ping(
 
 #[no_mangle]
 pub extern "C" fn hac_read_ping(file: &[u8], place: usize, answer: &mut [u64]) -> u8
-    ensures { λ r. ⌜ SaidAlone 13 pingTold (PingAt (now (file .entry)) place) (now (answer .entry)) r (now (answer .exit)) ⌝ }
+    ensures { λ r. ⌜ SaidAlone 9 pingTold (PingAt (now (file .entry)) place) (now (answer .entry)) r (now (answer .exit)) ⌝ }
 {
     if answer.len() < PING {
         return codes::NO_ROOM;
@@ -93,9 +93,9 @@ pub extern "C" fn hac_read_samples(
     values: &mut [i32],
     answer: &mut [u64],
 ) -> u8
-    ensures { λ r. ⌜ Said 4 four (λ (a : Answer) (m : List ℕ × List ℤ). SamplesRead (now (file .entry)) place (now (numbers .entry)) (now (values .entry)) a (m .0) (m .1)) (now (answer .entry)) (now (numbers .entry), now (values .entry)) r (now (answer .exit)) (now (numbers .exit), now (values .exit)) ⌝ }
+    ensures { λ r. ⌜ Said 0 five (λ (a : Answer) (m : List ℕ × List ℤ). SamplesRead (now (file .entry)) place (now (numbers .entry)) (now (values .entry)) a (m .0) (m .1)) (now (answer .entry)) (now (numbers .entry), now (values .entry)) r (now (answer .exit)) (now (numbers .exit), now (values .exit)) ⌝ }
 {
-    if answer.len() < FOUR {
+    if answer.len() < HEAD {
         return codes::NO_ROOM;
     }
     tell_answer(answer, pings::read_samples(file, place, numbers, values))
@@ -116,9 +116,9 @@ pub extern "C" fn hac_write_u32(
     out: &mut [u8],
     answer: &mut [u64],
 ) -> u8
-    ensures { λ r. ⌜ Said 4 four (WrittenU msb (record { «time_fraction» = «time_fraction»; «time_cpu» = «time_cpu»; «software_channel_identifier» = record { 0 = «software_channel_identifier» }; «transmitter_mode» = «transmitter_mode»; «ping_number» = «ping_number»; «detected_bottom_range» = «detected_bottom_range» }) «tuple_attribute» (now (numbers .entry)) (now (values .entry)) (now (out .entry))) (now (answer .entry)) (now (out .entry)) r (now (answer .exit)) (now (out .exit)) ⌝ }
+    ensures { λ r. ⌜ Said 0 five (WrittenU msb (record { «time_fraction» = «time_fraction»; «time_cpu» = «time_cpu»; «software_channel_identifier» = record { 0 = «software_channel_identifier» }; «transmitter_mode» = «transmitter_mode»; «ping_number» = «ping_number»; «detected_bottom_range» = «detected_bottom_range» }) «tuple_attribute» (now (numbers .entry)) (now (values .entry)) (now (out .entry))) (now (answer .entry)) (now (out .entry)) r (now (answer .exit)) (now (out .exit)) ⌝ }
 {
-    if answer.len() < FOUR {
+    if answer.len() < HEAD {
         return codes::NO_ROOM;
     }
     let header = PingHeader {
@@ -150,9 +150,9 @@ pub extern "C" fn hac_write_c32(
     out: &mut [u8],
     answer: &mut [u64],
 ) -> u8
-    ensures { λ r. ⌜ Said 4 four (WrittenC msb (record { «time_fraction» = «time_fraction»; «time_cpu» = «time_cpu»; «software_channel_identifier» = record { 0 = «software_channel_identifier» }; «transmitter_mode» = «transmitter_mode»; «ping_number» = «ping_number»; «detected_bottom_range» = «detected_bottom_range» }) «tuple_attribute» (now (numbers .entry)) (now (values .entry)) (now (out .entry))) (now (answer .entry)) (now (out .entry)) r (now (answer .exit)) (now (out .exit)) ⌝ }
+    ensures { λ r. ⌜ Said 0 five (WrittenC msb (record { «time_fraction» = «time_fraction»; «time_cpu» = «time_cpu»; «software_channel_identifier» = record { 0 = «software_channel_identifier» }; «transmitter_mode» = «transmitter_mode»; «ping_number» = «ping_number»; «detected_bottom_range» = «detected_bottom_range» }) «tuple_attribute» (now (numbers .entry)) (now (values .entry)) (now (out .entry))) (now (answer .entry)) (now (out .entry)) r (now (answer .exit)) (now (out .exit)) ⌝ }
 {
-    if answer.len() < FOUR {
+    if answer.len() < HEAD {
         return codes::NO_ROOM;
     }
     let header = PingHeader {

@@ -1,5 +1,5 @@
 // Signature, sounder, channel and threshold: each read and written.
-use super::FOUR;
+use super::HEAD;
 use super::tell_answer;
 use super::tell_record;
 use super::tell_refusal;
@@ -20,22 +20,22 @@ ghost use Rattle.signature.specs.Signature.{SignatureAt, SignatureWritten};
 ghost use Rattle.sounder.specs.Sounder.{SounderAt, SounderWritten};
 ghost use Rattle.channel.specs.Channel.{ChannelAt, ChannelWritten};
 ghost use Rattle.threshold.specs.Threshold.{ThresholdAt, ThresholdWritten};
-ghost use Rattle.archive.specs.Saying.{Said, SaidAlone};
-ghost use Rattle.archive.specs.Numbers.{four};
+ghost use Rattle.archive.specs.Saying.{head, Said, SaidAlone};
+ghost use Rattle.archive.specs.Numbers.{five};
 ghost use Rattle.archive.specs.Records.{signatureTold, sounderTold, channelTold, thresholdTold};
 
 // The entries that each reader may tell.
-const SIGNATURE: usize = 8;
+const SIGNATURE: usize = HEAD + 4;
 
-const SOUNDER: usize = 19;
+const SOUNDER: usize = HEAD + 15;
 
-const CHANNEL: usize = 31;
+const CHANNEL: usize = HEAD + 27;
 
-const THRESHOLD: usize = 16;
+const THRESHOLD: usize = HEAD + 12;
 
 #[no_mangle]
 pub extern "C" fn hac_read_signature(file: &[u8], place: usize, answer: &mut [u64]) -> u8
-    ensures { λ r. ⌜ SaidAlone 8 signatureTold (SignatureAt (now (file .entry)) place) (now (answer .entry)) r (now (answer .exit)) ⌝ }
+    ensures { λ r. ⌜ SaidAlone 4 signatureTold (SignatureAt (now (file .entry)) place) (now (answer .entry)) r (now (answer .exit)) ⌝ }
 {
     if answer.len() < SIGNATURE {
         return codes::NO_ROOM;
@@ -56,9 +56,9 @@ pub extern "C" fn hac_write_signature(
     out: &mut [u8],
     answer: &mut [u64],
 ) -> u8
-    ensures { λ r. ⌜ Said 4 four (SignatureWritten msb (record { «hac_version» = «hac_version»; «acquisition_software_version» = «acquisition_software_version»; «acquisition_software_identifier» = «acquisition_software_identifier»; «tuple_attribute» = «tuple_attribute» }) (now (out .entry))) (now (answer .entry)) (now (out .entry)) r (now (answer .exit)) (now (out .exit)) ⌝ }
+    ensures { λ r. ⌜ Said 0 five (SignatureWritten msb (record { «hac_version» = «hac_version»; «acquisition_software_version» = «acquisition_software_version»; «acquisition_software_identifier» = «acquisition_software_identifier»; «tuple_attribute» = «tuple_attribute» }) (now (out .entry))) (now (answer .entry)) (now (out .entry)) r (now (answer .exit)) (now (out .exit)) ⌝ }
 {
-    if answer.len() < FOUR {
+    if answer.len() < HEAD {
         return codes::NO_ROOM;
     }
     let record = Signature::new(
@@ -72,7 +72,7 @@ pub extern "C" fn hac_write_signature(
 
 #[no_mangle]
 pub extern "C" fn hac_read_sounder(file: &[u8], place: usize, answer: &mut [u64]) -> u8
-    ensures { λ r. ⌜ SaidAlone 19 sounderTold (SounderAt (now (file .entry)) place) (now (answer .entry)) r (now (answer .exit)) ⌝ }
+    ensures { λ r. ⌜ SaidAlone 15 sounderTold (SounderAt (now (file .entry)) place) (now (answer .entry)) r (now (answer .exit)) ⌝ }
 {
     if answer.len() < SOUNDER {
         return codes::NO_ROOM;
@@ -103,9 +103,9 @@ pub extern "C" fn hac_write_sounder(
     out: &mut [u8],
     answer: &mut [u64],
 ) -> u8
-    ensures { λ r. ⌜ Said 4 four (SounderWritten msb (record { «number_of_software_channels» = «number_of_software_channels»; «echosounder_document_identifier» = record { 0 = «echosounder_document_identifier» }; «sound_speed» = «sound_speed»; «ping_interval» = «ping_interval»; «transmitter_attenuation_setting» = «transmitter_attenuation_setting»; «multiplexing_mode» = «multiplexing_mode»; «blanking_at_tvg_max_range» = «blanking_at_tvg_max_range»; «tvg_max_range» = «tvg_max_range»; «blanking_up_to_range» = «blanking_up_to_range»; «calibrator_signal» = «calibrator_signal»; «calibrator_mode» = «calibrator_mode»; «calibrator_separator» = «calibrator_separator»; «tuple_attribute» = «tuple_attribute» }) (now (remarks .entry)) (now (out .entry))) (now (answer .entry)) (now (out .entry)) r (now (answer .exit)) (now (out .exit)) ⌝ }
+    ensures { λ r. ⌜ Said 0 five (SounderWritten msb (record { «number_of_software_channels» = «number_of_software_channels»; «echosounder_document_identifier» = record { 0 = «echosounder_document_identifier» }; «sound_speed» = «sound_speed»; «ping_interval» = «ping_interval»; «transmitter_attenuation_setting» = «transmitter_attenuation_setting»; «multiplexing_mode» = «multiplexing_mode»; «blanking_at_tvg_max_range» = «blanking_at_tvg_max_range»; «tvg_max_range» = «tvg_max_range»; «blanking_up_to_range» = «blanking_up_to_range»; «calibrator_signal» = «calibrator_signal»; «calibrator_mode» = «calibrator_mode»; «calibrator_separator» = «calibrator_separator»; «tuple_attribute» = «tuple_attribute» }) (now (remarks .entry)) (now (out .entry))) (now (answer .entry)) (now (out .entry)) r (now (answer .exit)) (now (out .exit)) ⌝ }
 {
-    if answer.len() < FOUR {
+    if answer.len() < HEAD {
         return codes::NO_ROOM;
     }
     let record = Sounder::new(
@@ -128,7 +128,7 @@ pub extern "C" fn hac_write_sounder(
 
 #[no_mangle]
 pub extern "C" fn hac_read_channel(file: &[u8], place: usize, answer: &mut [u64]) -> u8
-    ensures { λ r. ⌜ SaidAlone 31 channelTold (ChannelAt (now (file .entry)) place) (now (answer .entry)) r (now (answer .exit)) ⌝ }
+    ensures { λ r. ⌜ SaidAlone 27 channelTold (ChannelAt (now (file .entry)) place) (now (answer .entry)) r (now (answer .exit)) ⌝ }
 {
     if answer.len() < CHANNEL {
         return codes::NO_ROOM;
@@ -171,9 +171,9 @@ pub extern "C" fn hac_write_channel(
     out: &mut [u8],
     answer: &mut [u64],
 ) -> u8
-    ensures { λ r. ⌜ Said 4 four (ChannelWritten msb (record { «software_channel_identifier» = record { 0 = «software_channel_identifier» }; «echosounder_document_identifier» = record { 0 = «echosounder_document_identifier» }; «sampling_rate» = «sampling_rate»; «type_of_data_sample» = «type_of_data_sample»; «time_varied_gain_mode» = «time_varied_gain_mode»; «transceiver_channel_number» = record { 0 = «transceiver_channel_number» }; «acoustic_frequency» = «acoustic_frequency»; «installation_depth_of_transducer» = «installation_depth_of_transducer»; «alongship_angle_offset_of_the_transducer_face» = «alongship_angle_offset_of_the_transducer_face»; «athwartship_angle_offset_of_the_transducer_face» = «athwartship_angle_offset_of_the_transducer_face»; «alongship_angle_offset_of_the_main_axis_of_the_acoustic_beam» = «alongship_angle_offset_of_the_main_axis_of_the_acoustic_beam»; «athwartship_angle_offset_of_the_main_axis_of_the_acoustic_beam» = «athwartship_angle_offset_of_the_main_axis_of_the_acoustic_beam»; «absorption_of_sound» = «absorption_of_sound»; «pulse_length» = «pulse_length»; bandwidth = bandwidth; «calibration_source_level» = «calibration_source_level»; «beamwidth_3_db_of_the_transducer_beam» = «beamwidth_3_db_of_the_transducer_beam»; «beam_pattern» = «beam_pattern»; «wide_beam_drop_off» = «wide_beam_drop_off»; «calibration_receiving_sensitivity» = «calibration_receiving_sensitivity»; «receiver_gain» = «receiver_gain»; «bottom_detection_minimum_level» = «bottom_detection_minimum_level»; «bottom_window_min» = «bottom_window_min»; «bottom_window_max» = «bottom_window_max»; «tuple_attribute» = «tuple_attribute» }) (now (remarks .entry)) (now (out .entry))) (now (answer .entry)) (now (out .entry)) r (now (answer .exit)) (now (out .exit)) ⌝ }
+    ensures { λ r. ⌜ Said 0 five (ChannelWritten msb (record { «software_channel_identifier» = record { 0 = «software_channel_identifier» }; «echosounder_document_identifier» = record { 0 = «echosounder_document_identifier» }; «sampling_rate» = «sampling_rate»; «type_of_data_sample» = «type_of_data_sample»; «time_varied_gain_mode» = «time_varied_gain_mode»; «transceiver_channel_number» = record { 0 = «transceiver_channel_number» }; «acoustic_frequency» = «acoustic_frequency»; «installation_depth_of_transducer» = «installation_depth_of_transducer»; «alongship_angle_offset_of_the_transducer_face» = «alongship_angle_offset_of_the_transducer_face»; «athwartship_angle_offset_of_the_transducer_face» = «athwartship_angle_offset_of_the_transducer_face»; «alongship_angle_offset_of_the_main_axis_of_the_acoustic_beam» = «alongship_angle_offset_of_the_main_axis_of_the_acoustic_beam»; «athwartship_angle_offset_of_the_main_axis_of_the_acoustic_beam» = «athwartship_angle_offset_of_the_main_axis_of_the_acoustic_beam»; «absorption_of_sound» = «absorption_of_sound»; «pulse_length» = «pulse_length»; bandwidth = bandwidth; «calibration_source_level» = «calibration_source_level»; «beamwidth_3_db_of_the_transducer_beam» = «beamwidth_3_db_of_the_transducer_beam»; «beam_pattern» = «beam_pattern»; «wide_beam_drop_off» = «wide_beam_drop_off»; «calibration_receiving_sensitivity» = «calibration_receiving_sensitivity»; «receiver_gain» = «receiver_gain»; «bottom_detection_minimum_level» = «bottom_detection_minimum_level»; «bottom_window_min» = «bottom_window_min»; «bottom_window_max» = «bottom_window_max»; «tuple_attribute» = «tuple_attribute» }) (now (remarks .entry)) (now (out .entry))) (now (answer .entry)) (now (out .entry)) r (now (answer .exit)) (now (out .exit)) ⌝ }
 {
-    if answer.len() < FOUR {
+    if answer.len() < HEAD {
         return codes::NO_ROOM;
     }
     let record = Channel::new(
@@ -208,7 +208,7 @@ pub extern "C" fn hac_write_channel(
 
 #[no_mangle]
 pub extern "C" fn hac_read_threshold(file: &[u8], place: usize, answer: &mut [u64]) -> u8
-    ensures { λ r. ⌜ SaidAlone 16 thresholdTold (ThresholdAt (now (file .entry)) place) (now (answer .entry)) r (now (answer .exit)) ⌝ }
+    ensures { λ r. ⌜ SaidAlone 12 thresholdTold (ThresholdAt (now (file .entry)) place) (now (answer .entry)) r (now (answer .exit)) ⌝ }
 {
     if answer.len() < THRESHOLD {
         return codes::NO_ROOM;
@@ -237,9 +237,9 @@ pub extern "C" fn hac_write_threshold(
     out: &mut [u8],
     answer: &mut [u64],
 ) -> u8
-    ensures { λ r. ⌜ Said 4 four (ThresholdWritten msb (record { «time_fraction» = «time_fraction»; «time_cpu» = «time_cpu»; «software_channel_identifier» = record { 0 = «software_channel_identifier» }; «tvg_max_range» = «tvg_max_range»; «tvg_min_range» = «tvg_min_range»; «tvt_evaluation_mode» = «tvt_evaluation_mode»; «tvt_evaluation_interval» = «tvt_evaluation_interval»; «tvt_evaluation_no_of_pings» = «tvt_evaluation_no_of_pings»; «tvt_evaluation_starting_tvt_ping_number» = «tvt_evaluation_starting_tvt_ping_number»; «tvt_offset_parameter_or_constant_threshold» = «tvt_offset_parameter_or_constant_threshold»; «tvt_amplification_parameter» = «tvt_amplification_parameter»; «tuple_attribute» = «tuple_attribute» }) (now (out .entry))) (now (answer .entry)) (now (out .entry)) r (now (answer .exit)) (now (out .exit)) ⌝ }
+    ensures { λ r. ⌜ Said 0 five (ThresholdWritten msb (record { «time_fraction» = «time_fraction»; «time_cpu» = «time_cpu»; «software_channel_identifier» = record { 0 = «software_channel_identifier» }; «tvg_max_range» = «tvg_max_range»; «tvg_min_range» = «tvg_min_range»; «tvt_evaluation_mode» = «tvt_evaluation_mode»; «tvt_evaluation_interval» = «tvt_evaluation_interval»; «tvt_evaluation_no_of_pings» = «tvt_evaluation_no_of_pings»; «tvt_evaluation_starting_tvt_ping_number» = «tvt_evaluation_starting_tvt_ping_number»; «tvt_offset_parameter_or_constant_threshold» = «tvt_offset_parameter_or_constant_threshold»; «tvt_amplification_parameter» = «tvt_amplification_parameter»; «tuple_attribute» = «tuple_attribute» }) (now (out .entry))) (now (answer .entry)) (now (out .entry)) r (now (answer .exit)) (now (out .exit)) ⌝ }
 {
-    if answer.len() < FOUR {
+    if answer.len() < HEAD {
         return codes::NO_ROOM;
     }
     let record = Threshold::new(

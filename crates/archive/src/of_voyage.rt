@@ -1,5 +1,5 @@
 // Position, navigation and attitude: each read and written.
-use super::FOUR;
+use super::HEAD;
 use super::tell_answer;
 use super::tell_record;
 use super::tell_refusal;
@@ -14,20 +14,20 @@ use position::PositionRead;
 ghost use Rattle.position.specs.Position.{PositionAt, PositionWritten};
 ghost use Rattle.navigation.specs.Navigation.{NavigationAt, NavigationWritten};
 ghost use Rattle.attitude.specs.Attitude.{AttitudeAt, AttitudeWritten};
-ghost use Rattle.archive.specs.Saying.{Said, SaidAlone};
-ghost use Rattle.archive.specs.Numbers.{four};
+ghost use Rattle.archive.specs.Saying.{head, Said, SaidAlone};
+ghost use Rattle.archive.specs.Numbers.{five};
 ghost use Rattle.archive.specs.Records.{positionTold, navigationTold, attitudeTold};
 
 // The entries that each reader may tell.
-const POSITION: usize = 11;
+const POSITION: usize = HEAD + 7;
 
-const NAVIGATION: usize = 10;
+const NAVIGATION: usize = HEAD + 6;
 
-const ATTITUDE: usize = 14;
+const ATTITUDE: usize = HEAD + 10;
 
 #[no_mangle]
 pub extern "C" fn hac_read_position(file: &[u8], place: usize, answer: &mut [u64]) -> u8
-    ensures { λ r. ⌜ SaidAlone 11 positionTold (PositionAt (now (file .entry)) place) (now (answer .entry)) r (now (answer .exit)) ⌝ }
+    ensures { λ r. ⌜ SaidAlone 7 positionTold (PositionAt (now (file .entry)) place) (now (answer .entry)) r (now (answer .exit)) ⌝ }
 {
     if answer.len() < POSITION {
         return codes::NO_ROOM;
@@ -51,9 +51,9 @@ pub extern "C" fn hac_write_position(
     out: &mut [u8],
     answer: &mut [u64],
 ) -> u8
-    ensures { λ r. ⌜ Said 4 four (PositionWritten msb (record { «time_fraction» = «time_fraction»; «time_cpu» = «time_cpu»; «gps_time» = «gps_time»; «positioning_system» = «positioning_system»; latitude = latitude; longitude = longitude; «tuple_attribute» = «tuple_attribute» }) (now (out .entry))) (now (answer .entry)) (now (out .entry)) r (now (answer .exit)) (now (out .exit)) ⌝ }
+    ensures { λ r. ⌜ Said 0 five (PositionWritten msb (record { «time_fraction» = «time_fraction»; «time_cpu» = «time_cpu»; «gps_time» = «gps_time»; «positioning_system» = «positioning_system»; latitude = latitude; longitude = longitude; «tuple_attribute» = «tuple_attribute» }) (now (out .entry))) (now (answer .entry)) (now (out .entry)) r (now (answer .exit)) (now (out .exit)) ⌝ }
 {
-    if answer.len() < FOUR {
+    if answer.len() < HEAD {
         return codes::NO_ROOM;
     }
     let record = Position::new(
@@ -70,7 +70,7 @@ pub extern "C" fn hac_write_position(
 
 #[no_mangle]
 pub extern "C" fn hac_read_navigation(file: &[u8], place: usize, answer: &mut [u64]) -> u8
-    ensures { λ r. ⌜ SaidAlone 10 navigationTold (NavigationAt (now (file .entry)) place) (now (answer .entry)) r (now (answer .exit)) ⌝ }
+    ensures { λ r. ⌜ SaidAlone 6 navigationTold (NavigationAt (now (file .entry)) place) (now (answer .entry)) r (now (answer .exit)) ⌝ }
 {
     if answer.len() < NAVIGATION {
         return codes::NO_ROOM;
@@ -93,9 +93,9 @@ pub extern "C" fn hac_write_navigation(
     out: &mut [u8],
     answer: &mut [u64],
 ) -> u8
-    ensures { λ r. ⌜ Said 4 four (NavigationWritten msb (record { «time_fraction» = «time_fraction»; «time_cpu» = «time_cpu»; «navigation_system» = «navigation_system»; heading = heading; «navigation_speed» = «navigation_speed»; «tuple_attribute» = «tuple_attribute» }) (now (out .entry))) (now (answer .entry)) (now (out .entry)) r (now (answer .exit)) (now (out .exit)) ⌝ }
+    ensures { λ r. ⌜ Said 0 five (NavigationWritten msb (record { «time_fraction» = «time_fraction»; «time_cpu» = «time_cpu»; «navigation_system» = «navigation_system»; heading = heading; «navigation_speed» = «navigation_speed»; «tuple_attribute» = «tuple_attribute» }) (now (out .entry))) (now (answer .entry)) (now (out .entry)) r (now (answer .exit)) (now (out .exit)) ⌝ }
 {
-    if answer.len() < FOUR {
+    if answer.len() < HEAD {
         return codes::NO_ROOM;
     }
     let record = Navigation::new(
@@ -111,7 +111,7 @@ pub extern "C" fn hac_write_navigation(
 
 #[no_mangle]
 pub extern "C" fn hac_read_attitude(file: &[u8], place: usize, answer: &mut [u64]) -> u8
-    ensures { λ r. ⌜ SaidAlone 14 attitudeTold (AttitudeAt (now (file .entry)) place) (now (answer .entry)) r (now (answer .exit)) ⌝ }
+    ensures { λ r. ⌜ SaidAlone 10 attitudeTold (AttitudeAt (now (file .entry)) place) (now (answer .entry)) r (now (answer .exit)) ⌝ }
 {
     if answer.len() < ATTITUDE {
         return codes::NO_ROOM;
@@ -138,9 +138,9 @@ pub extern "C" fn hac_write_attitude(
     out: &mut [u8],
     answer: &mut [u64],
 ) -> u8
-    ensures { λ r. ⌜ Said 4 four (AttitudeWritten msb (record { «time_fraction» = «time_fraction»; «time_cpu» = «time_cpu»; «software_channel_identifier» = record { 0 = «software_channel_identifier» }; «platform_referred_to» = «platform_referred_to»; «alongship_offset» = «alongship_offset»; «athwartship_offset» = «athwartship_offset»; pitch = pitch; roll = roll; heave = heave; «tuple_attribute» = «tuple_attribute» }) (now (out .entry))) (now (answer .entry)) (now (out .entry)) r (now (answer .exit)) (now (out .exit)) ⌝ }
+    ensures { λ r. ⌜ Said 0 five (AttitudeWritten msb (record { «time_fraction» = «time_fraction»; «time_cpu» = «time_cpu»; «software_channel_identifier» = record { 0 = «software_channel_identifier» }; «platform_referred_to» = «platform_referred_to»; «alongship_offset» = «alongship_offset»; «athwartship_offset» = «athwartship_offset»; pitch = pitch; roll = roll; heave = heave; «tuple_attribute» = «tuple_attribute» }) (now (out .entry))) (now (answer .entry)) (now (out .entry)) r (now (answer .exit)) (now (out .exit)) ⌝ }
 {
-    if answer.len() < FOUR {
+    if answer.len() < HEAD {
         return codes::NO_ROOM;
     }
     let record = Attitude::new(

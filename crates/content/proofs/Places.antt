@@ -161,7 +161,7 @@ module _ (o : Bool) (f : List ℕ) (at n : ℕ) (w : Whole o f at n) where
   link-sounder e h = row-link Sounder _ e refl (omega arith)
 
   pub link-channel : kindOf (kindAt o (drop at f)) ≡ Channel → n ≡ 108
-      → digest o (tupAt o (drop at f)) .link ≡ Links.channel (record { id = record { 0 = fieldAt o f at 2 6 }; parent = record { 0 = fieldAt o f at 4 8 } })
+      → digest o (tupAt o (drop at f)) .link ≡ Links.channel (record { id = record { 0 = fieldAt o f at 2 6 }; parent = record { 0 = fieldAt o f at 4 8 }; rate = fieldAt o f at 4 12; samples = fieldAt o f at 2 16 })
   unfolding t k lineOf
   link-channel e h = row-link Channel _ e refl (omega arith)
 

@@ -82,12 +82,12 @@ abbrev pub unless : Bool → Link → Link
 unless true l = Links.none
 unless false l = l
 
--- a sounder tuple: number of channels, document identifier; a channel tuple: software channel, document identifier; a threshold
--- and an attitude: time fraction, time, software channel
+-- a sounder tuple: number of channels, document identifier; a channel tuple: software channel, document identifier, sampling rate, type
+-- of data sample; a threshold and an attitude: time fraction, time, software channel
 abbrev pub linkBy : Kind → List Value → Link
 linkBy Signature vs = Links.none
 linkBy Sounder vs = Links.sounder (record { doc = record { 0 = numberAt vs 1 }; says = numberAt vs 0 })
-linkBy Channel vs = Links.channel (record { id = record { 0 = numberAt vs 0 }; parent = record { 0 = numberAt vs 1 } })
+linkBy Channel vs = Links.channel (record { id = record { 0 = numberAt vs 0 }; parent = record { 0 = numberAt vs 1 }; rate = numberAt vs 2; samples = numberAt vs 3 })
 linkBy Position vs = Links.none
 linkBy Navigation vs = Links.none
 linkBy Attitude vs = unless (eqb (numberAt vs 2) 65535) (Links.names (record { 0 = numberAt vs 2 }))

@@ -101,13 +101,13 @@ module _ (o : Bool) (f : List ℕ) (p : ℕ) where
 
 -- ---- so asking gives 9 where no listed ping starts
 module _ (f : List ℕ) (b : Bytes f) (n : Counts) (e : checkFile f ≡ Accepted n) (p : ℕ) (no : PingAt f p → ⊥) where
-  by-item : (w : Course) (a : Among (tuplesOf f)) → placeAfter (isMsb f) (a .before) ≡ p → (i : Option Item) → itemOf (isMsb f) (a .it) ≡ i → askItem w p (n .tuples) i ≡ Asked.Refused 9 p
+  by-item : (w : Course) (a : Among (tuplesOf f)) → placeAfter (isMsb f) (a .before) ≡ p → (i : Option Item) → itemOf (isMsb f) (a .it) ≡ i → askItem w p n i ≡ Asked.Refused 9 p
   by-item w a h none z = refl
   by-item w a h (some (plain k vs)) z = refl
   by-item w a h (some (ping q)) z = absurd (no (record { ping = a; listed = ping-listed (isMsb f) (a .it) q z; place = h }))
   by-item w a h (some (raw k d)) z = refl
 
-  by-course : (c : Option Course) → courseTo (length f) (isMsb f) f p begin ≡ c → askCourse f p (n .tuples) c ≡ Asked.Refused 9 p
+  by-course : (c : Option Course) → courseTo (length f) (isMsb f) f p begin ≡ c → askCourse f p n c ≡ Asked.Refused 9 p
   by-course none h = refl
   by-course (some w) h =
       let o = isMsb f in
@@ -116,8 +116,8 @@ module _ (f : List ℕ) (b : Bytes f) (n : Counts) (e : checkFile f ≡ Accepted
       let behind : drop 4 f ≡ r = ap (drop 4) (d .whole) ∙ drop-at (mark o) r 4 (length-mark o) in
       let s = spot o f p (length f) (tuplesOf f) begin w behind (d .sound) (d .linked) h in
       let t : tupAt o (drop p f) ≡ s .0 .it = ap (λ (i : ℕ). tupAt o (drop i f)) (sym (s .1)) ∙ stands-there f b n e (s .0) in
-      ap (λ (x : Tup). askItem w p (n .tuples) (itemOf o x)) t ∙ by-item w (s .0) (s .1) (itemOf o (s .0 .it)) refl
+      ap (λ (x : Tup). askItem w p n (itemOf o x)) t ∙ by-item w (s .0) (s .1) (itemOf o (s .0 .it)) refl
 
-  pub missed : askAccepted f p (n .tuples) ≡ Asked.Refused 9 p
+  pub missed : askAccepted f p n ≡ Asked.Refused 9 p
   unfolding askAccepted
   missed = by-course (courseTo (length f) (isMsb f) f p begin) refl

@@ -118,13 +118,13 @@ even-sounders (Link.names c) at = refl
 
 -- ---- what the course behind tuples gives
 -- the parents of a channel, looked up by a number in the lists of declarations and of their places
-abbrev given : ℕ → List Channel → List ℕ → List Sounder → List ℕ → SoftwareChannel → ℕ → Asked
+abbrev given : ℕ → List Channel → List ℕ → List Sounder → List ℕ → SoftwareChannel → Counts → Asked
 given x cs ps ss qs c n =
     let i = placeOf idOf x cs in
-    let d = getD cs i noChannel .parent in
-    Asked.Parents c (getD ps i 0) d (getD qs (placeOf docOf (d .0) ss) 0) n
+    let it = getD cs i noChannel in
+    Asked.Parents c (getD ps i 0) (it .rate) (it .samples) (it .parent) (getD qs (placeOf docOf (it .parent .0) ss) 0) n
 
-module _ (o : Bool) (all : List Tup) (linked : Linked true start (digests o all)) (a : Among all) (c : SoftwareChannel) (g : Family o (a .before) c) (n : ℕ) where
+module _ (o : Bool) (all : List Tup) (linked : Linked true start (digests o all)) (a : Among all) (c : SoftwareChannel) (g : Family o (a .before) c) (n : Counts) where
   -- the two tuples, among those before the ping, and what they declare
   ofChannel : Among (a .before)
   ofChannel = g .channel .one
@@ -162,8 +162,8 @@ module _ (o : Bool) (all : List Tup) (linked : Linked true start (digests o all)
       let spot = spot-at idOf newChannels channelPlace even-channels o 4 ofChannel ch cn cp cf in
       let under : DocumentId → ℕ = λ d. getD (spots sounderPlace o 4 (a .before)) (placeOf docOf (d .0) (lines newSounders o (a .before))) 0 in
       lists
-      ∙ (λ i. Asked.Parents c (spot i) (line i .parent) (under (line i .parent)) n)
-      ∙ ap (λ (q : ℕ). Asked.Parents c (placeAfter o (ofChannel .before)) (ch .parent) q n)
+      ∙ (λ i. Asked.Parents c (spot i) (line i .rate) (line i .samples) (line i .parent) (under (line i .parent)) n)
+      ∙ ap (λ (q : ℕ). Asked.Parents c (placeAfter o (ofChannel .before)) (ch .rate) (ch .samples) (ch .parent) q n)
       (ap under (sym (g .sounder .is .named)) ∙ spot-at docOf newSounders sounderPlace even-sounders o 4 ofSounder so sn sp sf)
 
 -- ---- the listed pings of an accepted file
@@ -181,7 +181,7 @@ sound-at o [] t ys a = a .0
 sound-at o (x ∷ xs) t ys a = sound-at o xs t ys (a .1)
 
 module _ (f : List ℕ) (b : Bytes f) (n : Counts) (e : checkFile f ≡ Accepted n) (a : Among (tuplesOf f)) where
-  d : Divided f (n .tuples)
+  d : Divided f n
   d = divided f b n e
 
   -- what stands behind the mark
@@ -230,19 +230,19 @@ module _ (f : List ℕ) (b : Bytes f) (n : Counts) (e : checkFile f ≡ Accepted
     family = family-of (isMsb f) (tuplesOf f) (d .linked) (channelIn q) a (names-channel (isMsb f) (a .it) q i)
 
     -- asking gives these two, and where they stand
-    pub asked : (g : Family (isMsb f) (a .before) (channelIn q)) → askAt f (placeAfter (isMsb f) (a .before)) ≡ gives g (n .tuples)
+    pub asked : (g : Family (isMsb f) (a .before) (channelIn q)) → askAt f (placeAfter (isMsb f) (a .before)) ≡ gives g n
     unfolding askAt askAccepted
     asked g =
         let p = placeAfter (isMsb f) (a .before) in
         let w = courseAfter (isMsb f) begin (a .before) in
         ap (askChecked f p) e
-        ∙ ap (askCourse f p (n .tuples)) stands-course
-        ∙ ap (λ (t : Tup). askItem w p (n .tuples) (itemOf (isMsb f) t)) stands-there
-        ∙ ap (askItem w p (n .tuples)) i
-        ∙ given-parents (isMsb f) (tuplesOf f) (d .linked) a (channelIn q) g (n .tuples)
+        ∙ ap (askCourse f p n) stands-course
+        ∙ ap (λ (t : Tup). askItem w p n (itemOf (isMsb f) t)) stands-there
+        ∙ ap (askItem w p n) i
+        ∙ given-parents (isMsb f) (tuplesOf f) (d .linked) a (channelIn q) g n
 
   -- ---- each ping of a listed type
-  pub answered : Listed (a .it) → Answered f a (n .tuples)
+  pub answered : Listed (a .it) → Answered f a n
   answered l =
       let p = listed-ping (isMsb f) (a .it) l in
       let g = family (p .0) (p .1) in

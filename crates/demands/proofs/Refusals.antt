@@ -1,7 +1,7 @@
 -- Demand 1, of the check, the normaliser, one tuple's normal form, asking and, for samples, readers: `demand1`. Assumes nothing.
 use mathlib.Core.Path.{_≡_, refl, sym, ap, subst, subst₂, _∙_}
 use mathlib.Core.Logic.{_↔_}
-use mathlib.Core.Bool.{true, false, true≢false}
+use mathlib.Core.Bool.{true, true≢false}
 use mathlib.Core.List.{List, [], _∷_, _++_}
 use Prim.Native.Nat.{ℕ, _≤_}
 use native.Mathlib.Omega.{arith}
@@ -125,10 +125,10 @@ module _ (f : List ℕ) (b : Bytes f) (p : ℕ) where
   ask-refused {c} {q} = (by (checkFile f) refl, back)
     where
       -- at a listed ping asking refuses nothing
-      no-ping : (n : Counts) → checkFile f ≡ Accepted n → askAccepted f p (n .tuples) ≡ Asked.Refused c q → PingAt f p → ⊥
+      no-ping : (n : Counts) → checkFile f ≡ Accepted n → askAccepted f p n ≡ Asked.Refused c q → PingAt f p → ⊥
       no-ping n h z a =
           let g = answered f b n h (a .ping) (a .listed) in
-          let y : askAccepted f p (n .tuples) ≡ askAt f p = sym (ap (askChecked f p) h) in
+          let y : askAccepted f p n ≡ askAt f p = sym (ap (askChecked f p) h) in
           let x = sym z ∙ y ∙ ap (askAt f) (sym (a .place)) ∙ g .answer in
           let w : _≡_ {A = ℕ} 0 1 = cc (x) in
           omega arith

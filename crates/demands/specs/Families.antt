@@ -7,6 +7,7 @@ use mathlib.Core.List.{List, _∷_, _++_}
 use Prim.Native.Nat.{ℕ, _+_}
 use lib.ListN.{length}
 use Rattle.layout.specs.declared.SoftwareChannel.{SoftwareChannel}
+use Rattle.layout.specs.declared.Counts.{Counts}
 use Rattle.layout.specs.declared.DocumentId.{DocumentId}
 use Rattle.frame.specs.Frames.{Tup, frames}
 use Rattle.frame.specs.Files.{isMsb}
@@ -64,12 +65,14 @@ Listed t = (t .kind ≡ 10000) ⊎ (t .kind ≡ 10010)
 abbrev pub placeAfter : Bool → List Tup → ℕ
 placeAfter o xs = 4 + length (frames o xs)
 
--- the parents and their places, for the answer
-abbrev pub gives : {o : Bool} {xs : List Tup} {c : SoftwareChannel} → Family o xs c → ℕ → Asked
-gives {o} {xs} {c} g n = Asked.Parents c (placeAfter o (g .channel .one .before)) (g .channel .is .it .parent) (placeAfter o (g .sounder .one .before)) n
+-- the parents and their places, the channel's sampling rate and what its samples are, for the answer
+abbrev pub gives : {o : Bool} {xs : List Tup} {c : SoftwareChannel} → Family o xs c → Counts → Asked
+gives {o} {xs} {c} g n =
+    let it = g .channel .is .it in
+    Asked.Parents c (placeAfter o (g .channel .one .before)) (it .rate) (it .samples) (it .parent) (placeAfter o (g .sounder .one .before)) n
 
 -- what asking at a ping gives: the channel that it names, the channel's family, and the answer by these
-pub record Answered (f : List ℕ) (a : Among (tuplesOf f)) (n : ℕ) : Type 0 where
+pub record Answered (f : List ℕ) (a : Among (tuplesOf f)) (n : Counts) : Type 0 where
   pub channel : SoftwareChannel
   pub names : digest (isMsb f) (a .it) .link ≡ Link.names channel
   pub family : Family (isMsb f) (a .before) channel

@@ -1,11 +1,12 @@
 // HAC files: checked, walked both ways, linked, read, written and brought to one normal form. The whole library under one name.
 //
 // A file is lent as a slice of bytes and may hold anything; a place is a byte offset in it. Every call answers for every argument and
-// asks for nothing. It accepts, or it refuses by one code of document 01 with a place: the first rule broken, in 01's order. A refused
+// asks for nothing. It accepts, or it refuses by one code with a place: the first rule broken, in the order of docs/RULES.md. A refused
 // call leaves all lent memory as it was; an accepted one leaves what stands past what it wrote. `msb` is the byte order that a writer
 // is asked for: most significant byte first where it is true. Codes are named in `codes`, type codes in `types`.
 
-// What a call says: accepted with the tuples counted and the length written, or refused with a code and a place.
+// What a call says: accepted with the tuples counted, the length written and the identifiers compared, or refused with a code and a
+// place.
 pub use layout::Answer;
 pub use layout::codes;
 pub use layout::types;
@@ -16,8 +17,8 @@ pub use layout::SoftwareChannel;
 pub use layout::Transceiver;
 
 // check(file): 1, 2; tuple by tuple 4, 3, 5, 3, 6, 7, 9, 8, 12, 14, 13, 11, then 23, or 24 and 25, each of these three at the byte of
-// its first offender; behind the end of file 15, 16, 17. Accepts with the file's tuples and length 0. Promise: `Checked`,
-// crates/intake/specs/Check.antt.
+// its first offender; behind the end of file 15, 16, 17. Accepts with the file's tuples, length 0 and the identifiers compared while
+// linking. Promise: `Checked`, crates/intake/specs/Check.antt.
 pub use intake::check;
 
 // The walk: a state that a step takes and hands back. Walk { at }.forward(file) and .backward(file) give a tuple (place, length, type
@@ -26,8 +27,9 @@ pub use intake::check;
 pub use frame::Step;
 pub use frame::Walk;
 
-// ask(file, place): the channel and the sounder of the ping at a place, both identifiers and both tuples' places, with the file's
-// tuples. Refuses as the check does, then by 9 where no listed ping starts. Promise: `AskedFor`, crates/intake/specs/Asking.antt.
+// ask(file, place): the channel and the sounder of the ping at a place, both identifiers and both tuples' places, the channel's
+// sampling rate and type of data sample, with what the check counts. Refuses as the check does, then by 9 where no listed ping starts.
+// Promise: `AskedFor`, crates/intake/specs/Asking.antt.
 pub use intake::Asked;
 pub use intake::ask;
 
@@ -80,7 +82,8 @@ pub use threshold::ThresholdRead;
 pub use tuples::Part;
 
 // normalise(file, out): the file's normal form. Refuses as the check does; then by 18 at the first unlisted tuple, index class apart, of
-// an MSB file; 20 where the normal form is over the limit of a file; 19. Accepts with the file's tuples and the bytes written.
+// an MSB file; 20 where the normal form is over the limit of a file; 19. Accepts with the file's tuples, the bytes written and
+// the identifiers compared in the file handed in.
 // Promise: `Normalised`, crates/normal/specs/Normaliser.antt; demand 3: crates/normal/specs/Demand.antt.
 pub use normal::normalise;
 

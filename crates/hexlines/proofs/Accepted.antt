@@ -28,7 +28,7 @@ use Rattle.content.proofs.Kept.{kept}
 use Rattle.intake.specs.Check.{checkFile}
 use Rattle.intake.proofs.Accepted.{refusal, Division, all-framed, accepted-file}
 use Rattle.normal.specs.Contents.{items, contentOf, normalTuples, formed, normalOf}
-use Rattle.normal.specs.Normaliser.{normalRules, behindCheck, normalAnswer}
+use Rattle.normal.specs.Normaliser.{normalRules, normalCounts, behindCheck, normalAnswer}
 use Rattle.normal.specs.Single.{singleTuples, singleForm, behindRules, singleAnswer}
 use Rattle.normal.proofs.Carried.{carried}
 use Rattle.hexlines.specs.inner.Printing.{Form}
@@ -54,7 +54,7 @@ file-written f b room n e = by-answer (checkFile f) refl e
     by-answer : (a : Answer) → checkFile f ≡ a → behindCheck f room a ≡ Accepted n → Written (normalOf f) (normalTuples (contentOf f)) room (n .written)
     by-answer (Refused c p) h q = refusal c p n q
     by-answer (Accepted i) h q =
-        let c = clear isAccepted (normalRules f room) (accepting (i .tuples) (length (normalOf f))) (Accepted n) (refl, (refl, (refl, tt))) q refl in
+        let c = clear isAccepted (normalRules f room) (Accepted (normalCounts f i)) (Accepted n) (refl, (refl, (refl, tt))) q refl in
         record {
           bytes = sym (cc (c .1));
           fits = ltb-false room (length (normalOf f)) (c .0 .1 .1 .0);

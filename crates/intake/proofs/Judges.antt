@@ -33,7 +33,7 @@ use Rattle.samples.specs.Judging.{judgedPairs, judgedWords}
 use Rattle.content.specs.Items.{identifiedBy, headRules, innerRules, unless, digest}
 use Rattle.content.proofs.Places.{by-code, fieldAt, fits-place, identifier-place, identified-other, link-sounder, link-channel, link-threshold, link-attitude, link-ping-U, link-ping-C, link-alone, inner-U, inner-C, inner-other}
 use Rattle.intake.specs.declared.Tally.{Tally}
-use Rattle.intake.specs.inner.Tallies.{Tables, soundersBy, channelsBy, Here, Fits, sounderAt, channelAt, namedAt, headVerdict, linkVerdict, innerVerdict, ownVerdict, turnVerdict, said, compares, linkTold, turnTold}
+use Rattle.intake.specs.inner.Tallies.{Tables, soundersBy, channelsBy, Here, Fits, sounderAt, channelAt, namedAt, headVerdict, linkVerdict, innerVerdict, ownVerdict, turnVerdict, said, comparesAt, linkTold, turnTold}
 
 -- the tuple at a place; whether its identifier is known
 abbrev pub tupIn : Bool → List ℕ → ℕ → Tup
@@ -141,6 +141,10 @@ module _ {o : Bool} {f : List ℕ} {at n k : ℕ} (h : Here o f at n k) where
     unfolding kindOf inClass classes lineOf
     sounder-link e = link-sounder o f at n whole (kind-of e) (eqb-true n 72 (length-of e))
 
+    pub channel-whole : k ≡ 1000 → at + 18 ≤ length f
+    unfolding kindOf inClass classes lineOf
+    channel-whole e = omega (arith, eqb-true n 108 (length-of e), whole .fits)
+
     pub channel-link : k ≡ 1000 → digest o (tupIn o f at) .link ≡ Links.channel (channelAt o f at)
     unfolding kindOf inClass classes lineOf
     channel-link e = link-channel o f at n whole (kind-of e) (eqb-true n 108 (length-of e))
@@ -236,9 +240,9 @@ module _ (o first : Bool) (ss : List Sounder) (cs : List Channel) (f : List ℕ)
 
 -- ---- what is told where a tally stands, by the first of its verdicts that finds a fault, or by all of them
 module _ (o : Bool) (f : List ℕ) (w : Tally) (c : Tables) where
-  told-all : {v : Verdict} → v ≡ said o f w c → comparing v (compares o f w c) ≡ turnTold o f w c
+  told-all : {v : Verdict} → v ≡ said o f w c → comparing v (comparesAt o f w c) ≡ turnTold o f w c
   unfolding turnTold
-  told-all e = ap (λ (v : Verdict). comparing v (compares o f w c)) e
+  told-all e = ap (λ (v : Verdict). comparing v (comparesAt o f w c)) e
 
   pub told-stop : {a b : ℕ} (v u : Verdict) → v ≡ Fault a b → both v u ≡ said o f w c → comparing v 0 ≡ turnTold o f w c
   told-stop v u e q = ap (λ (x : Verdict). comparing x 0) e ∙ told-all (ap (λ (x : Verdict). both x u) (sym e) ∙ q)
@@ -249,20 +253,20 @@ module _ (o : Bool) (f : List ℕ) (w : Tally) (c : Tables) where
   abbrev innerSaid : Verdict
   innerSaid = innerVerdict o (tupIn o f (w .at))
 
-  link-told : linkTold o f w c ≡ comparing linkSaid (compares o f w c)
+  link-told : linkTold o f w c ≡ comparing linkSaid (comparesAt o f w c)
   unfolding linkTold linking linkVerdict
   link-told = refl
 
   module _ {r : LinkVerdict} (e : r ≡ linkTold o f w c) (q : both linkSaid innerSaid ≡ said o f w c) where
     pub told-unlinked : {a b : ℕ} → r ≡ Faulty a b → r ≡ turnTold o f w c
     told-unlinked {a} {b} d =
-        let v = told-fault linkSaid (compares o f w c) a b (sym (e ∙ link-told) ∙ d) in
+        let v = told-fault linkSaid (comparesAt o f w c) a b (sym (e ∙ link-told) ∙ d) in
         d ∙ told-all (ap (λ (x : Verdict). both x innerSaid) (sym v) ∙ q)
 
     module _ {n : ℕ} (d : r ≡ Linked n) where
       pub told-linked : comparing innerSaid n ≡ turnTold o f w c
       told-linked =
-          let v = told-fine linkSaid (compares o f w c) n (sym (e ∙ link-told) ∙ d) in
+          let v = told-fine linkSaid (comparesAt o f w c) n (sym (e ∙ link-told) ∙ d) in
           ap (comparing innerSaid) (sym (v .1)) ∙ told-all (ap (λ (x : Verdict). both x innerSaid) (sym (v .0)) ∙ q)
 
       -- of a tuple without samples
@@ -270,10 +274,10 @@ module _ (o : Bool) (f : List ℕ) (w : Tally) (c : Tables) where
       told-alone i = ap (λ (x : Verdict). comparing x n) (sym i) ∙ told-linked
 
   -- what a turn is told, it says
-  pub turn-fine : {r : LinkVerdict} {n : ℕ} → r ≡ turnTold o f w c → r ≡ Linked n → said o f w c ≡ Fine
+  pub turn-fine : {r : LinkVerdict} {n : ℕ} → r ≡ turnTold o f w c → r ≡ Linked n → (said o f w c ≡ Fine) × (comparesAt o f w c ≡ n)
   unfolding turnTold
-  turn-fine {n = n} e d = told-fine (said o f w c) (compares o f w c) n (sym e ∙ d) .0
+  turn-fine {n = n} e d = told-fine (said o f w c) (comparesAt o f w c) n (sym e ∙ d)
 
   pub turn-fault : {r : LinkVerdict} {a b : ℕ} → r ≡ turnTold o f w c → r ≡ Faulty a b → said o f w c ≡ Fault a b
   unfolding turnTold
-  turn-fault {a = a} {b = b} e d = told-fault (said o f w c) (compares o f w c) a b (sym e ∙ d)
+  turn-fault {a = a} {b = b} e d = told-fault (said o f w c) (comparesAt o f w c) a b (sym e ∙ d)

@@ -1,17 +1,17 @@
 -- Asking where the tally stands at a tuple of an accepted file: a listed ping's lines are declared, and what their rows say is what
 -- the course says. Assumes nothing.
-use mathlib.Core.Path.{_≡_, refl, sym, ap, ap₂, subst, _∙_}
+use mathlib.Core.Path.{_≡_, refl, sym, ap, subst, _∙_}
 use mathlib.Core.Bool.{Bool, true, false, cond, _||_, true≢false}
 use mathlib.Core.List.{List, []}
 use mathlib.Core.Option.{Option, some}
-use Prim.Native.Nat.{ℕ, _<_, _≤_}
+use Prim.Native.Nat.{ℕ, _%_, _<_, _≤_}
 use native.Mathlib.Omega.{arith}
 use borrow.Author.Tests.{eqb-true, eq-eqb, not-false}
 use lib.Dec.{eqb}
 use lib.ListN.{length, drop, getD}
 use Rattle.rules.proofs.Bools.{or-true}
+use Rattle.layout.specs.declared.Counts.{Counts}
 use Rattle.layout.specs.declared.SoftwareChannel.{SoftwareChannel}
-use Rattle.layout.specs.declared.DocumentId.{DocumentId}
 use Rattle.layout.specs.declared.Kind.{Kind}
 use Rattle.layout.specs.declared.Kind.the-variants.{PingU, PingC}
 use Rattle.layout.specs.Answers.{judged}
@@ -31,7 +31,7 @@ use Rattle.content.proofs.Places.{Shaped, shaped, fits-place, header}
 use Rattle.intake.specs.declared.Tally.{Tally}
 use Rattle.intake.specs.declared.Asked.{Asked}
 use Rattle.intake.specs.declared.Asked.the-variants
-use Rattle.intake.specs.Asking.{noChannel, channelLine, parentOf, sounderLine, parentsIn, askItem}
+use Rattle.intake.specs.Asking.{noChannel, channelLine, channelFor, sounderLine, parentsIn, askItem}
 use Rattle.intake.specs.inner.Tallies.{Tables, Sized, courseOf, Standing, pingAt, namedAt, askWhere, AskIn}
 use Rattle.intake.proofs.Asks.{Fair}
 
@@ -105,7 +105,7 @@ module _ (o : Bool) (f : List ℕ) (w : Tally) (c : Tables) (s : Standing f w) (
   unfolding links
   below-c p = omega (arith, one-below (parents p .channel), rows-length channelOf (c .channels) (w .channels) channel-room)
 
-  below-s : Pinged → sounderLine (courseOf w c) (parentOf (courseOf w c) x) < w .sounders
+  below-s : Pinged → sounderLine (courseOf w c) (channelFor (courseOf w c) x .parent) < w .sounders
   unfolding links
   below-s p =
       let e = ap (λ (y : Channel). placeOf docOf (y .parent .0) (courseOf w c .links .sounders)) (one-place (parents p .channel) noChannel) in
@@ -122,11 +122,11 @@ module _ (o : Bool) (f : List ℕ) (w : Tally) (c : Tables) (s : Standing f w) (
       }
 
   -- ---- a listed ping's parents, by the course
-  by-ping : (m : ℕ) (p : Pinged) → askItem (courseOf w c) (w .at) m (itemOf o (tupAt o (drop (w .at) f))) ≡ parentsIn (courseOf w c) (namedAt o f (w .at)) m
+  by-ping : (m : Counts) (p : Pinged) → askItem (courseOf w c) (w .at) m (itemOf o (tupAt o (drop (w .at) f))) ≡ parentsIn (courseOf w c) (namedAt o f (w .at)) m
   by-ping m p = ap (askItem (courseOf w c) (w .at) m) (p .item) ∙ ap (λ (y : ℕ). parentsIn (courseOf w c) (record { 0 = y }) m) (p .named)
 
   -- any other tuple gives 9
-  by-other : (m : ℕ) → pingAt o f (w .at) ≡ false → askItem (courseOf w c) (w .at) m (itemOf o (tupAt o (drop (w .at) f))) ≡ Asked.Refused 9 (w .at)
+  by-other : (m : Counts) → pingAt o f (w .at) ≡ false → askItem (courseOf w c) (w .at) m (itemOf o (tupAt o (drop (w .at) f))) ≡ Asked.Refused 9 (w .at)
   unfolding itemOf k
   by-other m e = by-shape (shapeOf k) (shaped k)
     where
@@ -137,7 +137,7 @@ module _ (o : Bool) (f : List ℕ) (w : Tally) (c : Tables) (s : Standing f w) (
       by-shape words z = absurd (true≢false (sym (or-true (eqb k 10000) (eq-eqb k 10010 z)) ∙ e))
       by-shape unlisted z = refl
 
-  pub ask-course : (m : ℕ) → askWhere o f m (courseOf w c) ≡ askItem (courseOf w c) (w .at) m (itemOf o (tupAt o (drop (w .at) f)))
+  pub ask-course : (m : Counts) → askWhere o f m (courseOf w c) ≡ askItem (courseOf w c) (w .at) m (itemOf o (tupAt o (drop (w .at) f)))
   unfolding askWhere
   ask-course m = by-bool (pingAt o f (w .at)) refl
     where
@@ -149,7 +149,7 @@ module _ (o : Bool) (f : List ℕ) (w : Tally) (c : Tables) (s : Standing f w) (
       by-bool false e = ap (λ (z : Bool). cond z here (Asked.Refused 9 (w .at))) e ∙ sym (by-other m e)
 
 -- ---- what the code answers, by what it tested and looked up
-module _ (o : Bool) (f : List ℕ) (w : Tally) (m : ℕ) (c : Tables) where
+module _ (o : Bool) (f : List ℕ) (w : Tally) (m : Counts) (c : Tables) where
   pub ask-other : pingAt o f (w .at) ≡ false → Asked.Refused 9 (w .at) ≡ askWhere o f m (courseOf w c)
   unfolding askWhere
   ask-other e = rw e
@@ -162,22 +162,23 @@ module _ (o : Bool) (f : List ℕ) (w : Tally) (m : ℕ) (c : Tables) where
     pub channel-below : b < length (c .channels)
     channel-below = omega (arith, lined, r .declared e .0, r .channelRoom)
 
-    parent : channelOf (getD (c .channels) b []) .parent ≡ parentOf (courseOf w c) (namedAt o f (w .at))
-    parent =
-        ap (λ (y : Channel). y .parent) (sym (rows-at channelOf (c .channels) (w .channels) b [] (omega (arith, lined, r .declared e .0))))
-        ∙ ap (λ (y : ℕ). getD (channelsIn (w .channels) (c .channels)) y (channelOf []) .parent) lined
+    lines : channelOf (getD (c .channels) b []) ≡ channelFor (courseOf w c) (namedAt o f (w .at))
+    lines =
+        sym (rows-at channelOf (c .channels) (w .channels) b [] (omega (arith, lined, r .declared e .0)))
+        ∙ ap (λ (y : ℕ). getD (channelsIn (w .channels) (c .channels)) y (channelOf [])) lined
 
     module _ (d : ℕ) (p : d ≡ placeOf docOf (getD (getD (c .channels) b []) 1 0) (soundersIn (w .sounders) (c .sounders))) where
-      under : d ≡ sounderLine (courseOf w c) (parentOf (courseOf w c) (namedAt o f (w .at)))
-      under = p ∙ ap (λ (y : DocumentId). placeOf docOf (y .0) (soundersIn (w .sounders) (c .sounders))) parent
+      under : d ≡ sounderLine (courseOf w c) (channelFor (courseOf w c) (namedAt o f (w .at)) .parent)
+      under = p ∙ ap (λ (y : Channel). placeOf docOf (y .parent .0) (soundersIn (w .sounders) (c .sounders))) lines
 
       pub sounder-below : d < length (c .sounders)
       sounder-below = omega (arith, under, r .declared e .1, r .sounderRoom)
 
-      pub ask-ping : (x y : ℕ) → x ≡ tupleOf (getD (c .channels) b []) → y ≡ tupleOf (getD (c .sounders) d [])
-          → Asked.Parents a x (record { 0 = getD (getD (c .channels) b []) 1 0 }) y m ≡ askWhere o f m (courseOf w c)
+      pub ask-ping : (x k y : ℕ) → x ≡ tupleOf (getD (c .channels) b []) → k ≡ getD (getD (c .channels) b []) 4 0 % 65536 → y ≡ tupleOf (getD (c .sounders) d [])
+          → Asked.Parents a x (getD (getD (c .channels) b []) 3 0) k (record { 0 = getD (getD (c .channels) b []) 1 0 }) y m ≡ askWhere o f m (courseOf w c)
       unfolding askWhere
-      ask-ping x y s t =
+      ask-ping x k y s j t =
           let u = s ∙ sym (rows-at tupleOf (c .channels) (w .channels) b [] (omega (arith, lined, r .declared e .0))) ∙ ap (λ (z : ℕ). getD (tuplesIn (w .channels) (c .channels)) z 0) lined in
+          let h = j ∙ ap (λ (y : Channel). y .samples) lines in
           let v = t ∙ sym (rows-at tupleOf (c .sounders) (w .sounders) d [] (omega (arith, under, r .declared e .1))) ∙ ap (λ (z : ℕ). getD (tuplesIn (w .sounders) (c .sounders)) z 0) under in
-          rw e (λ i. Asked.Parents (n i) (u i) (parent i) (v i) m)
+          rw e (λ i. Asked.Parents (n i) (u i) (lines i .rate) (h i) (lines i .parent) (v i) m)

@@ -2,21 +2,19 @@
 -- room for what it declares. Assumes nothing.
 use mathlib.Core.Path.{_≡_}
 use mathlib.Core.List.{List, [], _∷_, _++_}
-use mathlib.Core.Bool.{Bool, true, false, not, _&&_}
+use mathlib.Core.Bool.{Bool, true, false, _&&_}
 use Prim.Native.Nat.{ℕ, _+_, _-_, _*_, _%_, _≤_, _<_}
 use native.Mathlib.Omega.{arith}
 use borrow.Author.Tests.{eqb-true, leb-true, leb-false, not-false}
 use lib.Dec.{eqb, leb, lit≤}
 use lib.ListN.{length, take, drop, length-take, length-drop}
-use Rattle.rules.specs.Rules.{Rule, _⇒_}
+use Rattle.rules.specs.Rules.{_⇒_}
 use Rattle.rules.proofs.Laws.{by-rules}
 use Rattle.rules.proofs.Bools.{both-true}
 use Rattle.layout.specs.declared.Verdict.the-variants.{Fine, Fault}
-use Rattle.layout.specs.declared.DocumentId.{DocumentId}
-use Rattle.layout.specs.declared.SoftwareChannel.{SoftwareChannel}
 use Rattle.layout.specs.declared.Kind.{Kind}
 use Rattle.layout.specs.declared.Kind.the-variants.{Unlisted}
-use Rattle.layout.specs.Answers.{both, judged, Breach, _byte_}
+use Rattle.layout.specs.Answers.{both, judged, _byte_}
 use Rattle.layout.specs.Types.{Shape, indexed, row, pairs, words, unlisted, kindRules, kindOf, shapeOf}
 use Rattle.layout.proofs.Verdicts.{both-left, both-right, passes, Near, AllNear, near-rules, near-append, near-both, near-fault}
 use Rattle.turning.specs.Rows.{Value, valuesOf}

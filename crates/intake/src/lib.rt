@@ -19,7 +19,7 @@ ghost use lib.ListN.{length, drop};
 ghost use mathlib.Core.Bool.{_&&_, _||_};
 ghost use Rattle.frame.specs.Frames.{tupAt};
 ghost use Rattle.frame.specs.Files.{limit};
-ghost use Rattle.links.specs.Links.{Steady};
+ghost use Rattle.links.specs.Links.{mostChannels, Steady};
 ghost use Rattle.intake.specs.inner.Tallies.{Here, Fits, headVerdict, innerVerdict, ownVerdict, sounderAt, channelAt, namedAt, linkTold, turnTold, tallyBegin, tallyPast, Standing, Held, Tables, tables, Sized, courseOf, TurnedTo, RunTo, AskIn, askWhere};
 ghost use Rattle.intake.specs.Check.{checkFile, ending, Checked};
 ghost use Rattle.intake.specs.Asking.{AskedFor, askAccepted};
@@ -33,6 +33,10 @@ const IDENTIFIER: usize = 6;
 
 const DOCUMENT: usize = 8;
 
+const SAMPLING_RATE: usize = 12;
+
+const SAMPLE_TYPE: usize = 16;
+
 const NAMED_CHANNEL: usize = 12;
 
 // The bytes behind a ping's samples.
@@ -41,14 +45,17 @@ pub const TAIL: usize = 8;
 // In an attitude this means all channels.
 const ALL_CHANNELS: u16 = 65535;
 
-// What asking gives: both identifiers, both tuples' places and the file's tuple count; or a refusal.
+// What asking gives: both identifiers and both tuples' places, the channel's sampling rate and type of data sample, and what the
+// file's acceptance counts; or a refusal.
 pub enum Asked {
     Parents {
         channel: SoftwareChannel,
         channel_place: usize,
+        sampling_rate: u32,
+        sample_type: u16,
         sounder: DocumentId,
         sounder_place: usize,
-        tuples: usize,
+        counts: Counts,
     },
     Refused {
         code: u8,
@@ -56,11 +63,12 @@ pub enum Asked {
     },
 }
 
-// Where the check stands: its place, the tuples counted, the sounders and the channels declared, the line where the next channel
-// is looked for first, the classes seen.
+// Where the check stands: its place, the tuples counted, the identifiers compared, the sounders and the channels declared, the line
+// where the next channel is looked for first, the classes seen.
 struct Tally {
     at: usize,
     count: usize,
+    compared: usize,
     sounders: usize,
     channels: usize,
     near: usize,
@@ -110,12 +118,14 @@ fn sounder_at(file: &[u8], at: usize, msb: bool) -> Sounder
 
 // What the channel tuple at a place declares.
 fn channel_at(file: &[u8], at: usize, msb: bool) -> Channel
-    requires { ⌜ at + 16 ≤ length (now file) ⌝ }
+    requires { ⌜ at + 18 ≤ length (now file) ⌝ }
     ensures { λ r. ⌜ r ≡ channelAt msb (now (file .entry)) at ⌝ }
 {
     Channel {
         id: SoftwareChannel(order::read2(file, at + OWN_CHANNEL, msb)),
         parent: DocumentId(order::read4(file, at + DOCUMENT, msb)),
+        rate: order::read4(file, at + SAMPLING_RATE, msb),
+        samples: order::read2(file, at + SAMPLE_TYPE, msb),
     }
 }
 
@@ -136,10 +146,12 @@ fn judge_links(
     code: u16,
     sounders: &[Row],
     channels: &[Row],
+    notes: &[u16],
 ) -> LinkVerdict
     requires { ⌜ Here msb (now file) (w .at) whole code ⌝ }
     requires { ⌜ Fits whole code ⌝ }
     requires { ⌜ Held w (tables (now sounders) (now channels)) ⌝ }
+    requires { ⌜ mostChannels ≤ length (now notes) ⌝ }
     ensures { λ r. ⌜ r ≡ linkTold msb (now (file .entry)) w (tables (now (sounders .entry)) (now (channels .entry))) ⌝ }
 {
     let at = w.at;
@@ -154,10 +166,10 @@ fn judge_links(
             if id.0 == ALL_CHANNELS {
                 return LinkVerdict::Linked { compared: 0 };
             }
-            links::judge_name(channels, w.channels, id, w.near)
+            links::judge_name(channels, w.channels, id, w.near, notes)
         }
         types::THRESHOLD | types::PING_U | types::PING_C => {
-            links::judge_name(channels, w.channels, named_at(file, at, msb), w.near)
+            links::judge_name(channels, w.channels, named_at(file, at, msb), w.near, notes)
         }
         _ => LinkVerdict::Linked { compared: 0 },
     }
@@ -181,9 +193,17 @@ fn judge_inner(file: &[u8], at: usize, msb: bool, whole: usize, code: u16) -> Ve
 }
 
 // What the rules say of the tuple where the tally stands: 4; 3, 5, 3, 6; 7; 9, 8; 12, 14, 13; 11; 23, or 24 and 25.
-fn judge(file: &[u8], msb: bool, w: Tally, sounders: &[Row], channels: &[Row]) -> LinkVerdict
+fn judge(
+    file: &[u8],
+    msb: bool,
+    w: Tally,
+    sounders: &[Row],
+    channels: &[Row],
+    notes: &[u16],
+) -> LinkVerdict
     requires { ⌜ w .at ≤ length (now file) ⌝ }
     requires { ⌜ Held w (tables (now sounders) (now channels)) ⌝ }
+    requires { ⌜ mostChannels ≤ length (now notes) ⌝ }
     ensures { λ r. ⌜ r ≡ turnTold msb (now (file .entry)) w (tables (now (sounders .entry)) (now (channels .entry))) ⌝ }
 {
     let at = w.at;
@@ -200,7 +220,7 @@ fn judge(file: &[u8], msb: bool, w: Tally, sounders: &[Row], channels: &[Row]) -
     let Verdict::Fine = headed else {
         return links::comparing(headed, 0);
     };
-    let linked = judge_links(file, msb, w, whole, code, sounders, channels);
+    let linked = judge_links(file, msb, w, whole, code, sounders, channels, notes);
     let LinkVerdict::Linked { compared } = linked else {
         return linked;
     };
@@ -248,6 +268,7 @@ impl Tally {
         Tally {
             at: frame::MARKED,
             count: 0,
+            compared: 0,
             sounders: 0,
             channels: 0,
             near: 0,
@@ -258,14 +279,15 @@ impl Tally {
         }
     }
 
-    // Past a tuple, which is counted with its class.
+    // Past a tuple, which is counted with its class and with the identifiers compared to link it.
     fn past(self, whole: usize, code: u16, compared: usize) -> Tally
-        requires { ⌜ (self .at + whole < 2 ^ 32) × (self .count < 2 ^ 32) ⌝ }
-        ensures { λ r. ⌜ r ≡ tallyPast self whole code (r .near) ⌝ }
+        requires { ⌜ (self .at + whole < 2 ^ 32) × (self .count < 2 ^ 32) × (self .compared + compared < 2 ^ 32) ⌝ }
+        ensures { λ r. ⌜ r ≡ tallyPast self whole code compared (r .near) ⌝ }
     {
         Tally {
             at: self.at + whole,
             count: self.count + 1,
+            compared: self.compared + compared,
             sounders: self.sounders,
             channels: self.channels,
             near: nearer(self.near, compared),
@@ -310,7 +332,11 @@ fn end(file: &[u8], w: Tally, sounders: &[Row], channels: &[Row]) -> Answer
         let place = links::wide(sounders[wrong][links::PLACE]);
         return layout::refuse(codes::WRONG_COUNT, place);
     }
-    layout::accept(w.count, 0)
+    Answer::Accepted(Counts {
+        tuples: w.count,
+        written: 0,
+        compared: w.compared,
+    })
 }
 
 // One turn: the tuple where the tally stands is judged, its declaration is kept, and the tally passes it.
@@ -320,6 +346,7 @@ fn turn(
     w: Tally,
     sounders: &mut [Row; SOUNDERS],
     channels: &mut [Row; CHANNELS],
+    notes: &mut [u16; CHANNELS],
 ) -> Turned
     requires { ⌜ Standing (now file) w ⌝ }
     requires { ⌜ Steady (courseOf w (tables (now sounders) (now channels)) .links) ⌝ }
@@ -331,7 +358,7 @@ fn turn(
         (tables (now (sounders .exit)) (now (channels .exit))) ⌝ }
 {
     let at = w.at;
-    match judge(file, msb, w, sounders, channels) {
+    match judge(file, msb, w, sounders, channels, notes) {
         LinkVerdict::Faulty { code, offset } => Turned::Done(layout::refuse(code, at + offset)),
         LinkVerdict::Linked { compared } => {
             let whole = frame::length_at(file, at, msb);
@@ -343,7 +370,9 @@ fn turn(
                 return Turned::On(next);
             }
             if code == types::CHANNEL {
-                links::put_channel(channels, w.channels, channel_at(file, at, msb), at);
+                let it = channel_at(file, at, msb);
+                links::put_channel(channels, w.channels, it, at);
+                links::note_line(notes, it.id, w.channels);
                 next.channels = w.channels + 1;
                 return Turned::On(next);
             }
@@ -362,6 +391,7 @@ fn run(
     until: usize,
     sounders: &mut [Row; SOUNDERS],
     channels: &mut [Row; CHANNELS],
+    notes: &mut [u16; CHANNELS],
 ) -> Turned
     requires { ⌜ 4 ≤ length (now file) ⌝ }
     requires { ⌜ length (now file) ≤ limit ⌝ }
@@ -371,7 +401,7 @@ fn run(
 {
     let mut w = Tally::begin();
     while w.at != until {
-        match turn(file, msb, w, sounders, channels) {
+        match turn(file, msb, w, sounders, channels, notes) {
             Turned::On(next) => {
                 w = next;
             }
@@ -383,7 +413,8 @@ fn run(
     Turned::On(w)
 }
 
-// The check of a file: 1, 2; tuple by tuple as `judge` orders them; 15, 16, 17. It accepts with the tuples counted.
+// The check of a file: 1, 2; tuple by tuple as `judge` orders them; 15, 16, 17. It accepts with the tuples and the
+// identifiers compared.
 pub fn check(file: &[u8]) -> Answer
     ensures { λ r. ⌜ Checked (now (file .entry)) r ⌝ }
 {
@@ -396,7 +427,15 @@ pub fn check(file: &[u8]) -> Answer
     let msb = frame::is_msb(file);
     let mut sounders = [links::BLANK; SOUNDERS];
     let mut channels = [links::BLANK; CHANNELS];
-    match run(file, msb, file.len(), &mut sounders, &mut channels) {
+    let mut notes = [0u16; CHANNELS];
+    match run(
+        file,
+        msb,
+        file.len(),
+        &mut sounders,
+        &mut channels,
+        &mut notes,
+    ) {
         Turned::On(_) => layout::refuse(codes::NO_END, file.len()),
         Turned::Done(answer) => answer,
     }
@@ -417,12 +456,12 @@ fn ask_here(
     file: &[u8],
     msb: bool,
     w: Tally,
-    tuples: usize,
+    counts: Counts,
     sounders: &[Row],
     channels: &[Row],
 ) -> Asked
     requires { ⌜ AskIn msb (now file) w (tables (now sounders) (now channels)) ⌝ }
-    ensures { λ r. ⌜ r ≡ askWhere msb (now (file .entry)) tuples (courseOf w (tables (now (sounders .entry)) (now (channels .entry)))) ⌝ }
+    ensures { λ r. ⌜ r ≡ askWhere msb (now (file .entry)) counts (courseOf w (tables (now (sounders .entry)) (now (channels .entry)))) ⌝ }
 {
     let at = w.at;
     if !is_ping(frame::kind_at(file, at, msb)) {
@@ -439,22 +478,25 @@ fn ask_here(
     Asked::Parents {
         channel,
         channel_place: links::wide(row[links::PLACE]),
+        sampling_rate: row[links::RATE],
+        sample_type: links::narrow(row[links::SAMPLES]),
         sounder,
         sounder_place: links::wide(sounders[line][links::PLACE]),
-        tuples,
+        counts,
     }
 }
 
 // Goes to a place of an accepted file, tuple by tuple, keeping the declarations before it.
 fn ask_accepted(file: &[u8], place: usize, counts: Counts) -> Asked
     requires { ⌜ checkFile (now file) ≡ Answer.Accepted counts ⌝ }
-    ensures { λ r. ⌜ r ≡ askAccepted (now (file .entry)) place (counts .tuples) ⌝ }
+    ensures { λ r. ⌜ r ≡ askAccepted (now (file .entry)) place counts ⌝ }
 {
     let msb = frame::is_msb(file);
     let mut sounders = [links::BLANK; SOUNDERS];
     let mut channels = [links::BLANK; CHANNELS];
-    match run(file, msb, place, &mut sounders, &mut channels) {
-        Turned::On(w) => ask_here(file, msb, w, counts.tuples, &sounders, &channels),
+    let mut notes = [0u16; CHANNELS];
+    match run(file, msb, place, &mut sounders, &mut channels, &mut notes) {
+        Turned::On(w) => ask_here(file, msb, w, counts, &sounders, &channels),
         Turned::Done(_) => Asked::Refused {
             code: codes::UNFIT,
             place,

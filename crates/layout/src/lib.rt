@@ -12,10 +12,12 @@ ghost use Rattle.layout.specs.Fields.{known};
 ghost use Rattle.layout.specs.Types.{inClass, kindOf, placeIn, lineOf, fitting};
 ghost use Rattle.layout.specs.inner.Codes.{leasts, steps, rowCodes};
 
-// What an acceptance counts: the tuples of what was handed in, and the bytes or samples written.
+// What an acceptance counts: the tuples of what was handed in, the bytes or samples written, the identifiers compared while linking
+// the tuples of a file.
 pub struct Counts {
     pub tuples: usize,
     pub written: usize,
+    pub compared: usize,
 }
 
 // What intake says: it accepts and counts, or it refuses with the code and the place of the first broken rule.
@@ -128,11 +130,15 @@ pub fn fault_at(code: u8, offset: usize) -> Verdict
     Verdict::Fault { code, offset }
 }
 
-// An acceptance.
+// An acceptance by a call that checks no file, and so compares nothing.
 pub fn accept(tuples: usize, written: usize) -> Answer
     ensures { λ r. ⌜ r ≡ accepting tuples written ⌝ }
 {
-    Answer::Accepted(Counts { tuples, written })
+    Answer::Accepted(Counts {
+        tuples,
+        written,
+        compared: 0,
+    })
 }
 
 // A refusal.

@@ -12,7 +12,10 @@ use lib.Seq.{take-suc-set, length-take-le, getD-take}
 use Rattle.rules.proofs.Bools.{or-true}
 use Rattle.layout.specs.declared.Verdict.{Verdict}
 use Rattle.layout.specs.declared.Verdict.the-variants.{Fine, Fault}
-use Rattle.links.specs.Links.{has, placeOf, comparedIn, idOf, Apart}
+use Rattle.links.specs.declared.Sounder.{Sounder}
+use Rattle.links.specs.declared.Channel.{Channel}
+use Rattle.links.specs.Links
+use Rattle.links.specs.Links.{Link, has, placeOf, comparedIn, comparesAmong, docOf, idOf, Apart}
 use Rattle.links.specs.declared.LinkVerdict.the-variants.{Faulty, Linked}
 use Rattle.links.specs.inner.Tables.{keyOf, channelOf, channelsIn, comparing}
 use Rattle.links.proofs.Parents.{In, first, later, One, has-in}
@@ -47,6 +50,22 @@ module _ {A : Type 0} (key : A → ℕ) (x : ℕ) where
       by : (b : Bool) → b || has key x l ≡ true → (has key x l ≡ true → comparedIn key x l ≡ placeOf key x l + 1) → cond b 1 (suc (comparedIn key x l)) ≡ cond b 0 (suc (placeOf key x l)) + 1
       by true q r = omega arith
       by false q r = let e = r q in omega arith
+
+  pub compared-most : (l : List A) → comparedIn key x l ≤ length l
+  unfolding comparedIn
+  compared-most [] = omega arith
+  compared-most (y ∷ l) = by (eqb x (key y)) (compared-most l)
+    where
+      by : (b : Bool) → comparedIn key x l ≤ length l → cond b 1 (suc (comparedIn key x l)) ≤ suc (length l)
+      by true h = omega arith
+      by false h = omega arith
+
+-- a link compares no more than all of its kind
+pub compares-most : (n : ℕ) (ss : List Sounder) (cs : List Channel) → length ss ≤ n → length cs ≤ n → (l : Link) → comparesAmong ss cs l ≤ n
+compares-most n ss cs a b Links.none = omega arith
+compares-most n ss cs a b (Links.sounder s) = omega arith
+compares-most n ss cs a b (Links.channel c) = omega (arith, compared-most docOf (c .parent .0) ss)
+compares-most n ss cs a b (Links.names c) = omega (arith, compared-most idOf (c .0) cs)
 
 -- ---- rows and what they stand for
 module _ {A B : Type 0} (f : A → B) where

@@ -9,7 +9,7 @@ use Rattle.rules.specs.Rules.{Rule, _⇒_, firstOf}
 use Rattle.layout.specs.declared.Counts.{Counts}
 use Rattle.layout.specs.declared.Answer.{Answer}
 use Rattle.layout.specs.declared.Answer.the-variants.{Accepted, Refused}
-use Rattle.layout.specs.Answers.{numbers, Tells, leftBy, counts}
+use Rattle.layout.specs.Answers.{numbers, Tells, leftBy, counting}
 use Rattle.layout.specs.Types.{Shape, indexed, row, pairs, words, unlisted, shapeOf}
 use Rattle.frame.specs.Frames.{Tup, lengthOf}
 use Rattle.frame.specs.Files.{limit, isMsb}
@@ -40,9 +40,12 @@ normalRules f room =
     ∷ (ltb room n ⇒ Refused 19 0)
     ∷ []
 
--- the tuples of the file handed in, and the bytes written
+-- the tuples of the file handed in, the bytes written, and the identifiers compared in the file handed in
+abbrev pub writing : Counts → ℕ → Counts
+writing n m = counting (n .tuples) m (n .compared)
+
 abbrev pub normalCounts : List ℕ → Counts → Counts
-normalCounts f n = counts (n .tuples) (length (normalOf f))
+normalCounts f n = writing n (length (normalOf f))
 
 -- the check's refusals first
 abbrev pub behindCheck : List ℕ → ℕ → Answer → Answer

@@ -5,7 +5,8 @@ use mathlib.Core.Bool.{true}
 use mathlib.Core.List.{List, [], _∷_, map}
 use Prim.Native.String.{String}
 use Rattle.layout.specs.Types.{classes, inClass, kindOf, lineOf}
-use Rattle.layout.specs.Answers.{accepting}
+use Rattle.layout.specs.declared.Answer.the-variants.{Accepted}
+use Rattle.layout.specs.Answers.{counting}
 use Rattle.frame.specs.Frames.{allowed, frame, sizeAt, kindAt, backAt, framing}
 use Rattle.frame.specs.Files.{mark, isMsb, marked}
 use Rattle.frame.specs.Steps.{stepForward}
@@ -13,7 +14,7 @@ use Rattle.frame.specs.Tuples.{tuplesFrom, tuplesOf}
 use Rattle.samples.specs.Words.{words, allWords, unwords, pairUp, unpair}
 use Rattle.samples.specs.Runs.{isRun, runLength, decodeFrom, isBad, values, firstBad}
 use Rattle.samples.specs.Judging.{firstDrop}
-use Rattle.links.specs.Links.{has, naming, firstWrong}
+use Rattle.links.specs.Links.{has, comparedIn, naming, firstWrong}
 use Rattle.content.specs.Pings.{wordsIn, attributeIn, countIn, contentU, contentC, dataU, dataC}
 use Rattle.content.specs.Items.{itemOf, digestOf}
 use Rattle.content.specs.Forms.{formOf}
@@ -37,9 +38,9 @@ worked = refl
 abbrev variants : List (List String)
 variants = lsb ∷ lsbOtherCut ∷ msb ∷ msbOtherCut ∷ []
 
--- each variant is accepted, with its mark and six tuples
-pub accepted : map (λ (v : List String). checkFile (fileOf v)) variants ≡ accepting 6 0 ∷ accepting 6 0 ∷ accepting 6 0 ∷ accepting 6 0 ∷ []
-unfolding lsb lsbOtherCut msb msbOtherCut normalFile normalTuple linesOf allDigits bytesIn inputFrom hex decimals normalAnswer singleForm singleAnswer firstUnlisted items contentOf normalTuples formed normalOf ending turn checkFrom checkFile formOf itemOf digestOf wordsIn attributeIn countIn contentU contentC dataU dataC has naming firstWrong words allWords unwords pairUp unpair isRun runLength decodeFrom isBad values firstBad firstDrop allowed frame sizeAt kindAt backAt framing mark isMsb marked stepForward tuplesFrom tuplesOf classes inClass kindOf lineOf
+-- each variant is accepted: six tuples, of which the channel compares one identifier and the ping another
+pub accepted : map (λ (v : List String). checkFile (fileOf v)) variants ≡ map (λ (v : List String). Accepted (counting 6 0 2)) variants
+unfolding lsb lsbOtherCut msb msbOtherCut normalFile normalTuple linesOf allDigits bytesIn inputFrom hex decimals normalAnswer singleForm singleAnswer firstUnlisted items contentOf normalTuples formed normalOf ending turn checkFrom checkFile formOf itemOf digestOf wordsIn attributeIn countIn contentU contentC dataU dataC has comparedIn naming firstWrong words allWords unwords pairUp unpair isRun runLength decodeFrom isBad values firstBad firstDrop allowed frame sizeAt kindAt backAt framing mark isMsb marked stepForward tuplesFrom tuplesOf classes inClass kindOf lineOf
 accepted = refl
 
 -- and printed as the one normal form, which is printed as itself

@@ -2,6 +2,7 @@
 
 use super::draft::{render, Body, Draft, Patch, Pen, Piece, Rendered, Style};
 use super::sound::*;
+use super::vessels::{MOST_CHANNELS, MOST_SOUNDERS};
 use super::{Case, Rng};
 use crate::layout::{class, Class, LAYOUTS};
 use crate::order::Order;
@@ -61,7 +62,14 @@ impl Kind {
     }
 }
 
-pub const FAULT_KINDS: [Kind; 30] = [
+/// The kind whose files all have 1,025 channels and so 110 KB.
+pub const LONG_KIND: Kind = Kind::ManyChannels;
+
+/// One kind in so many is the long one.
+const LONG_SELDOM: u64 = 400;
+
+/// All kinds but the long one.
+pub const FAULT_KINDS: [Kind; 29] = [
     Kind::Mark,
     Kind::Truncated,
     Kind::NoEnd,
@@ -88,14 +96,14 @@ pub const FAULT_KINDS: [Kind; 30] = [
     Kind::OrphanOther,
     Kind::OrphanChannel,
     Kind::ManySounders,
-    Kind::ManyChannels,
     Kind::Behind,
     Kind::NoClass,
     Kind::WrongCount,
 ];
 
-/// Kinds that one tuple carries, wherever it stands behind the signature.
-const LOCAL: [Kind; 21] = [
+/// Of these, the kinds that one tuple carries, wherever it stands behind the
+/// signature. The long one is such a kind, too.
+const LOCAL: [Kind; 20] = [
     Kind::PassesEnd,
     Kind::Size,
     Kind::Backlink,
@@ -116,8 +124,27 @@ const LOCAL: [Kind; 21] = [
     Kind::OrphanOther,
     Kind::OrphanChannel,
     Kind::ManySounders,
-    Kind::ManyChannels,
 ];
+
+/// The kinds in turn, the long one seldom.
+pub(super) fn kind_in_turn(rng: &mut Rng, nth: u64) -> Kind {
+    if rng.below(LONG_SELDOM) == 0 {
+        return LONG_KIND;
+    }
+    FAULT_KINDS[(nth % FAULT_KINDS.len() as u64) as usize]
+}
+
+/// Any kind that one tuple carries, the long one seldom.
+fn any_local(rng: &mut Rng) -> Kind {
+    if rng.below(LONG_SELDOM) == 0 {
+        return LONG_KIND;
+    }
+    rng.pick(&LOCAL)
+}
+
+fn is_local(kind: Kind) -> bool {
+    kind == LONG_KIND || LOCAL.contains(&kind)
+}
 
 fn number(piece: &Piece) -> u32 {
     match piece {
@@ -393,6 +420,45 @@ fn too_many(rng: &mut Rng, channel: u16) -> Draft {
     words_draft(rng, channel, count, words)
 }
 
+/// Sounders behind those declared, one more than there may be.
+fn many_sounders(documents: &[u32], rng: &mut Rng) -> Vec<Draft> {
+    let mut used = documents.to_vec();
+    let mut more = Vec::new();
+    while used.len() <= MOST_SOUNDERS as usize {
+        let id = unused_document(rng, &used);
+        used.push(id);
+        let count = rng.two();
+        more.push(sounder(rng, count, id));
+    }
+    more
+}
+
+/// Channels behind those declared, one more than there may be; half the time
+/// that one names no sounder.
+fn many_channels(documents: &[u32], channels: &[u16], rng: &mut Rng) -> Vec<Draft> {
+    let mut used = channels.to_vec();
+    let mut more = Vec::new();
+    while used.len() <= usize::from(MOST_CHANNELS) {
+        let last = used.len() == usize::from(MOST_CHANNELS);
+        let id = unused_channel(rng, &used);
+        used.push(id);
+        let parent = if last && rng.chance(50) {
+            unused_document(rng, documents)
+        } else {
+            rng.pick(documents)
+        };
+        more.push(channel(rng, id, parent));
+    }
+    more
+}
+
+/// Sets some drafts in, and tells where the last of them stands.
+fn set_in(drafts: &mut Vec<Draft>, at: usize, more: Vec<Draft>) -> usize {
+    let last = at + more.len() - 1;
+    drafts.splice(at..at, more);
+    last
+}
+
 /// Gives the tuple at `at`, or new ones set in before it, a fault of a local
 /// kind. Tells where the offender now stands and what the check says of it; none
 /// where the tuples before don't allow the kind.
@@ -471,7 +537,7 @@ fn spoil(drafts: &mut Vec<Draft>, at: usize, kind: Kind, rng: &mut Rng) -> Optio
             };
             insert((orphan, at_tuple(13)))
         }
-        Kind::OrphanChannel if channels.len() >= 64 => None,
+        Kind::OrphanChannel if channels.len() >= usize::from(MOST_CHANNELS) => None,
         Kind::OrphanChannel => {
             let id = unused_channel(rng, &channels);
             let mut parent = u32::from(id);
@@ -481,32 +547,13 @@ fn spoil(drafts: &mut Vec<Draft>, at: usize, kind: Kind, rng: &mut Rng) -> Optio
             insert((channel(rng, id, parent), at_tuple(13)))
         }
         Kind::ManySounders => {
-            let mut used = documents.clone();
-            let more = 17 - documents.len();
-            for nth in 0..more {
-                let id = unused_document(rng, &used);
-                used.push(id);
-                let count = rng.two();
-                drafts.insert(at + nth, sounder(rng, count, id));
-            }
-            Some((at + more - 1, at_tuple(14)))
+            let more = many_sounders(&documents, rng);
+            Some((set_in(drafts, at, more), at_tuple(14)))
         }
         Kind::ManyChannels if documents.is_empty() => None,
         Kind::ManyChannels => {
-            let mut used = channels.clone();
-            let more = 65 - channels.len();
-            for nth in 0..more {
-                let id = unused_channel(rng, &used);
-                used.push(id);
-                let last = nth + 1 == more;
-                let parent = if last && rng.chance(50) {
-                    unused_document(rng, &documents)
-                } else {
-                    rng.pick(&documents)
-                };
-                drafts.insert(at + nth, channel(rng, id, parent));
-            }
-            Some((at + more - 1, at_tuple(14)))
+            let more = many_channels(&documents, &channels, rng);
+            Some((set_in(drafts, at, more), at_tuple(14)))
         }
         _ => None,
     }
@@ -596,7 +643,7 @@ pub fn fault(rng: &mut Rng, kind: Kind) -> Case {
     let mut drafts = sound_drafts(rng, &Wish::any());
     let style = Style::any(rng);
     let name = format!("damaged-{}-{}", kind.name(), style.name());
-    if LOCAL.contains(&kind) {
+    if is_local(kind) {
         let mut at = somewhere(&drafts, rng);
         if [Kind::PassesEnd, Kind::Size, Kind::Backlink].contains(&kind) && rng.chance(10) {
             at = 0;
@@ -679,7 +726,7 @@ pub fn two_faults(rng: &mut Rng) -> Case {
     let style = Style::any(rng);
     let (a, b) = (somewhere(&drafts, rng), somewhere(&drafts, rng));
     let (early, late) = (a.min(b), a.max(b));
-    let (first, second) = (rng.pick(&LOCAL), rng.pick(&LOCAL));
+    let (first, second) = (any_local(rng), any_local(rng));
     // The later one first, so that the places before it stay.
     spoil(&mut drafts, late, second, rng);
     let Some(offender) = spoil(&mut drafts, early, first, rng) else {

@@ -2,6 +2,7 @@
 
 use super::draft::{render, Body, Draft, Patch, Piece, PingStyle, Style};
 use super::sound::*;
+use super::vessels::{self, MOST_CHANNELS, MOST_SOUNDERS};
 use super::{Case, Rng};
 use crate::order::Order;
 
@@ -28,7 +29,7 @@ fn with(rng: &mut Rng, more: Vec<Draft>) -> Vec<Draft> {
 }
 
 /// The check's code has the place of a draft's tuple.
-fn case(name: String, drafts: &[Draft], style: &Style, at: usize, code: u32) -> Case {
+pub(super) fn case(name: String, drafts: &[Draft], style: &Style, at: usize, code: u32) -> Case {
     case_within(name, drafts, style, (at, 0), code)
 }
 
@@ -81,7 +82,7 @@ fn sounders_case(count: u32, style: &Style) -> Case {
     let mut rng = Rng::new(count.into());
     let more = (2..=count).map(|id| sounder(&mut rng, 0, id)).collect();
     let drafts = with(&mut rng, more);
-    let code = if count > 16 { 14 } else { 0 };
+    let code = if count > MOST_SOUNDERS { 14 } else { 0 };
     let last = MORE + count as usize - 2;
     case(format!("sounders-{count}"), &drafts, style, last, code)
 }
@@ -91,7 +92,7 @@ fn channels_case(count: u16, style: &Style) -> Case {
     let more = (2..=count).map(|id| channel(&mut rng, id, 1)).collect();
     let mut drafts = with(&mut rng, more);
     drafts[1].pieces()[0] = Piece::Two(count);
-    let code = if count > 64 { 14 } else { 0 };
+    let code = if count > MOST_CHANNELS { 14 } else { 0 };
     let last = MORE + usize::from(count) - 2;
     case(format!("channels-{count}"), &drafts, style, last, code)
 }
@@ -254,11 +255,14 @@ fn makers() -> Vec<Maker> {
     for nth in 0..LENGTHS.len() {
         makers.push(Box::new(move |style| length_case(nth, style)));
     }
-    for count in [15, 16, 17] {
+    for count in MOST_SOUNDERS - 1..=MOST_SOUNDERS + 1 {
         makers.push(Box::new(move |style| sounders_case(count, style)));
     }
-    for count in [63, 64, 65] {
+    for count in MOST_CHANNELS - 1..=MOST_CHANNELS + 1 {
         makers.push(Box::new(move |style| channels_case(count, style)));
+    }
+    for maker in vessels::MAKERS {
+        makers.push(Box::new(maker));
     }
     for nth in 0..IDENTIFIERS.len() {
         makers.push(Box::new(move |style| identifier_case(nth, style)));
@@ -288,20 +292,21 @@ fn makers() -> Vec<Maker> {
 
 /// How many limit cases there are that are soon made.
 pub fn limit_count() -> usize {
-    makers().len() * 2
+    makers().len()
 }
 
-/// A limit case of at most about half a megabyte; each in both orders, every
-/// other one with 44201 in its signature.
-pub fn limit(nth: usize) -> Case {
+/// A limit case of at most about half a megabyte, in both orders; every other
+/// one with 44201 in its signature.
+pub fn limit(nth: usize) -> [Case; 2] {
     let makers = makers();
-    let order = Order::BOTH[nth % 2];
-    let style = Style {
-        printed: nth / 2 % 2 == 1,
-        rubbish: true,
-        ..Style::plain(order)
-    };
-    makers[nth / 2 % makers.len()](&style)
+    Order::BOTH.map(|order| {
+        let style = Style {
+            printed: nth % 2 == 1,
+            rubbish: true,
+            ..Style::plain(order)
+        };
+        makers[nth % makers.len()](&style)
+    })
 }
 
 /// How many limit cases of about 16 MiB there are.

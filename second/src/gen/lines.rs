@@ -3,6 +3,7 @@
 use super::draft::{render, Body, Draft, Piece, PingStyle, Rendered, Style};
 use super::faults::{broken_ping, fault, random_damage, third_identifier, FAULT_KINDS};
 use super::sound::*;
+use super::vessels::short_vessel;
 use super::Rng;
 use crate::layout::LAYOUTS;
 use crate::order::Order;
@@ -170,6 +171,16 @@ fn expanding_file(rng: &mut Rng) -> Vec<u8> {
     render(&drafts, &style, rng).bytes
 }
 
+/// A file of many sounders and channels, at times with one sounder too many.
+fn vessel_file(rng: &mut Rng) -> Vec<u8> {
+    let drafts = short_vessel(rng);
+    let style = Style {
+        index: false,
+        ..Style::any(rng)
+    };
+    render(&drafts, &style, rng).bytes
+}
+
 /// Breaks lines anew at any even place.
 fn rebroken(rng: &mut Rng, file: &[u8]) -> Vec<String> {
     let digits = hex(file);
@@ -315,6 +326,7 @@ pub fn line_case(seed: u64, index: u64) -> LineCase {
             join(&frames(&expanding_file(rng))),
             None,
         ),
+        11 if rng.chance(30) => ("one-vessel", 1, join(&frames(&vessel_file(rng))), None),
         11 => {
             let values = rng.pick(&[8186, 8187, 8188, 9000]);
             let file = dense_file(rng, values);

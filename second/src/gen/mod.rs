@@ -10,13 +10,16 @@ mod limits;
 mod lines;
 mod pairs;
 mod sound;
+mod vessels;
 
 pub use draft::{render, Body, Draft, Patch, Piece, PingStyle, Rendered, Style};
-pub use faults::{fault, noise, random_damage, two_faults, Kind, Spot, FAULT_KINDS};
+pub use faults::{fault, noise, random_damage, two_faults, Kind, Spot, FAULT_KINDS, LONG_KIND};
 pub use limits::{big_limit, big_limit_count, limit, limit_count};
 pub use lines::{frames, hex, line_case, LineCase};
 pub use pairs::{equal_pair, unequal_pair};
 pub use sound::{sample_list, sound_drafts, Wish};
+
+use faults::kind_in_turn;
 
 /// Splitmix64: small, seeded, the same everywhere.
 #[derive(Clone, Debug)]
@@ -121,8 +124,7 @@ pub fn file_case(seed: u64, index: u64) -> Vec<Case> {
     match index % 16 {
         0..=3 => vec![sound_case(&mut rng)],
         4..=7 => {
-            let kind = turn * 4 + (index % 16 - 4);
-            let kind = FAULT_KINDS[(kind % FAULT_KINDS.len() as u64) as usize];
+            let kind = kind_in_turn(&mut rng, turn * 4 + (index % 16 - 4));
             vec![fault(&mut rng, kind)]
         }
         8 | 9 => vec![two_faults(&mut rng)],
@@ -146,13 +148,14 @@ pub fn sound_case(rng: &mut Rng) -> Case {
     )
 }
 
-/// The limit cases in turn, the slow ones once and last.
+/// The limit cases in turn, each in both byte orders; behind them the slow ones,
+/// once; then all but these again.
 fn limit_case(turn: u64) -> Vec<Case> {
     let (small, big) = (limit_count() as u64, big_limit_count() as u64);
     if turn >= small && turn < small + big {
         return vec![big_limit((turn - small) as usize)];
     }
-    vec![limit((turn % small) as usize)]
+    limit((turn % small) as usize).into()
 }
 
 fn pair_case(name: &str, pair: (Vec<u8>, Vec<u8>)) -> Vec<Case> {

@@ -1,6 +1,7 @@
 //! Drafts of sound files.
 
 use super::draft::{Body, Draft, Piece};
+use super::vessels::{MOST_CHANNELS, MOST_SOUNDERS};
 use super::Rng;
 use crate::layout::{class, is_listed, Class};
 use Piece::{Chars, Four, Identifier, Space, Two};
@@ -274,7 +275,7 @@ struct Plan {
 
 impl Plan {
     fn add_sounder(&mut self, rng: &mut Rng) {
-        if self.sounders.len() == 16 {
+        if self.sounders.len() == MOST_SOUNDERS as usize {
             return;
         }
         let taken: Vec<u32> = self.sounders.iter().map(|(id, _)| *id).collect();
@@ -284,7 +285,7 @@ impl Plan {
     }
 
     fn add_channel(&mut self, rng: &mut Rng) {
-        if self.sounders.is_empty() || self.channels.len() == 64 {
+        if self.sounders.is_empty() || self.channels.len() == usize::from(MOST_CHANNELS) {
             return;
         }
         let taken: Vec<u16> = self.channels.iter().map(|(id, _)| *id).collect();
@@ -376,6 +377,17 @@ impl Plan {
     }
 }
 
+/// About how many tuples a plan gets: mostly as many as wished for, at times
+/// more, and seldom so many that all sounders and hundreds of channels are
+/// declared.
+fn steps(rng: &mut Rng, wish: &Wish) -> u64 {
+    match rng.below(1000) {
+        0 | 1 => 300 + rng.below(1200),
+        2..=41 => 120,
+        _ => 2 + rng.below(wish.size),
+    }
+}
+
 /// The drafts of a sound file, signature first, end of file last.
 pub fn sound_drafts(rng: &mut Rng, wish: &Wish) -> Vec<Draft> {
     let mut plan = Plan {
@@ -383,13 +395,7 @@ pub fn sound_drafts(rng: &mut Rng, wish: &Wish) -> Vec<Draft> {
         sounders: Vec::new(),
         channels: Vec::new(),
     };
-    let crowded = rng.chance(4);
-    let steps = if crowded {
-        120
-    } else {
-        2 + rng.below(wish.size)
-    };
-    for _ in 0..steps {
+    for _ in 0..steps(rng, wish) {
         match rng.below(100) {
             0..=11 => plan.add_sounder(rng),
             12..=34 => plan.add_channel(rng),

@@ -2,6 +2,7 @@
 #![allow(dead_code)]
 
 use second::walk::{forward, Step, Tuple};
+use second::Order;
 use std::collections::BTreeMap;
 
 /// The seed of the generated cases; SECOND_SEED sets another.
@@ -55,6 +56,43 @@ pub fn tuples_found(file: &[u8]) -> Vec<Tuple> {
 /// Memory with a pattern that no writer would leave by chance.
 pub fn lent(length: usize) -> Vec<u8> {
     (0..length).map(|at| (at * 151 + 89) as u8).collect()
+}
+
+/// Bytes under way, in one order.
+pub struct Bytes {
+    pub order: Order,
+    pub bytes: Vec<u8>,
+}
+
+impl Bytes {
+    pub fn new(order: Order) -> Bytes {
+        let bytes = Vec::new();
+        Bytes { order, bytes }
+    }
+
+    pub fn two(&mut self, number: u16) {
+        self.bytes.extend(match self.order {
+            Order::Lsb => number.to_le_bytes(),
+            Order::Msb => number.to_be_bytes(),
+        });
+    }
+
+    pub fn four(&mut self, number: u32) {
+        self.bytes.extend(match self.order {
+            Order::Lsb => number.to_le_bytes(),
+            Order::Msb => number.to_be_bytes(),
+        });
+    }
+
+    /// A tuple of a length: the numbers that `fill` writes, then zeros.
+    pub fn tuple(&mut self, code: u16, length: usize, fill: impl Fn(&mut Bytes)) {
+        let start = self.bytes.len();
+        self.four(length as u32 - 10);
+        self.two(code);
+        fill(self);
+        self.bytes.resize(start + length - 4, 0);
+        self.four(length as u32);
+    }
 }
 
 /// A file with its byte order, for the rules said once more.

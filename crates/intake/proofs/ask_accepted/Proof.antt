@@ -7,19 +7,34 @@ use Rattle.intake.proofs.Seeks.{taken, seeking-in, seeking-here, seekin
 use Rattle.intake.proofs.ask_accepted.Statement.{statement}
 use Rattle.intake.proofs.ask_accepted.Tie as tie
 
+-- the byte order is known, before the tables are made
+abbrev ordered : tie.After-notes → tie.After-is-msb
+ordered c = c .before .before .before
+
 run-requires : tie.Need-run-requires
 run-requires c κs =
-    let t = taken _ _ (c .before .before .before .before .pre) in
+    let t = taken _ _ (ordered c .before .before .pre) in
     (marked-4 _ (t .mark), (t .small, sized-zeros))
 
 ask-here-requires : tie.Need-ask-here-requires
-ask-here-requires c κs = seeking-in _ _ _ _ (c .before .before .before .before .before .before .before .before .before .before .pre) (c .before .before .before .before .before .before .before .before .is-msb .ensures) _ _ (ran-to _ _ _ _ _ _ (c .before .before .before .before .before .run .ensures) (c .before .before .before .w .given .1))
+ask-here-requires c κs =
+    let w = c .before .before .before in
+    let r = w .before .before in
+    let o = ordered (r .before) in
+    seeking-in _ _ _ _ (o .before .before .pre) (o .is-msb .ensures) _ _ (ran-to _ _ _ _ _ _ (r .run .ensures) (w .w .given .1))
 
 returns : tie.Need-returns
-returns c = c .ask-here .ensures ∙ seeking-here _ _ _ _ (c .before .before .before .before .before .before .before .before .before .before .before .pre) (c .before .before .before .before .before .before .before .before .before .is-msb .ensures) _ _ (ran-to _ _ _ _ _ _ (c .before .before .before .before .before .before .run .ensures) (c .before .before .before .before .w .given .1))
+returns c =
+    let w = c .before .before .before .before in
+    let r = w .before .before in
+    let o = ordered (r .before) in
+    c .ask-here .ensures ∙ seeking-here _ _ _ _ (o .before .before .pre) (o .is-msb .ensures) _ _ (ran-to _ _ _ _ _ _ (r .run .ensures) (w .w .given .1))
 
 returns-2 : tie.Need-returns-2
-returns-2 c = seeking-missed _ _ _ _ (c .before .before .before .before .before .before .before .pre) (c .before .before .before .before .before .is-msb .ensures) _ (ran-to _ _ _ _ _ _ (c .before .before .run .ensures) (c .enum-told .given .1))
+returns-2 c =
+    let r = c .before .before in
+    let o = ordered (r .before) in
+    seeking-missed _ _ _ _ (o .before .before .pre) (o .is-msb .ensures) _ (ran-to _ _ _ _ _ _ (r .run .ensures) (c .enum-told .given .1))
 
 pub ask-accepted-spec : {M : Type 1} → statement M
 ask-accepted-spec =
@@ -28,8 +43,8 @@ ask-accepted-spec =
     (λ c κs. marked-4 _ (taken _ _ (c .before .pre) .mark))
     run-requires
     (λ c. search needs)
-    (λ c. sym (ran-to _ _ _ _ _ _ (c .before .before .before .before .run .ensures) (c .before .before .w .given .1) .sized .sounders))
-    (λ c. sym (ran-to _ _ _ _ _ _ (c .before .before .before .before .before .run .ensures) (c .before .before .before .w .given .1) .sized .channels))
+    (λ c. let w = c .before .before in sym (ran-to _ _ _ _ _ _ (w .before .before .run .ensures) (w .w .given .1) .sized .sounders))
+    (λ c. let w = c .before .before .before in sym (ran-to _ _ _ _ _ _ (w .before .before .run .ensures) (w .w .given .1) .sized .channels))
     ask-here-requires
     (λ c. search needs)
     returns

@@ -2,7 +2,6 @@
 use mathlib.Core.Path.{_≡_, sym, ap, _∙_}
 use mathlib.Core.Bool.{true, _||_}
 use Prim.Native.Nat.{ℕ, _<_}
-use native.Mathlib.Omega.{arith}
 use borrow.Author.Needs.{needs}
 use borrow.Author.Tests.{not-true, not-false}
 use lib.Dec.{eqb}
@@ -27,20 +26,21 @@ pings c = sym (tested (c .before)) ∙ not-false _ (c .if1 .left)
 
 -- the lookups' lines are declared
 below-channel : (c : tie.After-find-channel) → c .find-channel .result < length (c .before .before .before .before .before .before .args .channels .now)
-below-channel c = let s = c .before .before .before .before .before .before in channel-below _ _ _ 0 (held s) (s .pre) (pings (c .before .before)) _ _ (c .before .named-at .ensures) (c .find-channel .ensures)
+below-channel c = let s = c .before .before .before .before .before .before in channel-below _ _ _ (s .args .counts) (held s) (s .pre) (pings (c .before .before)) _ _ (c .before .named-at .ensures) (c .find-channel .ensures)
 
 below-sounder : (c : tie.After-find-sounder) → c .find-sounder .result < length (c .before .before .before .before .before .before .before .before .args .sounders .now)
 below-sounder c =
     let f = c .before .before in
     let s = f .before .before .before .before .before .before in
-    sounder-below _ _ _ 0 (held s) (s .pre) (pings (f .before .before)) _ _ (f .before .named-at .ensures) (f .find-channel .ensures) _ (c .find-sounder .ensures)
+    sounder-below _ _ _ (s .args .counts) (held s) (s .pre) (pings (f .before .before)) _ _ (f .before .named-at .ensures) (f .find-channel .ensures) _ (c .find-sounder .ensures)
 
 returns-2 : tie.Need-returns-2
 returns-2 c =
-    let g = c .before .before .before in
+    let k = c .before .before in
+    let g = k .before .before in
     let f = g .before .before in
     let s = f .before .before .before .before .before .before in
-    ask-ping _ _ (s .args .w) _ (held s) (s .pre) (pings (f .before .before)) _ _ (f .before .named-at .ensures) (f .find-channel .ensures) _ (g .find-sounder .ensures) _ _ (c .before .before .wide .ensures) (c .wide2 .ensures)
+    ask-ping _ _ (s .args .w) _ (held s) (s .pre) (pings (f .before .before)) _ _ (f .before .named-at .ensures) (f .find-channel .ensures) _ (g .find-sounder .ensures) _ _ _ (k .before .wide .ensures) (k .narrow .ensures) (c .wide2 .ensures)
 
 pub ask-here-spec : {M : Type 1} → statement M
 ask-here-spec =
@@ -57,8 +57,11 @@ ask-here-spec =
     (λ c κs. search needs)
     (λ c. search needs)
     (λ c κs. search needs)
-    (λ c. let l = below-sounder (c .before) in search needs)
-    (λ c. below-sounder (c .before))
+    (λ c. search needs)
+    (λ c. search needs)
+    (λ c κs. search needs)
+    (λ c. let l = below-sounder (c .before .before) in search needs)
+    (λ c. below-sounder (c .before .before))
     (λ c. search needs)
     (λ c κs. search needs)
     returns-2)

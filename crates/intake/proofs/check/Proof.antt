@@ -26,19 +26,26 @@ returns-2 c = tells (c .refuse2 .ensures ∙ no-mark _ (c .before .before .befor
 is-msb-requires : tie.Need-is-msb-requires
 is-msb-requires c κs = marked-4 (c .before .before .before .before .args .file .now) (marks c)
 
+-- the byte order is known, before the tables are made
+abbrev ordered : tie.After-notes → tie.After-is-msb
+ordered c = c .before .before .before
+
 run-requires : tie.Need-run-requires
-run-requires c κs =
-    (marked-4 _ (marks (c .before .before .before)), (c .before .before .before .before .before .if1 .left, sized-zeros))
+run-requires c κs = let e = ordered c .before in (marked-4 _ (marks e), (e .before .before .if1 .left, sized-zeros))
 
 -- tuple by tuple, it is the whole check
 whole : (c : tie.After-is-msb) → let f = c .before .before .before .before .before .args .file .now in checkFrom (length f) (c .is-msb .result) f begin ≡ checkFile f
 whole c = whole-check _ _ (c .before .before .before .if1 .left) (marks (c .before)) (c .is-msb .ensures)
 
 returns-3 : tie.Need-returns-3
-returns-3 c = tells (c .refuse3 .ensures ∙ no-end _ _ _ _ (ran-to _ _ _ _ _ _ (c .before .before .before .run .ensures) (c .before .enum-told .given .1)) ∙ whole (c .before .before .before .before .before .before))
+returns-3 c =
+    let r = c .before .before .before in
+    tells (c .refuse3 .ensures ∙ no-end _ _ _ _ (ran-to _ _ _ _ _ _ (r .run .ensures) (c .before .enum-told .given .1)) ∙ whole (ordered (r .before)))
 
 returns-4 : tie.Need-returns-4
-returns-4 c = tells (ran-to _ _ _ _ _ _ (c .before .before .before .run .ensures) (c .before .answer .given .1) .answer ∙ whole (c .before .before .before .before .before .before))
+returns-4 c =
+    let r = c .before .before .before in
+    tells (ran-to _ _ _ _ _ _ (r .run .ensures) (c .before .answer .given .1) .answer ∙ whole (ordered (r .before)))
 
 pub check-spec : {M : Type 1} → statement M
 check-spec =

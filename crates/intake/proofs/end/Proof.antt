@@ -56,8 +56,7 @@ returns-3 c =
 
 returns-4 : tie.Need-returns-4
 returns-4 c =
-    let d = c .before in
-    c .accept .ensures ∙ ends _ _ (past2 (d .before .before .before) _ (pass (ap not (tested (d .before .before) ∙ le-leb _ _ (d .if3 .left))) none))
+    ends _ _ (past2 (c .before .before .before) _ (pass (ap not (tested (c .before .before) ∙ le-leb _ _ (c .if3 .left))) none))
 
 pub end-spec : {M : Type 1} → statement M
 end-spec =
@@ -75,5 +74,4 @@ end-spec =
     (λ c κs. search needs)
     (λ c κs. search needs)
     returns-3
-    (λ c κs. search needs)
     returns-4)

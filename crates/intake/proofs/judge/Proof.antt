@@ -30,34 +30,34 @@ said s by =
 returns : tie.Need-returns
 returns c =
     let t = c .before .before in
-    let s = t .before .before in
+    let s = t .before .before .before in
     c .comparing .ensures ∙ told-stop _ _ _ (held s) _ (said s fromFrame) (c .before .fault .ensures) (ap (λ (v : Verdict). both v (said s fromFrame)) (c .before .fault .ensures) ∙ none-left _ _ _ _ _ _ (t .if1 .taken))
 
 -- bytes are left: the frame decides first
-past-end : (c : tie.Else1) → let s = c .before .before in said s fromFrame ≡ said s turnVerdict
-past-end c = some-left _ _ _ _ _ _ (c .before .before .pre .0) (c .if1 .left)
+past-end : (c : tie.Else1) → let s = c .before .before .before in said s fromFrame ≡ said s turnVerdict
+past-end c = some-left _ _ _ _ _ _ (c .before .before .before .pre .0) (c .if1 .left)
 
 returns-2 : tie.Need-returns-2
 returns-2 c =
     let j = c .before .before .before in
-    let s = j .before .before .before in
+    let s = j .before .before .before .before in
     c .comparing2 .ensures ∙ told-stop _ _ _ (held s) _ (said s fromHead) (c .before .enum-told2 .given .1) (ap (λ (v : Verdict). both v (said s fromHead)) (j .judge-frame .ensures) ∙ past-end (j .before))
 
 -- a tuple is found, and what is said from its head on is said of all
-found : (c : tie.After-enum-told) → let a = c .before .before .before .before .before .args in
+found : (c : tie.After-enum-told) → let a = c .before .before .before .before .before .before .args in
     let r = drop (a .w .at) (a .file .now) in Here (a .msb) (a .file .now) (a .w .at) (lenAt (a .msb) r) (kindAt (a .msb) r)
 found c = record { framed = sym (c .before .before .judge-frame .ensures) ∙ c .enum-told .given .1; size = refl; kind = refl }
 
-past-frame : (c : tie.After-enum-told) → let s = c .before .before .before .before .before in said s fromHead ≡ said s turnVerdict
+past-frame : (c : tie.After-enum-told) → let s = c .before .before .before .before .before .before in said s fromHead ≡ said s turnVerdict
 past-frame c = let j = c .before .before in rw (← past-end (j .before), ← j .judge-frame .ensures, c .enum-told .given .1)
 
 -- its length and its type code are read
-here : (c : tie.After-kind-at) → let a = c .before .before .before .before .before .before .before .args in
+here : (c : tie.After-kind-at) → let a = c .before .before .before .before .before .before .before .before .args in
     Here (a .msb) (a .file .now) (a .w .at) (c .before .length-at .result) (c .kind-at .result)
 here c = record { framed = found (c .before .before) .framed; size = sym (c .before .length-at .ensures); kind = sym (c .kind-at .ensures) }
 
 abbrev start : tie.After-judge-head → tie.Start
-start d = d .before .before .before .before .before .before .before .before .before
+start d = d .before .before .before .before .before .before .before .before .before .before
 
 returns-3 : tie.Need-returns-3
 returns-3 c =

@@ -1,15 +1,19 @@
 -- `intake::turn` meets its contract: what was said of the tuple, and its type, say which law of a turn holds. Assumes nothing.
-use mathlib.Core.Path.{_≡_, sym, _∙_}
+use mathlib.Core.Path.{_≡_, sym, subst}
+use Prim.Native.Nat.{_<_}
 use native.Mathlib.Omega.{arith}
 use borrow.Author.Needs.{needs}
 use lib.ListN.{drop}
 use Rattle.layout.specs.declared.Verdict.the-variants.{Fine, Fault}
 use Rattle.frame.specs.Frames.{lenAt}
 use Rattle.frame.proofs.Places.{Whole, framing-whole}
-use Rattle.intake.specs.inner.Tallies.{Tables, tables, Here, said, turnTold}
+use Rattle.links.specs.declared.Channel.{Channel}
+use Rattle.links.specs.Links.{mostChannels}
+use Rattle.links.specs.inner.Tables.{channelOf, channelRow}
+use Rattle.intake.specs.inner.Tallies.{Tables, tables, Here, said, comparesAt}
 use Rattle.intake.proofs.Said.{fault-near, fine-parts}
-use Rattle.intake.proofs.Judges.{room, whole, turn-fine, turn-fault}
-use Rattle.intake.proofs.Tallies.{holds, stands-past, room-sounder, room-channel, turned-fault, turned-sounder, turned-channel, turned-end, turned-other}
+use Rattle.intake.proofs.Judges.{room, whole, channel-whole, turn-fine, turn-fault}
+use Rattle.intake.proofs.Tallies.{compares-few, fine-fits, holds, room-sounder, room-channel, turned-fault, turned-sounder, turned-channel, turned-end, turned-other}
 use Rattle.intake.proofs.turn.Statement.{statement}
 use Rattle.intake.proofs.turn.Tie as tie
 
@@ -17,16 +21,20 @@ abbrev held : tie.Start → Tables
 held s = tables (s .args .sounders .now) (s .args .channels .now)
 
 abbrev start : tie.After-judge → tie.Start
-start c = c .before .before .before .before .before .before
+start c = c .before .before .before .before .before .before .before .before
 
 judge-requires : tie.Need-judge-requires
 judge-requires c κs =
-    let s = c .before .before .before .before .before in
-    (s .pre .0 .within, holds (s .pre .1 .1 .1) (s .pre .0) (s .pre .1 .0))
+    let s = c .before .before .before .before .before .before .before in
+    (s .pre .0 .within, (holds (s .pre .1 .1 .1) (s .pre .0) (s .pre .1 .0), search needs))
 
 -- no fault is found
 fine : (c : tie.After-compared) → let s = start (c .before .before) in said (s .args .msb) (s .args .file .now) (s .args .w) (held s) ≡ Fine
-fine c = turn-fine _ _ _ _ (c .before .before .judge .ensures) (c .compared .given .1)
+fine c = turn-fine _ _ _ _ (c .before .before .judge .ensures) (c .compared .given .1) .0
+
+-- and so many identifiers are compared
+cost : (c : tie.After-compared) → let s = start (c .before .before) in comparesAt (s .args .msb) (s .args .file .now) (s .args .w) (held s) ≡ c .compared .given .0 .0
+cost c = turn-fine _ _ _ _ (c .before .before .judge .ensures) (c .compared .given .1) .1
 
 faulty : (c : tie.After-code) → let s = start (c .before .before) in said (s .args .msb) (s .args .file .now) (s .args .w) (held s) ≡ Fault (c .code .given .0 .0) (c .code .given .0 .1 .0)
 faulty c = turn-fault _ _ _ _ (c .before .before .judge .ensures) (c .code .given .1)
@@ -57,7 +65,10 @@ past-requires : tie.Need-past-requires
 past-requires c κs =
     let s = from c in
     let h = whole (here c) in
-    (omega (arith, h .fits, s .pre .1 .1 .0), omega (arith, s .pre .0 .few, s .pre .0 .within, s .pre .1 .1 .0))
+    let p = s .pre .0 in
+    let l = s .pre .1 .1 .0 in
+    let d = c .before .before .before in
+    (omega (arith, h .fits, l), omega (arith, p .few, p .within, l), omega (arith, p .spent, p .few, p .within, l, cost d, compares-few (s .args .msb) (s .pre .1 .1 .1) p))
 
 -- ---- a sounder
 put-sounder-requires : tie.Need-put-sounder-requires
@@ -77,27 +88,40 @@ returns c =
     let p = t .before in
     let k = p .before in
     let s = from k in
-    rw (p .past .ensures, d .put-sounder .ensures, d .before .sounder-at .ensures) (turned-sounder _ (s .pre .1 .1 .1) (s .pre .0) (s .pre .1 .0) _ (here k) (fine (k .before .before .before)) (t .if1 .taken))
+    rw (p .past .ensures, d .put-sounder .ensures, d .before .sounder-at .ensures) (turned-sounder _ (s .pre .1 .1 .1) (s .pre .0) (s .pre .1 .0) _ (here k) (fine (k .before .before .before)) (cost (k .before .before .before)) (t .if1 .taken))
 
 -- ---- a channel
+channel-at-requires : tie.Need-channel-at-requires
+channel-at-requires c κs =
+    let k = c .before .before .before in
+    let s = from k in
+    channel-whole (here k) (fine-fits _ (s .pre .1 .1 .1) (s .pre .0) (here k) (fine (k .before .before .before))) (c .if2 .taken)
+
+-- there is room for it
+room-for : (c : tie.Then2) → let s = from (c .before .before .before) in s .args .w .channels < mostChannels
+room-for c =
+    let k = c .before .before .before in
+    let s = from k in
+    room-channel _ (s .pre .1 .1 .1) (s .pre .0) (here k) (fine (k .before .before .before)) (c .if2 .taken)
+
 put-channel-requires : tie.Need-put-channel-requires
 put-channel-requires c κs =
     let t = c .before .before in
-    let k = t .before .before .before in
-    let s = from k in
-    (room-channel _ (s .pre .1 .1 .1) (s .pre .0) (here k) (fine (k .before .before .before)) (t .if2 .taken), omega (arith, s .pre .0 .within, s .pre .1 .1 .0))
+    let s = from (t .before .before .before) in
+    (room-for t, omega (arith, s .pre .0 .within, s .pre .1 .1 .0))
 
 add-next-2 : tie.Need-add-next-2
-add-next-2 c = let s = from (c .before .before .before .before .before .before .before) in omega (arith, s .pre .0 .channels)
+add-next-2 c = let s = from (c .before .before .before .before .before .before .before .before .before) in omega (arith, s .pre .0 .channels)
 
 returns-2 : tie.Need-returns-2
 returns-2 c =
-    let d = c .before in
-    let t = d .before .before .before in
+    let d = c .before .before .before in
+    let n = d .before .before in
+    let t = n .before in
     let p = t .before .before in
     let k = p .before in
     let s = from k in
-    rw (p .past .ensures, d .put-channel .ensures, d .before .channel-at .ensures) (turned-channel _ (s .pre .1 .1 .1) (s .pre .0) (s .pre .1 .0) _ (here k) (fine (k .before .before .before)) (t .if2 .taken))
+    rw (p .past .ensures, d .put-channel .ensures .0, n .channel-at .ensures) (turned-channel _ (s .pre .1 .1 .1) (s .pre .0) (s .pre .1 .0) _ (here k) (fine (k .before .before .before)) (cost (k .before .before .before)) (t .if2 .taken) (subst (λ (x : Channel). channelOf (channelRow x (s .args .w .at)) ≡ x) (n .channel-at .ensures) (d .put-channel .ensures .1)))
 
 -- ---- the end of file
 abbrev ended : tie.After-end-arg4 → tie.Then3
@@ -115,7 +139,7 @@ returns-3 c =
     let p = t .before .before .before in
     let k = p .before in
     let s = from k in
-    rw (c .end .ensures, p .past .ensures) (turned-end _ (s .pre .1 .1 .1) (s .pre .0) (s .pre .1 .0) (p .past .result .near) (here k) (fine (k .before .before .before)) (t .if3 .taken))
+    rw (c .end .ensures, p .past .ensures) (turned-end _ (s .pre .1 .1 .1) (s .pre .0) (s .pre .1 .0) (p .past .result .near) (here k) (fine (k .before .before .before)) (cost (k .before .before .before)) (t .if3 .taken))
 
 -- ---- a fault, and any other tuple
 returns-4 : tie.Need-returns-4
@@ -128,7 +152,7 @@ returns-5 c =
     let p = c .before .before .before in
     let k = p .before in
     let s = from k in
-    rw (p .past .ensures) (turned-other _ (s .pre .1 .1 .1) (s .pre .0) (s .pre .1 .0) _ (here k) (fine (k .before .before .before)) (c .before .before .if1 .left) (c .before .if2 .left) (c .if3 .left))
+    rw (p .past .ensures) (turned-other _ (s .pre .1 .1 .1) (s .pre .0) (s .pre .1 .0) _ (here k) (fine (k .before .before .before)) (cost (k .before .before .before)) (c .before .before .if1 .left) (c .before .if2 .left) (c .if3 .left))
 
 pub turn-spec : {M : Type 1} → statement M
 turn-spec =
@@ -146,8 +170,9 @@ turn-spec =
     put-sounder-requires
     add-next
     returns
-    (λ c κs. room (here (c .before .before .before .before)))
+    channel-at-requires
     put-channel-requires
+    (λ c κs. room-for (c .before .before .before .before))
     add-next-2
     returns-2
     end-requires

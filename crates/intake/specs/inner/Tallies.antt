@@ -10,6 +10,7 @@ use lib.ListN.{length, take, drop, set}
 use Rattle.order.specs.Order.{numOf}
 use Rattle.rules.specs.Rules.{_⇒_}
 use Rattle.layout.specs.declared.SoftwareChannel.{SoftwareChannel}
+use Rattle.layout.specs.declared.Counts.{Counts}
 use Rattle.layout.specs.declared.Answer.{Answer}
 use Rattle.layout.specs.declared.Verdict.{Verdict}
 use Rattle.layout.specs.declared.Verdict.the-variants.{Fine}
@@ -29,7 +30,7 @@ use Rattle.intake.specs.declared.Tally.{Tally}
 use Rattle.intake.specs.declared.Turned.{Turned}
 use Rattle.intake.specs.declared.Turned.the-variants.{On, Done}
 use Rattle.intake.specs.Check.{Course, begin, Turn, stop, go, turn, checkFrom}
-use Rattle.intake.specs.Asking.{courseTo, channelLine, parentOf, sounderLine, parentsIn}
+use Rattle.intake.specs.Asking.{courseTo, channelLine, channelFor, sounderLine, parentsIn}
 
 -- the tables: a row for each sounder, and for each channel
 pub record Tables : Type 0 where
@@ -57,6 +58,7 @@ courseOf w c =
     record {
       at = w .at;
       count = w .count;
+      compared = w .compared;
       links = record {
         sounders = soundersBy w c;
         channels = channelsBy w c;
@@ -82,6 +84,7 @@ pub record Held (w : Tally) (c : Tables) : Type 0 where
 -- the tally counts no more than there may be, and its place is in the file
 pub record Standing (f : List ℕ) (w : Tally) : Type 0 where
   pub few : w .count * 16 + 4 ≤ w .at
+  pub spent : w .compared ≤ w .count * mostChannels
   pub within : w .at ≤ length f
   pub sounders : w .sounders ≤ mostSounders
   pub channels : w .channels ≤ mostChannels
@@ -110,7 +113,13 @@ abbrev pub sounderAt : Bool → List ℕ → ℕ → Sounder
 sounderAt o f at = record { doc = record { 0 = numOf o (take 4 (drop (at + 8) f)) }; says = numOf o (take 2 (drop (at + 6) f)) }
 
 abbrev pub channelAt : Bool → List ℕ → ℕ → Channel
-channelAt o f at = record { id = record { 0 = numOf o (take 2 (drop (at + 6) f)) }; parent = record { 0 = numOf o (take 4 (drop (at + 8) f)) } }
+channelAt o f at =
+    record {
+      id = record { 0 = numOf o (take 2 (drop (at + 6) f)) };
+      parent = record { 0 = numOf o (take 4 (drop (at + 8) f)) };
+      rate = numOf o (take 4 (drop (at + 12) f));
+      samples = numOf o (take 2 (drop (at + 16) f));
+    }
 
 abbrev pub namedAt : Bool → List ℕ → ℕ → SoftwareChannel
 namedAt o f at = record { 0 = numOf o (take 2 (drop (at + 12) f)) }
@@ -143,25 +152,26 @@ turnVerdict o first ss cs r =
 abbrev pub said : Bool → List ℕ → Tally → Tables → Verdict
 said o f w c = turnVerdict o (eqb (w .count) 0) (soundersBy w c) (channelsBy w c) (drop (w .at) f)
 
-abbrev pub compares : Bool → List ℕ → Tally → Tables → ℕ
-compares o f w c = comparesAmong (soundersBy w c) (channelsBy w c) (digest o (tupAt o (drop (w .at) f)) .link)
+abbrev pub comparesAt : Bool → List ℕ → Tally → Tables → ℕ
+comparesAt o f w c = comparesAmong (soundersBy w c) (channelsBy w c) (digest o (tupAt o (drop (w .at) f)) .link)
 
 unfoldable pub linkTold : Bool → List ℕ → Tally → Tables → LinkVerdict
 linkTold o f w c = linking (soundersBy w c) (channelsBy w c) (digest o (tupAt o (drop (w .at) f)) .link)
 
 unfoldable pub turnTold : Bool → List ℕ → Tally → Tables → LinkVerdict
-turnTold o f w c = comparing (said o f w c) (compares o f w c)
+turnTold o f w c = comparing (said o f w c) (comparesAt o f w c)
 
--- ---- the tally behind the mark, and past a tuple of n bytes and of a type code, before what it declares; the next channel is
--- looked for first on any line
+-- ---- the tally behind the mark, and past a tuple of n bytes and of a type code that compares m identifiers, before what it declares;
+-- the next channel is looked for first on any line
 abbrev pub tallyBegin : Tally
-tallyBegin = record { at = 4; count = 0; sounders = 0; channels = 0; near = 0; position = false; sounder = false; channel = false; ping = false }
+tallyBegin = record { at = 4; count = 0; compared = 0; sounders = 0; channels = 0; near = 0; position = false; sounder = false; channel = false; ping = false }
 
-abbrev pub tallyPast : Tally → ℕ → ℕ → ℕ → Tally
-tallyPast w n k near =
+abbrev pub tallyPast : Tally → ℕ → ℕ → ℕ → ℕ → Tally
+tallyPast w n k m near =
     record {
       at = w .at + n;
       count = w .count + 1;
+      compared = w .compared + m;
       sounders = w .sounders;
       channels = w .channels;
       near = near;
@@ -177,6 +187,7 @@ declaring w sounders channels =
     record {
       at = w .at;
       count = w .count;
+      compared = w .compared;
       sounders = sounders;
       channels = channels;
       near = w .near;
@@ -228,7 +239,7 @@ RunTo o f p (Done a) c = EndedBefore o f p a
 abbrev pub pingAt : Bool → List ℕ → ℕ → Bool
 pingAt o f at = eqb (kindAt o (drop at f)) 10000 || eqb (kindAt o (drop at f)) 10010
 
-unfoldable pub askWhere : Bool → List ℕ → ℕ → Course → Asked
+unfoldable pub askWhere : Bool → List ℕ → Counts → Course → Asked
 askWhere o f n w = cond (pingAt o f (w .at)) (parentsIn w (namedAt o f (w .at)) n) (Refused 9 (w .at))
 
 -- what asking there rests on: a frame's bytes are left, and a ping's lines are declared
@@ -236,4 +247,4 @@ pub record AskIn (o : Bool) (f : List ℕ) (w : Tally) (c : Tables) : Type 0 whe
   pub left : w .at + 16 ≤ length f
   pub sounderRoom : w .sounders ≤ length (c .sounders)
   pub channelRoom : w .channels ≤ length (c .channels)
-  pub declared : pingAt o f (w .at) ≡ true → (channelLine (courseOf w c) (namedAt o f (w .at)) < w .channels) × (sounderLine (courseOf w c) (parentOf (courseOf w c) (namedAt o f (w .at))) < w .sounders)
+  pub declared : pingAt o f (w .at) ≡ true → (channelLine (courseOf w c) (namedAt o f (w .at)) < w .channels) × (sounderLine (courseOf w c) (channelFor (courseOf w c) (namedAt o f (w .at)) .parent) < w .sounders)

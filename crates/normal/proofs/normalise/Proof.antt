@@ -50,9 +50,7 @@ returns-4 c = rw (c .refuse .ensures) (refused-of _ _ _ _ (sym (c .before .befor
 
 returns-5 : tie.Need-returns-5
 returns-5 c =
-    let d = c .before in
-    rw (c .accept .ensures)
-    (found-written _ _ _ _ _ (found (d .before .before .before .before .before .before .before .before .before .before .before .before)) (sym (turns (d .before .before .before .before .before .before .before .before .before)) ∙ d .before .before .before .before .before .before .before .before .if1 .left) (d .before .before .before .before .before .before .if2 .left) (d .before .before .before .before .if3 .left) _ (d .before .before .write-normal .ensures))
+    (found-written _ _ _ _ _ (found (c .before .before .before .before .before .before .before .before .before .before .before .before)) (sym (turns (c .before .before .before .before .before .before .before .before .before)) ∙ c .before .before .before .before .before .before .before .before .if1 .left) (c .before .before .before .before .before .before .if2 .left) (c .before .before .before .before .if3 .left) _ (c .before .before .write-normal .ensures))
 
 pub normalise-spec : {M : Type 1} → statement M
 normalise-spec =
@@ -72,7 +70,6 @@ normalise-spec =
     (λ c κs. search needs)
     returns-3
     write-normal-requires
-    (λ c κs. search needs)
     returns-4
     (λ c. search needs)
     returns-5)

@@ -29,11 +29,13 @@ use verdict::Status;
 const HELP: &str = "\
 HAC fisheries recordings: checked, walked and brought to their normal form.
 
-  hac check FILE..          is each file accepted? A folder stands for all files
-                            in it and below.
+  hac check FILE..          is each file accepted? How many tuples has it, and how
+                            many identifiers are compared while it is linked? A
+                            folder stands for all files in it and below.
   hac normal FILE -o OUT    writes a file's normal form to OUT, whole or not at all
   hac walk FILE [--back]    a file's tuples: place, type, name, length
-  hac parents FILE PLACE    the channel and the sounder of the ping at a place
+  hac parents FILE PLACE    the channel and the sounder of the ping at a place, with
+                            the channel's sampling rate and type of data sample
   hac samples FILE PLACE    the samples of the ping at a place: number, value
 
   --json       one object a line

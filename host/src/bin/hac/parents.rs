@@ -1,4 +1,5 @@
-//! `hac parents`: the channel and the sounder of a ping.
+//! `hac parents`: the channel and the sounder of a ping, and what the channel says
+//! of its samples.
 
 use crate::json::Object;
 use crate::one::Stop;
@@ -8,13 +9,20 @@ pub fn run(file: &[u8], place: usize, output: &mut Output) -> Result<(), Stop> {
     let parents = hac::ask(file, place)?;
     output.tell(
         format_args!(
-            "channel {} at {}, echosounder {} at {}",
-            parents.channel.0, parents.channel_place, parents.sounder.0, parents.sounder_place
+            "channel {} at {}, sampling rate {}, type of data sample {}, echosounder {} at {}",
+            parents.channel.0,
+            parents.channel_place,
+            parents.sampling_rate,
+            parents.type_of_data_sample,
+            parents.sounder.0,
+            parents.sounder_place
         ),
         || {
             Object::default()
                 .number("channel", parents.channel.0)
                 .number("channel_place", parents.channel_place)
+                .number("sampling_rate", parents.sampling_rate)
+                .number("type_of_data_sample", parents.type_of_data_sample)
                 .number("sounder", parents.sounder.0)
                 .number("sounder_place", parents.sounder_place)
         },

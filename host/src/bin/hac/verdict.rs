@@ -2,7 +2,7 @@
 
 use crate::input::Input;
 use crate::json::Object;
-use hac::{Refusal, SampleFault, Walk, WrongSample};
+use hac::{Counts, Refusal, SampleFault, Walk, WrongSample};
 use std::fmt;
 use std::io;
 
@@ -16,8 +16,8 @@ pub enum Status {
 }
 
 pub enum Verdict {
-    /// Accepted, with the number of its tuples.
-    Accepted(usize),
+    /// Accepted, with what was counted in it.
+    Accepted(Counts),
     /// Refused, and which sample is wrong, where the refusal is about one.
     Refused(Refusal, Option<WrongSample>),
     /// Not read, and why.
@@ -42,9 +42,10 @@ impl Verdict {
     pub fn object(&self, input: &Input) -> Object {
         let object = Object::default().name("file", input.name());
         match self {
-            Verdict::Accepted(tuples) => {
-                object.text("outcome", "accepted").number("tuples", *tuples)
-            }
+            Verdict::Accepted(Counts { tuples, compared }) => object
+                .text("outcome", "accepted")
+                .number("tuples", *tuples)
+                .number("compared", *compared),
             Verdict::Refused(Refusal { code, place }, wrong) => {
                 let object = object
                     .text("outcome", "refused")
@@ -90,7 +91,10 @@ fn with_sample(object: Object, wrong: &WrongSample) -> Object {
 impl fmt::Display for Verdict {
     fn fmt(&self, to: &mut fmt::Formatter<'_>) -> fmt::Result {
         match self {
-            Verdict::Accepted(tuples) => write!(to, "accepted, {tuples} tuples"),
+            Verdict::Accepted(Counts { tuples, compared }) => write!(
+                to,
+                "accepted, {tuples} tuples, {compared} identifiers compared"
+            ),
             Verdict::Refused(refusal, None) => write!(to, "refused, {refusal}"),
             Verdict::Refused(refusal, Some(wrong)) => write!(to, "refused, {refusal}: {wrong}"),
             Verdict::Unread(why) => to.write_str(why),

@@ -1,8 +1,7 @@
 -- `archive::of_files::hac_check` meets its contract. Assumes nothing.
 use borrow.Author.Needs.{needs}
 use Rattle.intake.specs.Check.{Checked}
-use Rattle.archive.specs.Saying.{Nothing}
-use Rattle.archive.specs.Numbers.{four}
+use Rattle.archive.specs.Numbers.{five}
 use Rattle.archive.proofs.Saying.{untold, answer-told}
 use Rattle.archive.proofs.of_files.hac_check.Statement.{statement}
 use Rattle.archive.proofs.of_files.hac_check.Tie as tie
@@ -10,7 +9,7 @@ use Rattle.archive.proofs.of_files.hac_check.Tie as tie
 returns : tie.Need-returns
 returns c =
     let a = c .before .before .before .args in
-    untold 4 four (λ o m. Checked (a .file .now) o) (a .answer .now) (record {}) (c .if1 .taken)
+    untold 0 five (λ o m. Checked (a .file .now) o) (a .answer .now) (record {}) (c .if1 .taken)
 
 returns-2 : tie.Need-returns-2
 returns-2 c =

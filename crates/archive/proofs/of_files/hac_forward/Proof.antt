@@ -10,13 +10,13 @@ use Rattle.archive.proofs.of_files.hac_forward.Tie as tie
 returns : tie.Need-returns
 returns c =
     let a = c .before .before .before .args in
-    alone-untold 8 stepTold (SteppedForward (a .file .now) (a .place)) (a .answer .now) (c .if1 .taken)
+    alone-untold 4 stepTold (SteppedForward (a .file .now) (a .place)) (a .answer .now) (c .if1 .taken)
 
 returns-2 : tie.Need-returns-2
 returns-2 c =
     let a = c .before .before .before .before .before .before .before .before .args in
     let s = c .before .before .before .forward .result in
-    alone-told 8 stepTold (SteppedForward (a .file .now) (a .place)) (a .answer .now) s (stepTold s) (c .before .before .tell-step .result) _ (c .before .before .before .before .before .if1 .left) (step-short s)
+    alone-told 4 stepTold (SteppedForward (a .file .now) (a .place)) (a .answer .now) s (stepTold s) (c .before .before .tell-step .result) _ (c .before .before .before .before .before .if1 .left) (step-short s)
     (c .before .before .before .forward .ensures) refl (c .before .before .tell-step .ensures .0) (c .before .before .tell-step .ensures .1)
 
 pub hac-forward-spec : {M : Type 1} → statement M

@@ -1,8 +1,7 @@
 -- `archive::of_files::hac_normalise_tuple` meets its contract. Assumes nothing.
 use borrow.Author.Needs.{needs}
 use Rattle.normal.specs.Single.{NormalisedTuple}
-use Rattle.archive.specs.Saying.{Nothing}
-use Rattle.archive.specs.Numbers.{four}
+use Rattle.archive.specs.Numbers.{five}
 use Rattle.archive.proofs.Saying.{untold, answer-told}
 use Rattle.archive.proofs.of_files.hac_normalise_tuple.Statement.{statement}
 use Rattle.archive.proofs.of_files.hac_normalise_tuple.Tie as tie
@@ -10,7 +9,7 @@ use Rattle.archive.proofs.of_files.hac_normalise_tuple.Tie as tie
 returns : tie.Need-returns
 returns c =
     let a = c .before .before .before .before .args in
-    untold 4 four (NormalisedTuple (a .file .now) (a .out .now)) (a .answer .now) (a .out .now) (c .if1 .taken)
+    untold 0 five (NormalisedTuple (a .file .now) (a .out .now)) (a .answer .now) (a .out .now) (c .if1 .taken)
 
 returns-2 : tie.Need-returns-2
 returns-2 c =

@@ -15,20 +15,20 @@ use Rattle.archive.proofs.of_marks.hac_read_run_start.Tie as tie
 returns : tie.Need-returns
 returns c =
     let a = c .before .before .before .args in
-    alone-untold 7 runStartTold (RunStartAt (a .file .now) (a .place)) (a .answer .now) (c .if1 .taken)
+    alone-untold 3 runStartTold (RunStartAt (a .file .now) (a .place)) (a .answer .now) (c .if1 .taken)
 
 returns-2 : tie.Need-returns-2
 returns-2 c =
     let a = c .before .before .before .before .before .before .before .before .before .before .before .before .before .args in
     let ns = c .before .before .before .before .numbers in
-    alone-told 7 runStartTold (RunStartAt (a .file .now) (a .place)) (a .answer .now) (c .before .before .before .before .before .before .before .before .before .read .result) (recordTold (ns .result)) (c .before .before .tell-record .result) _
+    alone-told 3 runStartTold (RunStartAt (a .file .now) (a .place)) (a .answer .now) (c .before .before .before .before .before .before .before .before .before .read .result) (recordTold (ns .result)) (c .before .before .tell-record .result) _
     (c .before .before .before .before .before .before .before .before .before .before .if1 .left) (omega (arith, ap (λ (l : List ℕ). length l) (ns .ensures)))
     (c .before .before .before .before .before .before .before .before .before .read .ensures) (ap runStartTold (c .before .before .before .before .before .before .before .«record» .given .1) ∙ ap recordTold (sym (ns .ensures))) (c .before .before .tell-record .ensures .0) (c .before .before .tell-record .ensures .1)
 
 returns-3 : tie.Need-returns-3
 returns-3 c =
     let a = c .before .before .before .before .before .before .before .before .before .before .before .args in
-    alone-told 7 runStartTold (RunStartAt (a .file .now) (a .place)) (a .answer .now) (c .before .before .before .before .before .before .before .read .result) _ (c .before .before .tell-refusal .result) _
+    alone-told 3 runStartTold (RunStartAt (a .file .now) (a .place)) (a .answer .now) (c .before .before .before .before .before .before .before .read .result) _ (c .before .before .tell-refusal .result) _
     (c .before .before .before .before .before .before .before .before .if1 .left) (omega arith)
     (c .before .before .before .before .before .before .before .read .ensures) (ap runStartTold (c .before .before .before .before .before .code .given .1)) (c .before .before .tell-refusal .ensures .0) (c .before .before .tell-refusal .ensures .1)
 

@@ -5,7 +5,7 @@ use mir.Syntax.{w32}
 use mir.Facts.{toZ-ofZ}
 use Rattle.file_end.specs.declared.FileEnd.{FileEnd}
 use Rattle.file_end.specs.FileEnd.{FileEndWritten}
-use Rattle.archive.specs.Numbers.{four}
+use Rattle.archive.specs.Numbers.{five}
 use Rattle.archive.proofs.Saying.{untold, answer-told}
 use Rattle.archive.proofs.of_marks.hac_write_file_end.Statement.{statement}
 use Rattle.archive.proofs.of_marks.hac_write_file_end.Tie as tie
@@ -13,7 +13,7 @@ use Rattle.archive.proofs.of_marks.hac_write_file_end.Tie as tie
 returns : tie.Need-returns
 returns c =
     let a = c .before .before .before .args in
-    untold 4 four _ (a .answer .now) (a .out .now) (c .if1 .taken)
+    untold 0 five _ (a .answer .now) (a .out .now) (c .if1 .taken)
 
 returns-2 : tie.Need-returns-2
 returns-2 c =

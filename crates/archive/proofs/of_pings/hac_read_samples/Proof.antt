@@ -1,6 +1,6 @@
 -- `archive::of_pings::hac_read_samples` meets its contract. Assumes nothing.
 use borrow.Author.Needs.{needs}
-use Rattle.archive.specs.Numbers.{four}
+use Rattle.archive.specs.Numbers.{five}
 use Rattle.archive.proofs.Saying.{untold, answer-told}
 use Rattle.archive.proofs.of_pings.hac_read_samples.Statement.{statement}
 use Rattle.archive.proofs.of_pings.hac_read_samples.Tie as tie
@@ -8,7 +8,7 @@ use Rattle.archive.proofs.of_pings.hac_read_samples.Tie as tie
 returns : tie.Need-returns
 returns c =
     let a = c .before .before .before .before .args in
-    untold 4 four _ (a .answer .now) (a .numbers .now, a .values .now) (c .if1 .taken)
+    untold 0 five _ (a .answer .now) (a .numbers .now, a .values .now) (c .if1 .taken)
 
 returns-2 : tie.Need-returns-2
 returns-2 c =

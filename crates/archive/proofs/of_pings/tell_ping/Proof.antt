@@ -19,7 +19,7 @@ returns c =
     let h = a .header in
     let l = a .answer .now in (
       c .before .before .tell-record .ensures .0,
-      told-behind (recordTold (numbersIn (headOf h) ++ (patternOf 4 (a .attribute) ∷ kindTold (a .kind) ∷ []))) (a .values ∷ []) l 12 refl
+      told-behind (recordTold (numbersIn (headOf h) ++ (patternOf 4 (a .attribute) ∷ kindTold (a .kind) ∷ []))) (a .values ∷ []) l 13 refl
           (c .before .before .tell-record .ensures .1
           ∙ (λ i.
           sets l 0 (recordTold

@@ -15,21 +15,21 @@ use Rattle.archive.proofs.of_settings.hac_read_channel.Tie as tie
 returns : tie.Need-returns
 returns c =
     let a = c .before .before .before .args in
-    alone-untold 31 channelTold (ChannelAt (a .file .now) (a .place)) (a .answer .now) (c .if1 .taken)
+    alone-untold 27 channelTold (ChannelAt (a .file .now) (a .place)) (a .answer .now) (c .if1 .taken)
 
 returns-2 : tie.Need-returns-2
 returns-2 c =
     let a = c .before .before .before .before .before .before .before .before .before .before .before .before .before .args in
     let ns = c .before .before .before .before .numbers in
     let t = c .before .before .before .before .before .before .before .«record» .given .0 .1 .0 in
-    alone-told 31 channelTold (ChannelAt (a .file .now) (a .place)) (a .answer .now) (c .before .before .before .before .before .before .before .before .before .read .result) (recordTold (ns .result) ++ partTold t) (c .before .before .tell-texted .result) _
+    alone-told 27 channelTold (ChannelAt (a .file .now) (a .place)) (a .answer .now) (c .before .before .before .before .before .before .before .before .before .read .result) (recordTold (ns .result) ++ partTold t) (c .before .before .tell-texted .result) _
     (c .before .before .before .before .before .before .before .before .before .before .if1 .left) (omega (arith, ap (λ (l : List ℕ). length (recordTold l ++ partTold t)) (ns .ensures)))
     (c .before .before .before .before .before .before .before .before .before .read .ensures) (ap channelTold (c .before .before .before .before .before .before .before .«record» .given .1) ∙ ap (λ (l : List ℕ). recordTold l ++ partTold t) (sym (ns .ensures))) (c .before .before .tell-texted .ensures .0) (c .before .before .tell-texted .ensures .1)
 
 returns-3 : tie.Need-returns-3
 returns-3 c =
     let a = c .before .before .before .before .before .before .before .before .before .before .before .args in
-    alone-told 31 channelTold (ChannelAt (a .file .now) (a .place)) (a .answer .now) (c .before .before .before .before .before .before .before .read .result) _ (c .before .before .tell-refusal .result) _
+    alone-told 27 channelTold (ChannelAt (a .file .now) (a .place)) (a .answer .now) (c .before .before .before .before .before .before .before .read .result) _ (c .before .before .tell-refusal .result) _
     (c .before .before .before .before .before .before .before .before .if1 .left) (omega arith)
     (c .before .before .before .before .before .before .before .read .ensures) (ap channelTold (c .before .before .before .before .before .code .given .1)) (c .before .before .tell-refusal .ensures .0) (c .before .before .tell-refusal .ensures .1)
 

@@ -5,7 +5,7 @@ use mir.Syntax.{w16, w32}
 use mir.Facts.{toZ-ofZ}
 use Rattle.sounder.specs.declared.Sounder.{Sounder}
 use Rattle.sounder.specs.Sounder.{SounderWritten}
-use Rattle.archive.specs.Numbers.{four}
+use Rattle.archive.specs.Numbers.{five}
 use Rattle.archive.proofs.Saying.{untold, answer-told}
 use Rattle.archive.proofs.of_settings.hac_write_sounder.Statement.{statement}
 use Rattle.archive.proofs.of_settings.hac_write_sounder.Tie as tie
@@ -13,7 +13,7 @@ use Rattle.archive.proofs.of_settings.hac_write_sounder.Tie as tie
 returns : tie.Need-returns
 returns c =
     let a = c .before .before .before .before .args in
-    untold 4 four _ (a .answer .now) (a .out .now) (c .if1 .taken)
+    untold 0 five _ (a .answer .now) (a .out .now) (c .if1 .taken)
 
 returns-2 : tie.Need-returns-2
 returns-2 c =
