@@ -13,7 +13,7 @@ use Rattle.layout.specs.declared.Kind.{Kind}
 use Rattle.layout.specs.declared.Kind.the-variants.{Signature, Sounder, Channel, Position, Navigation, Attitude, Threshold, Event, PingU, PingC, RunStart, RunEnd, FileEnd, Index, Unlisted}
 use Rattle.layout.specs.Fields.{Field, u, size}
 use Rattle.layout.specs.Types.{Shape, indexed, row, pairs, words, unlisted, Length, exactly, upward, free, fitting, pingRow, lineOf, listed, placeIn, lengthFrom}
-use Rattle.layout.specs.inner.Codes.{fieldOf, fieldsOf, rowCodes, leasts, steps, lengthBy}
+use Rattle.layout.specs.inner.Codes.{fieldOf, fieldsOf, rowCodes, leasts, steps, measures, measured, lengthBy}
 
 -- the fields that a shape begins with
 abbrev pub fieldsIn : Shape → List Field
@@ -23,25 +23,26 @@ fieldsIn pairs = pingRow
 fieldsIn words = pingRow ++ (u 4 ∷ [])
 fieldsIn unlisted = []
 
--- what the tables say of a kind: its fields, its lengths, and these by its row
+-- what the tables say of a kind: its fields, its lengths, and these by its row; what its row measures
 pub record Said : Type 0 where
   pub fields : List Field
   pub lengths : Length
   pub byRow : Length
+  pub measure : List ℕ
 
 abbrev pub coded : Kind → Said
 coded q =
     let i = placeIn q in
     let n = lengthBy (getD leasts i 0) (getD steps i 0) in
-    record { fields = fieldsOf (getD rowCodes i []); lengths = n; byRow = n }
+    record { fields = fieldsOf (getD rowCodes i []); lengths = n; byRow = n; measure = getD measures i [] }
 
 abbrev pub printed : Kind → Said
 printed q =
     let l = lineOf q in
-    record { fields = fieldsIn (l .shape); lengths = l .length; byRow = lengthFrom (l .shape) }
+    record { fields = fieldsIn (l .shape); lengths = l .length; byRow = lengthFrom (l .shape); measure = measured (fieldsIn (l .shape)) }
 
 test : map coded listed ≡ map printed listed
-unfolding listed fieldOf fieldsOf rowCodes leasts steps lineOf
+unfolding listed fieldOf fieldsOf rowCodes leasts steps measures lineOf
 test = refl
 
 -- what holds of the listed kinds and of the two others holds of all

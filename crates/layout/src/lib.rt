@@ -10,7 +10,7 @@ ghost use lib.ListN.{getD};
 ghost use Rattle.layout.specs.Answers.{accepting};
 ghost use Rattle.layout.specs.Fields.{known};
 ghost use Rattle.layout.specs.Types.{inClass, kindOf, placeIn, lineOf, fitting};
-ghost use Rattle.layout.specs.inner.Codes.{leasts, steps, rowCodes};
+ghost use Rattle.layout.specs.inner.Codes.{leasts, steps, rowCodes, measures};
 
 // What an acceptance counts: the tuples of what was handed in, the bytes or samples written, the identifiers compared while linking
 // the tuples of a file.
@@ -115,6 +115,32 @@ const ROWS: [[u8; ROW]; LISTED] = [
 
 // How many fields each row has: its codes before the dots.
 pub const FIELDS: [usize; LISTED] = [4, 14, 27, 7, 6, 10, 11, 2, 6, 7, 2, 2, 3];
+
+// What each row measures: its numbers, its bytes before its characters, its bytes but for these, all its bytes.
+const MEASURES: [[usize; 4]; LISTED] = [
+    [3, 10, 10, 10],
+    [12, 26, 28, 58],
+    [24, 62, 64, 94],
+    [6, 22, 22, 22],
+    [5, 14, 14, 14],
+    [9, 22, 22, 22],
+    [11, 30, 30, 30],
+    [2, 6, 6, 6],
+    [6, 18, 18, 18],
+    [7, 22, 22, 22],
+    [2, 6, 6, 6],
+    [2, 6, 6, 6],
+    [3, 8, 8, 8],
+];
+
+// The places of these four.
+pub const NUMBERS: usize = 0;
+
+pub const BEFORE: usize = 1;
+
+pub const BARE: usize = 2;
+
+pub const SIZE: usize = 3;
 
 // A fault at a tuple's first byte.
 pub fn fault(code: u8) -> Verdict
@@ -303,5 +329,27 @@ pub fn row(line: usize) -> [u8; ROW]
         10 => ROWS[10],
         11 => ROWS[11],
         _ => ROWS[12],
+    }
+}
+
+// What the row of a line measures.
+pub fn measure(line: usize) -> [usize; 4]
+    requires { ⌜ line < 13 ⌝ }
+    ensures { λ r. ⌜ r ≡ getD measures line [] ⌝ }
+{
+    match line {
+        0 => MEASURES[0],
+        1 => MEASURES[1],
+        2 => MEASURES[2],
+        3 => MEASURES[3],
+        4 => MEASURES[4],
+        5 => MEASURES[5],
+        6 => MEASURES[6],
+        7 => MEASURES[7],
+        8 => MEASURES[8],
+        9 => MEASURES[9],
+        10 => MEASURES[10],
+        11 => MEASURES[11],
+        _ => MEASURES[12],
     }
 }

@@ -7,7 +7,7 @@ ghost use mathlib.Core.Path.{_≡_};
 ghost use Prim.Native.Nat.{_+_, _≤_};
 ghost use lib.ListN.{length, drop};
 ghost use Rattle.turning.specs.Rows.{valuesOf};
-ghost use Rattle.tuples.specs.inner.Opening.{rowOf};
+ghost use Rattle.tuples.specs.Readers.{rowOf};
 ghost use Rattle.tuples.specs.Writers.{numbersIn};
 ghost use Rattle.threshold.specs.Threshold.{thresholdOf, thresholdValues, ThresholdAt, ThresholdWritten};
 

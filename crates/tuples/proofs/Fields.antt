@@ -21,8 +21,8 @@ use Rattle.content.proofs.Fine.{row-size}
 use Rattle.content.proofs.Places.{length-body, values-place}
 use Rattle.intake.specs.inner.Tallies.{Here, Fits, innerVerdict}
 use Rattle.intake.proofs.Judges.{head-fits, own-parts}
-use Rattle.tuples.specs.Readers.{tupleThere, only, valuesBy, readValues}
-use Rattle.tuples.specs.inner.Opening.{Readable, rowBy, rowOf}
+use Rattle.tuples.specs.Readers.{tupleThere, only, valuesBy, readValues, rowBy, rowOf}
+use Rattle.tuples.specs.inner.Opening.{Readable}
 use Rattle.tuples.proofs.Reading.{stands, here}
 
 -- ---- a row and its lengths

@@ -23,8 +23,8 @@ use Rattle.layout.specs.inner.Codes.{fieldsOf, rowCodes}
 use Rattle.layout.proofs.Tables.{Said, fieldsIn, tabled, by-kind}
 use Rattle.frame.specs.Frames.{frame}
 use Rattle.frame.proofs.Frames.{length-frame}
-use Rattle.turning.specs.Rows.{Value, number, text, encode}
-use Rattle.turning.specs.inner.Codes.{woven, textFits}
+use Rattle.turning.specs.Rows.{Value, number, text, woven, encode}
+use Rattle.turning.specs.inner.Codes.{textFits}
 use Rattle.turning.proofs.Writes.{length-woven}
 use Rattle.content.specs.Forms.{encodeBy, plainTuple}
 use Rattle.tuples.specs.Writers.{writeAnswer, Written, plainBytes}

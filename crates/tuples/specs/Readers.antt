@@ -1,6 +1,6 @@
 -- What a reader answers at any place of any file, and the tuple that it then reads. Assumes nothing.
-use Prim.Native.Nat.{ℕ}
-use mathlib.Core.Bool.{Bool, not, _||_}
+use Prim.Native.Nat.{ℕ, _-_}
+use mathlib.Core.Bool.{Bool, true, false, not, _&&_, _||_}
 use mathlib.Core.List.{List, [], _∷_, _++_}
 use mathlib.Core.Option.{Option, some, none}
 use lib.Dec.{eqb}
@@ -8,6 +8,8 @@ use lib.ListN.{drop, getD}
 use Rattle.rules.specs.Rules.{Rule, _⇒_, firstOf, saying}
 use Rattle.layout.specs.declared.Answer.{Answer}
 use Rattle.layout.specs.declared.Answer.the-variants.{Refused}
+use Rattle.layout.specs.Fields.{Field}
+use Rattle.layout.specs.Types.{Shape, indexed, row, pairs, words, unlisted, shapeOf}
 use Rattle.layout.specs.Answers.{Breach, _byte_, refusedAt, accepting}
 use Rattle.frame.specs.declared.Step.{Step}
 use Rattle.frame.specs.declared.Step.the-variants.{Tuple, End}
@@ -16,7 +18,7 @@ use Rattle.frame.specs.Frames.{Tup, tupAt}
 use Rattle.frame.specs.Files.{isMsb}
 use Rattle.frame.specs.Steps.{stepForward}
 use Rattle.turning.specs.Rows.{Value, number, text}
-use Rattle.content.specs.Items.{Item, plain, ping, raw, itemOf, headRules, innerRules}
+use Rattle.content.specs.Items.{Item, plain, ping, raw, itemOf, rowIn, headRules, innerRules}
 
 -- the tuple at a place
 abbrev pub tupleThere : List ℕ → ℕ → Tup
@@ -63,3 +65,29 @@ only k c = eqb c k
 
 abbrev pub isPing : ℕ → Bool
 isPing k = eqb k 10000 || eqb k 10010
+
+-- ---- records: tuples whose data a row says
+-- the row of a type, in a tuple of n bytes, with its characters and its attribute
+abbrev pub rowBy : Shape → ℕ → List Field
+rowBy indexed m = []
+rowBy (row fs x) m = rowIn fs x m
+rowBy pairs m = []
+rowBy words m = []
+rowBy unlisted m = []
+
+abbrev pub rowOf : ℕ → ℕ → List Field
+rowOf k n = rowBy (shapeOf k) (n - 10)
+
+-- a type of records; a reader of the records of a type asks for that type, and for nothing where it is no record's
+abbrev pub isRow : Shape → Bool
+isRow indexed = false
+isRow (row fs x) = true
+isRow pairs = false
+isRow words = false
+isRow unlisted = false
+
+abbrev pub isRecord : ℕ → Bool
+isRecord k = isRow (shapeOf k)
+
+abbrev pub recordsOf : ℕ → ℕ → Bool
+recordsOf k c = isRecord k && eqb c k

@@ -2,6 +2,7 @@
 use frame::Step;
 use frame::Walk;
 use layout::Answer;
+use layout::Kind;
 use layout::Verdict;
 use layout::codes;
 ghost use mathlib.Core.Path.{_≡_};
@@ -11,8 +12,8 @@ ghost use Prim.Native.Nat.{ℕ, _+_, _-_, _^_, _≤_, _<_};
 ghost use lib.ListN.{length, take, drop};
 ghost use lib.Seq.{sets};
 ghost use Rattle.order.specs.Order.{numOf, signedOf, patternOf};
-ghost use Rattle.layout.specs.Types.{shapeOf};
-ghost use Rattle.tuples.specs.Readers.{isPing, only};
+ghost use Rattle.layout.specs.Types.{lineOf, shapeOf};
+ghost use Rattle.tuples.specs.Readers.{isPing, isRow, recordsOf, only};
 ghost use Rattle.tuples.specs.inner.Opening.{FoundTuple, FoundAs, OpenedAs};
 ghost use Rattle.tuples.specs.Writers.{Written, plainBytes};
 ghost use Rattle.tuples.specs.inner.Framing.{handedValues, Handable, openBytes, closeBytes};
@@ -89,6 +90,51 @@ pub fn open_tuple(file: &[u8], place: usize, asked: u16) -> Opened
         Opened::Refused { code, place } => Opened::Refused { code, place },
         Opened::Tuple { msb, whole, code } => {
             open_found(file, place, msb, whole, code, code == asked)
+        }
+    }
+}
+
+// Whether a kind is a record's.
+pub fn is_record(kind: Kind) -> bool
+    ensures { λ r. ⌜ r ≡ isRow (lineOf kind .shape) ⌝ }
+{
+    match kind {
+        Kind::Signature => true,
+        Kind::Sounder => true,
+        Kind::Channel => true,
+        Kind::Position => true,
+        Kind::Navigation => true,
+        Kind::Attitude => true,
+        Kind::Threshold => true,
+        Kind::Event => true,
+        Kind::PingU => false,
+        Kind::PingC => false,
+        Kind::RunStart => true,
+        Kind::RunEnd => true,
+        Kind::FileEnd => true,
+        Kind::Index => false,
+        Kind::Unlisted => false,
+    }
+}
+
+// Whether a reader of the records of one type asks for a tuple of a type.
+fn asks_record(asked: u16, code: u16) -> bool
+    ensures { λ r. ⌜ r ≡ recordsOf asked code ⌝ }
+{
+    if !is_record(layout::kind_of(asked)) {
+        return false;
+    }
+    code == asked
+}
+
+// Opens the tuple at a place for a reader of the records of one type: 9 for every tuple, where the type is no record's.
+pub fn open_record(file: &[u8], place: usize, asked: u16) -> Opened
+    ensures { λ r. ⌜ OpenedAs (recordsOf asked) (now (file .entry)) place r ⌝ }
+{
+    match find(file, place) {
+        Opened::Refused { code, place } => Opened::Refused { code, place },
+        Opened::Tuple { msb, whole, code } => {
+            open_found(file, place, msb, whole, code, asks_record(asked, code))
         }
     }
 }

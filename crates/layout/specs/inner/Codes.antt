@@ -5,7 +5,7 @@ use mathlib.Core.Option.{Option, some, none}
 use lib.Dec.{eqb}
 use Rattle.rules.specs.Rules.{_⇒_, firstOf}
 use Rattle.layout.specs.Text.{ascii}
-use Rattle.layout.specs.Fields.{Field, u, s, c, z, ident}
+use Rattle.layout.specs.Fields.{Field, u, s, c, z, ident, many, beforeText, bareSize, size}
 use Rattle.layout.specs.Types.{Length, exactly, upward}
 
 -- the field of a code: 2, 4, s, S, c, z, i; any other code is none
@@ -53,6 +53,27 @@ leasts = 24 ∷ 72 ∷ 108 ∷ 36 ∷ 28 ∷ 36 ∷ 44 ∷ 24 ∷ 40 ∷ 40 ∷ 
 
 unfoldable pub steps : List ℕ
 steps = 0 ∷ 0 ∷ 0 ∷ 0 ∷ 0 ∷ 0 ∷ 0 ∷ 4 ∷ 8 ∷ 4 ∷ 0 ∷ 0 ∷ 4 ∷ []
+
+-- what a row measures: its numbers, its bytes before its characters, its bytes but for these, all its bytes
+abbrev pub measured : List Field → List ℕ
+measured fs = many fs ∷ beforeText fs ∷ bareSize fs ∷ size fs ∷ []
+
+unfoldable pub measures : List (List ℕ)
+measures =
+    (3 ∷ 10 ∷ 10 ∷ 10 ∷ [])
+    ∷ (12 ∷ 26 ∷ 28 ∷ 58 ∷ [])
+    ∷ (24 ∷ 62 ∷ 64 ∷ 94 ∷ [])
+    ∷ (6 ∷ 22 ∷ 22 ∷ 22 ∷ [])
+    ∷ (5 ∷ 14 ∷ 14 ∷ 14 ∷ [])
+    ∷ (9 ∷ 22 ∷ 22 ∷ 22 ∷ [])
+    ∷ (11 ∷ 30 ∷ 30 ∷ 30 ∷ [])
+    ∷ (2 ∷ 6 ∷ 6 ∷ 6 ∷ [])
+    ∷ (6 ∷ 18 ∷ 18 ∷ 18 ∷ [])
+    ∷ (7 ∷ 22 ∷ 22 ∷ 22 ∷ [])
+    ∷ (2 ∷ 6 ∷ 6 ∷ 6 ∷ [])
+    ∷ (2 ∷ 6 ∷ 6 ∷ 6 ∷ [])
+    ∷ (3 ∷ 8 ∷ 8 ∷ 8 ∷ [])
+    ∷ []
 
 -- the lengths that a least length and a step say
 abbrev pub lengthBy : ℕ → ℕ → Length

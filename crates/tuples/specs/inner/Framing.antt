@@ -8,8 +8,8 @@ use lib.ListN.{length}
 use Rattle.layout.specs.Fields.{size}
 use Rattle.layout.specs.Types.{Shape, indexed, row, pairs, words, unlisted}
 use Rattle.order.specs.Order.{bytesOf}
-use Rattle.turning.specs.Rows.{Value, number, text}
-use Rattle.turning.specs.inner.Codes.{woven, textFits}
+use Rattle.turning.specs.Rows.{Value, number, text, woven}
+use Rattle.turning.specs.inner.Codes.{textFits}
 
 -- ---- what a writer of a row hands over: its numbers in order, a remark's characters, the characters behind the fields, the attribute
 abbrev pub handedValues : Shape → List ℕ → List ℕ → List ℕ → ℕ → List Value

@@ -1,12 +1,10 @@
 -- What a reader finds at a place, as the functions that open a tuple say it. Assumes nothing.
 use mathlib.Core.Path.{_≡_}
-use Prim.Native.Nat.{ℕ, _-_}
+use Prim.Native.Nat.{ℕ}
 use mathlib.Core.Bool.{Bool, true}
-use mathlib.Core.List.{List, []}
+use mathlib.Core.List.{List}
 use Rattle.layout.specs.declared.Answer.the-variants.{Refused}
 use Rattle.layout.specs.declared.Verdict.the-variants.{Fine}
-use Rattle.layout.specs.Fields.{Field}
-use Rattle.layout.specs.Types.{Shape, indexed, row, pairs, words, unlisted, shapeOf}
 use Rattle.layout.specs.Answers.{accepting}
 use Rattle.frame.specs.declared.Walk.{Walk}
 use Rattle.frame.specs.declared.Step.the-variants.{Tuple}
@@ -14,21 +12,9 @@ use Rattle.frame.specs.declared.Step.the-variants
 use Rattle.frame.specs.Files.{isMsb}
 use Rattle.frame.specs.Steps.{stepForward}
 use Rattle.intake.specs.inner.Tallies.{ownVerdict}
-use Rattle.content.specs.Items.{rowIn}
 use Rattle.tuples.specs.declared.Opened.{Opened}
 use Rattle.tuples.specs.declared.Opened.the-variants as opened
 use Rattle.tuples.specs.Readers.{tupleThere, readAnswer}
-
--- the row of a type, in a tuple of n bytes, with its characters and its attribute
-abbrev pub rowBy : Shape → ℕ → List Field
-rowBy indexed m = []
-rowBy (row fs x) m = rowIn fs x m
-rowBy pairs m = []
-rowBy words m = []
-rowBy unlisted m = []
-
-abbrev pub rowOf : ℕ → ℕ → List Field
-rowOf k n = rowBy (shapeOf k) (n - 10)
 
 -- ---- what a reader finds
 -- a step forward finds a tuple of n bytes and of a type code

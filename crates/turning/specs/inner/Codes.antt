@@ -4,18 +4,10 @@ use mathlib.Core.List.{List, [], _∷_}
 use mathlib.Core.Option.{Option, some, none}
 use Prim.Native.Nat.{ℕ}
 use lib.Dec.{eqb}
-use lib.ListN.{length, drop, replicate, getD}
-use Rattle.order.specs.Order.{bytesOf}
-use Rattle.layout.specs.Fields.{Field, num, txt, gap, ident, widthOf, identifier}
-use Rattle.turning.specs.Rows.{Value, number, text, turnedField}
-
--- ---- values handed over apart: the numbers of a row in order, and the characters of its text
--- the numbers behind a field
-abbrev pub behindField : Field → List ℕ → List ℕ
-behindField (num g w) ns = drop 1 ns
-behindField (txt w) ns = ns
-behindField (gap w) ns = ns
-behindField ident ns = ns
+use lib.ListN.{length, take, replicate}
+use Rattle.order.specs.Order.{numOf, bytesOf}
+use Rattle.layout.specs.Fields.{Field, num, txt, gap, ident, widthOf, takes, identifier}
+use Rattle.turning.specs.Rows.{turnedField}
 
 -- the text is as wide as the characters of a row
 abbrev pub textFitsField : Field → List ℕ → Bool
@@ -27,17 +19,6 @@ textFitsField ident t = true
 abbrev pub textFits : List Field → List ℕ → Bool
 textFits [] t = true
 textFits (f ∷ fs) t = textFitsField f t && textFits fs t
-
--- the values of a row
-abbrev pub wovenField : Field → ℕ → List ℕ → List Value → List Value
-wovenField (num g w) n t vs = number n ∷ vs
-wovenField (txt w) n t vs = text t ∷ vs
-wovenField (gap w) n t vs = vs
-wovenField ident n t vs = vs
-
-abbrev pub woven : List Field → List ℕ → List ℕ → List Value
-woven [] ns t = []
-woven (f ∷ fs) ns t = wovenField f (getD ns 0 0) t (woven fs (behindField f ns) t)
 
 -- a field's bytes, where it is the next number's or the text's
 abbrev pub fieldBytes : Bool → Field → ℕ → List ℕ → List ℕ
@@ -65,12 +46,17 @@ codeBytes o none n t = []
 codeBytes o (some f) n t = fieldBytes o f n t
 
 -- how many numbers it takes
-abbrev pub takes : Field → ℕ
-takes (num g w) = 1
-takes (txt w) = 0
-takes (gap w) = 0
-takes ident = 0
-
 abbrev pub codeTakes : Option Field → ℕ
 codeTakes none = 0
 codeTakes (some f) = takes f
+
+-- what it asks of the routine that reads a row's numbers
+abbrev pub fieldNumbers : Bool → Field → List ℕ → List ℕ
+fieldNumbers o (num g w) bs = numOf o (take w bs) ∷ []
+fieldNumbers o (txt w) bs = []
+fieldNumbers o (gap w) bs = []
+fieldNumbers o ident bs = []
+
+abbrev pub codeNumbers : Bool → Option Field → List ℕ → List ℕ
+codeNumbers o none bs = []
+codeNumbers o (some f) bs = fieldNumbers o f bs

@@ -5,7 +5,7 @@ use mir.Syntax.{w16, w32}
 use mir.Facts.{toZ-ofZ}
 use Rattle.layout.specs.Types.{classes, inClass, kindOf, lineOf}
 use Rattle.turning.proofs.Contents.{valuesAt, values-at}
-use Rattle.tuples.specs.inner.Opening.{rowOf}
+use Rattle.tuples.specs.Readers.{rowOf}
 use Rattle.attitude.specs.Attitude.{attitudeOf}
 use Rattle.attitude.proofs.Attitude.at.Statement.{statement}
 use Rattle.attitude.proofs.Attitude.at.Tie as tie

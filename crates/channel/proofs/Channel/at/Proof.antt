@@ -4,7 +4,7 @@ use mir.Syntax.{w16, w32}
 use mir.Facts.{toZ-ofZ}
 use Rattle.layout.specs.Types.{classes, inClass, kindOf, lineOf}
 use Rattle.turning.proofs.Contents.{valuesAt, values-at}
-use Rattle.tuples.specs.inner.Opening.{rowOf}
+use Rattle.tuples.specs.Readers.{rowOf}
 use Rattle.channel.specs.Channel.{channelOf}
 use Rattle.tuples.proofs.Places.{field-place, field-ends}
 use Rattle.channel.proofs.Channel.at.Statement.{statement}

@@ -9,7 +9,7 @@ use mir.Syntax.{w32}
 use mir.Facts.{toZ-ofZ}
 use Rattle.layout.specs.Types.{classes, inClass, kindOf, lineOf}
 use Rattle.turning.proofs.Contents.{valuesAt, values-at}
-use Rattle.tuples.specs.inner.Opening.{rowOf}
+use Rattle.tuples.specs.Readers.{rowOf}
 use Rattle.event.specs.Event.{eventOf}
 use Rattle.event.proofs.Event.at.Statement.{statement}
 use Rattle.event.proofs.Event.at.Tie as tie

@@ -9,7 +9,7 @@ use mir.Syntax.{w32}
 use mir.Facts.{toZ-ofZ}
 use Rattle.layout.specs.Types.{classes, inClass, kindOf, lineOf}
 use Rattle.turning.proofs.Contents.{valuesAt, values-at}
-use Rattle.tuples.specs.inner.Opening.{rowOf}
+use Rattle.tuples.specs.Readers.{rowOf}
 use Rattle.file_end.specs.FileEnd.{fileEndOf}
 use Rattle.file_end.proofs.FileEnd.at.Statement.{statement}
 use Rattle.file_end.proofs.FileEnd.at.Tie as tie

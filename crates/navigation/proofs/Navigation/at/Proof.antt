@@ -5,7 +5,7 @@ use mir.Syntax.{w16, w32}
 use mir.Facts.{toZ-ofZ}
 use Rattle.layout.specs.Types.{classes, inClass, kindOf, lineOf}
 use Rattle.turning.proofs.Contents.{valuesAt, values-at}
-use Rattle.tuples.specs.inner.Opening.{rowOf}
+use Rattle.tuples.specs.Readers.{rowOf}
 use Rattle.navigation.specs.Navigation.{navigationOf}
 use Rattle.navigation.proofs.Navigation.at.Statement.{statement}
 use Rattle.navigation.proofs.Navigation.at.Tie as tie

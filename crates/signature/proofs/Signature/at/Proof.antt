@@ -5,7 +5,7 @@ use mir.Syntax.{w32}
 use mir.Facts.{toZ-ofZ}
 use Rattle.layout.specs.Types.{classes, inClass, kindOf, lineOf}
 use Rattle.turning.proofs.Contents.{valuesAt, values-at}
-use Rattle.tuples.specs.inner.Opening.{rowOf}
+use Rattle.tuples.specs.Readers.{rowOf}
 use Rattle.signature.specs.Signature.{signatureOf}
 use Rattle.signature.proofs.Signature.at.Statement.{statement}
 use Rattle.signature.proofs.Signature.at.Tie as tie

@@ -4,7 +4,7 @@ use mir.Syntax.{w32}
 use mir.Facts.{toZ-ofZ}
 use Rattle.layout.specs.Types.{classes, inClass, kindOf, lineOf}
 use Rattle.turning.proofs.Contents.{valuesAt, values-at}
-use Rattle.tuples.specs.inner.Opening.{rowOf}
+use Rattle.tuples.specs.Readers.{rowOf}
 use Rattle.threshold.specs.Threshold.{thresholdOf}
 use Rattle.tuples.proofs.Places.{field-place, field-ends}
 use Rattle.threshold.proofs.Threshold.at.Statement.{statement}

@@ -1,0 +1,49 @@
+-- `layout::measure` meets its contract: the code's table is `measures`. Assumes nothing.
+use mathlib.Core.Path.{_≡_, refl}
+use mathlib.Core.List.{[]}
+use native.Mathlib.Omega.{arith}
+use borrow.Author.Needs.{needs}
+use Rattle.layout.specs.inner.Codes.{measures}
+use Rattle.layout.proofs.Lines.{arm, at-least}
+use Rattle.layout.proofs.measure.Statement.{statement}
+use Rattle.layout.proofs.measure.Tie as tie
+
+-- behind the twelve arms one line is left
+returns-13 : tie.Need-returns-13
+unfolding measures
+returns-13 c =
+    let s = c .before .before in
+    let e : s .args .line ≡ 12 = omega (arith, s .pre, at-least 12 (s .args .line) (c .before .match .rest)) in
+    arm measures [] e refl
+
+pub measure-spec : {M : Type 1} → statement M
+unfolding measures
+measure-spec =
+    tie.close
+    (tie.spec
+    (λ c. search needs)
+    (λ c. search needs)
+    (λ c. search needs)
+    (λ c. search needs)
+    (λ c. search needs)
+    (λ c. search needs)
+    (λ c. search needs)
+    (λ c. search needs)
+    (λ c. search needs)
+    (λ c. search needs)
+    (λ c. search needs)
+    (λ c. search needs)
+    (λ c. search needs)
+    (λ c. arm measures [] (c .before .match .keys1) refl)
+    (λ c. arm measures [] (c .before .match .keys2) refl)
+    (λ c. arm measures [] (c .before .match .keys3) refl)
+    (λ c. arm measures [] (c .before .match .keys4) refl)
+    (λ c. arm measures [] (c .before .match .keys5) refl)
+    (λ c. arm measures [] (c .before .match .keys6) refl)
+    (λ c. arm measures [] (c .before .match .keys7) refl)
+    (λ c. arm measures [] (c .before .match .keys8) refl)
+    (λ c. arm measures [] (c .before .match .keys9) refl)
+    (λ c. arm measures [] (c .before .match .keys10) refl)
+    (λ c. arm measures [] (c .before .match .keys11) refl)
+    (λ c. arm measures [] (c .before .match .keys12) refl)
+    returns-13)

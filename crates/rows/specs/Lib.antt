@@ -1,0 +1,4 @@
+pub mod Readers
+pub mod Writers
+pub mod Integers
+pub mod Places

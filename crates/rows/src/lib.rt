@@ -1,0 +1,140 @@
+// Rows: the record of any type, read as the numbers of its row and written from them. Each record's view stands on these two calls.
+use layout::Answer;
+use layout::codes;
+use tuples::Opened;
+use tuples::Part;
+ghost use mathlib.Core.Path.{_≡_};
+ghost use Prim.Native.Nat.{_%_, _^_};
+ghost use Rattle.order.specs.Order.{signedOf, patternOf};
+ghost use Rattle.tuples.specs.Readers.{recordsOf};
+ghost use Rattle.tuples.specs.inner.Opening.{Readable};
+ghost use Rattle.rows.specs.Readers.{RowAt};
+ghost use Rattle.rows.specs.Writers.{RowWritten};
+
+// The bytes of a tuple around its fields and characters: data size and type, attribute and backlink.
+const AROUND: usize = 14;
+
+// What reading gives: the numbers are in lent memory, and where the characters stand; or a refusal.
+pub enum RowRead {
+    Read { text: Part },
+    Refused { code: u8, place: usize },
+}
+
+// Reads the record of the tuple that was opened; 19 at 0 for fewer numbers than it has.
+fn take_row(
+    file: &[u8],
+    place: usize,
+    code: u16,
+    msb: bool,
+    whole: usize,
+    numbers: &mut [u32],
+) -> RowRead
+    requires { ⌜ Readable (recordsOf code) (now file) place msb whole code ⌝ }
+    ensures { λ r. ⌜ RowAt code (now (file .entry)) place (now (numbers .entry)) r (now (numbers .exit)) ⌝ }
+{
+    let line = layout::kind_of(code).line();
+    let measure = layout::measure(line);
+    let many = measure[layout::NUMBERS];
+    if numbers.len() <= many {
+        return RowRead::Refused {
+            code: codes::NO_ROOM,
+            place: 0,
+        };
+    }
+    let row = layout::row(line);
+    turning::read_row(file, place + tuples::FIELDS, msb, &row, numbers);
+    numbers[many] = order::read4(file, place + whole - tuples::TAIL, msb);
+    RowRead::Read {
+        text: Part {
+            place: place + tuples::FIELDS + measure[layout::BEFORE],
+            length: whole - AROUND - measure[layout::BARE],
+        },
+    }
+}
+
+// Reads the record of a type at a place of a file: its numbers in the row's order, the attribute last, a signed one as its pattern.
+pub fn read_row(file: &[u8], place: usize, code: u16, numbers: &mut [u32]) -> RowRead
+    ensures { λ r. ⌜ RowAt code (now (file .entry)) place (now (numbers .entry)) r (now (numbers .exit)) ⌝ }
+{
+    match tuples::open_record(file, place, code) {
+        Opened::Refused { code, place } => RowRead::Refused { code, place },
+        Opened::Tuple {
+            msb,
+            whole,
+            code: _,
+        } => take_row(file, place, code, msb, whole, numbers),
+    }
+}
+
+// Writes the record of a type from the numbers of its row, in its order, the attribute last, and its characters.
+pub fn write_row(code: u16, numbers: &[u32], text: &[u8], msb: bool, out: &mut [u8]) -> Answer
+    ensures { λ r. ⌜ RowWritten code (now (numbers .entry)) (now (text .entry)) msb (now (out .entry)) r (now (out .exit)) ⌝ }
+{
+    let kind = layout::kind_of(code);
+    if !tuples::is_record(kind) {
+        return layout::refuse(codes::UNFIT, 0);
+    }
+    let measure = layout::measure(kind.line());
+    let many = measure[layout::NUMBERS];
+    if numbers.len() <= many {
+        return layout::refuse(codes::UNFIT, 0);
+    }
+    let bare = measure[layout::BARE];
+    let whole = bare + text.len() + AROUND;
+    if !kind.fits(whole) {
+        return layout::refuse(codes::UNFIT, 0);
+    }
+    if frame::MOST < whole {
+        return layout::refuse(codes::OVERFULL, 0);
+    }
+    let attribute = order::signed4(numbers[many]);
+    // the characters are the row's own, or stand behind its fields
+    if bare < measure[layout::SIZE] {
+        return tuples::write_tuple(code, whole, numbers, text, &[], attribute, msb, out);
+    }
+    tuples::write_tuple(code, whole, numbers, &[], text, attribute, msb, out)
+}
+
+// A field of a view by a number of its row: the lower bytes of its width, signed or not.
+pub fn unsigned2(n: u32) -> u16
+    ensures { λ r. ⌜ r ≡ n % 256 ^ 2 ⌝ }
+{
+    (n % 65536) as u16
+}
+
+pub fn unsigned4(n: u32) -> u32
+    ensures { λ r. ⌜ r ≡ n % 256 ^ 4 ⌝ }
+{
+    n
+}
+
+pub fn signed2(n: u32) -> i16
+    ensures { λ r. ⌜ r ≡ signedOf 2 (n % 256 ^ 2) ⌝ }
+{
+    order::signed2(unsigned2(n))
+}
+
+pub fn signed4(n: u32) -> i32
+    ensures { λ r. ⌜ r ≡ signedOf 4 (n % 256 ^ 4) ⌝ }
+{
+    order::signed4(unsigned4(n))
+}
+
+// A number of a row by a view's field.
+pub fn of_unsigned2(n: u16) -> u32
+    ensures { λ r. ⌜ r ≡ n ⌝ }
+{
+    n as u32
+}
+
+pub fn of_signed2(z: i16) -> u32
+    ensures { λ r. ⌜ r ≡ patternOf 2 z ⌝ }
+{
+    of_unsigned2(order::pattern2(z))
+}
+
+pub fn of_signed4(z: i32) -> u32
+    ensures { λ r. ⌜ r ≡ patternOf 4 z ⌝ }
+{
+    order::pattern4(z)
+}

@@ -1,0 +1,114 @@
+-- The loop over a row's codes that reads its numbers. Assumes nothing.
+use mathlib.Core.Path.{_≡_, refl, sym, ap, ap₂, _∙_}
+use mathlib.Core.Bool.{Bool}
+use mathlib.Core.List.{List, [], _∷_, _++_}
+use mathlib.Core.Logic.{_⊎_}
+use mathlib.Core.Option.{Option, some, none}
+use Prim.Native.Nat.{ℕ, _+_, _<_, _≤_, zero-le}
+use native.Mathlib.Omega.{arith}
+use lib.ListN.{length, getD, take, drop, set, length-append}
+use lib.Seq.{sets, drop-drop}
+use Rattle.order.specs.Order.{numOf}
+use Rattle.order.proofs.Stores.{sets-append}
+use Rattle.layout.specs.Fields.{Field, num, txt, gap, ident, widthOf, takes, many}
+use Rattle.layout.specs.inner.Codes.{fieldOf, fieldsFrom, fieldsOf}
+use Rattle.turning.specs.Rows.{Value, valuesOf, numbersIn}
+use Rattle.turning.specs.inner.Codes.{codeWidth, codeTakes, fieldNumbers, codeNumbers}
+use Rattle.turning.proofs.Turns.{two, four, left}
+
+-- ---- what each arm of the code reads: the number of its codes, or none
+abbrev pub Took : ℕ → Bool → List ℕ → List ℕ → ℕ → ℕ → List ℕ → Type 0
+Took k o bs ns next w now =
+    (now ≡ sets ns next (codeNumbers o (fieldOf k) bs)) × ((w ≡ codeWidth (fieldOf k)) × (w ≡ 0 → fieldOf k ≡ none))
+
+module _ (k next : ℕ) (o : Bool) (bs ns : List ℕ) where
+  pub took2 : (k ≡ 50) ⊎ (k ≡ 115) → (m : ℕ) → m ≡ numOf o (take 2 bs) → Took k o bs ns next 2 (set ns next m)
+  took2 a m e = rw (two a) (ap (set ns next) e, (refl, λ z. absurd (omega (arith, z))))
+
+  pub took4 : (k ≡ 52) ⊎ (k ≡ 83) → (m : ℕ) → m ≡ numOf o (take 4 bs) → Took k o bs ns next 4 (set ns next m)
+  took4 a m e = rw (four a) (ap (set ns next) e, (refl, λ z. absurd (omega (arith, z))))
+
+  pub took-text : k ≡ 99 → Took k o bs ns next 30 ns
+  unfolding fieldOf
+  took-text a = rw a (refl, (refl, λ z. absurd (omega (arith, z))))
+
+  pub took-space : k ≡ 122 → Took k o bs ns next 2 ns
+  unfolding fieldOf
+  took-space a = rw a (refl, (refl, λ z. absurd (omega (arith, z))))
+
+  pub took-ident : k ≡ 105 → Took k o bs ns next 2 ns
+  unfolding fieldOf
+  took-ident a = rw a (refl, (refl, λ z. absurd (omega (arith, z))))
+
+-- ---- one field
+pub numbers-cons : (o : Bool) (f : Field) (fs : List Field) (bs : List ℕ)
+    → numbersIn (valuesOf o (f ∷ fs) bs) ≡ fieldNumbers o f bs ++ numbersIn (valuesOf o fs (drop (widthOf f) bs))
+numbers-cons o (num g w) fs bs = refl
+numbers-cons o (txt w) fs bs = refl
+numbers-cons o (gap w) fs bs = refl
+numbers-cons o ident fs bs = refl
+
+length-field-numbers : (o : Bool) (f : Field) (bs : List ℕ) → length (fieldNumbers o f bs) ≡ takes f
+length-field-numbers o (num g w) bs = refl
+length-field-numbers o (txt w) bs = refl
+length-field-numbers o (gap w) bs = refl
+length-field-numbers o ident bs = refl
+
+-- ---- a row has as many numbers as its fields take
+pub length-numbers : (o : Bool) (fs : List Field) (bs : List ℕ) → length (numbersIn (valuesOf o fs bs)) ≡ many fs
+length-numbers o [] bs = refl
+length-numbers o (f ∷ fs) bs =
+    ap length (numbers-cons o f fs bs)
+    ∙ length-append (fieldNumbers o f bs) (numbersIn (valuesOf o fs (drop (widthOf f) bs)))
+    ∙ ap₂ _+_ (length-field-numbers o f bs) (length-numbers o fs (drop (widthOf f) bs))
+
+-- ---- a code's field, if it has one, and the fields behind it
+module _ (fs : List Field) where
+  few : (x : Option Field) → codeTakes x ≤ many (fieldsFrom x fs)
+  few none = zero-le
+  few (some f) = omega arith
+
+  module _ (w : ℕ) (some-bytes : w ≡ 0 → ⊥) where
+    many-from : (x : Option Field) → w ≡ codeWidth x → many (fieldsFrom x fs) ≡ codeTakes x + many fs
+    many-from none e = absurd (some-bytes e)
+    many-from (some f) e = refl
+
+    -- what was read, and what is left to read, is all
+    read-from : (x : Option Field) → w ≡ codeWidth x → (o : Bool) (src ns : List ℕ) (from next : ℕ)
+        → sets (sets ns next (codeNumbers o x (drop from src))) (next + codeTakes x) (numbersIn (valuesOf o fs (drop (from + w) src)))
+        ≡ sets ns next (numbersIn (valuesOf o (fieldsFrom x fs) (drop from src)))
+    read-from none e o src ns from next = absurd (some-bytes e)
+    read-from (some f) e o src ns from next =
+        let bs = drop from src in
+        let taken = fieldNumbers o f (drop from src) in
+        let rest = numbersIn (valuesOf o fs (drop (widthOf f) (drop from src))) in
+        ap (λ (i : ℕ). sets (sets ns next taken) (next + takes f) (numbersIn (valuesOf o fs (drop (from + i) src)))) e
+        ∙ ap (λ (l : List ℕ). sets (sets ns next taken) (next + takes f) (numbersIn (valuesOf o fs l))) (sym (drop-drop (widthOf f) from src))
+        ∙ ap (λ (i : ℕ). sets (sets ns next taken) (next + i) rest) (sym (length-field-numbers o f bs))
+        ∙ sym (sets-append taken rest ns next)
+        ∙ ap (sets ns next) (sym (numbers-cons o f fs bs))
+
+-- ---- the code at i of a row
+module _ (row : List ℕ) (i : ℕ) (more : i < length row) where
+  abbrev behind : List Field
+  behind = fieldsOf (drop (i + 1) row)
+
+  abbrev here : Option Field
+  here = fieldOf (getD row i 0)
+
+  pub takes-room : codeTakes (fieldOf (getD row i 0)) ≤ many (fieldsOf (drop i row))
+  takes-room = rw (left row i more) (few behind here)
+
+  module _ (w : ℕ) (is : w ≡ codeWidth (fieldOf (getD row i 0))) (some-bytes : w ≡ 0 → ⊥) where
+    pub many-step : many (fieldsOf (drop i row)) ≡ codeTakes (fieldOf (getD row i 0)) + many (fieldsOf (drop (i + 1) row))
+    many-step = rw (left row i more) (many-from behind w some-bytes here is)
+
+    pub read-step : (o : Bool) (src ns : List ℕ) (from next : ℕ)
+        → sets (sets ns next (codeNumbers o (fieldOf (getD row i 0)) (drop from src))) (next + codeTakes (fieldOf (getD row i 0)))
+        (numbersIn (valuesOf o (fieldsOf (drop (i + 1) row)) (drop (from + w) src)))
+        ≡ sets ns next (numbersIn (valuesOf o (fieldsOf (drop i row)) (drop from src)))
+    read-step o src ns from next = rw (left row i more) (read-from behind w some-bytes here is o src ns from next)
+
+-- where no field is left, nothing is left to read
+pub nothing-read : (fs : List Field) → fs ≡ [] → (o : Bool) (ns bs : List ℕ) (next : ℕ) → sets ns next (numbersIn (valuesOf o fs bs)) ≡ ns
+nothing-read fs e o ns bs next = rw e
