@@ -1,13 +1,13 @@
 -- The code's tables are the printed ones: one test that antt computes over all listed kinds, and the law that turns it into the
 -- rule at each. Assumes nothing.
 use mathlib.Core.Path.{_≡_, refl, sym, ap, ap₂, _∙_}
-use mathlib.Core.Bool.{true, false}
+use mathlib.Core.Bool.{Bool, true, false}
 use mathlib.Core.List.{List, [], _∷_, _++_, map}
 use mathlib.Core.Option.{some, none}
 use Prim.Native.Nat.{ℕ, zero, suc, _+_, _-_, _%_, _<_, _≤_}
 use native.Mathlib.Omega.{arith}
 use borrow.Author.Tests.{le-leb, lt-leb}
-use lib.Dec.{eqb, lit<}
+use lib.Dec.{eqb, leb, lit<}
 use lib.ListN.{getD, List·getD-map}
 use Rattle.layout.specs.declared.Kind.{Kind}
 use Rattle.layout.specs.declared.Kind.the-variants.{Signature, Sounder, Channel, Position, Navigation, Attitude, Threshold, Event, PingU, PingC, RunStart, RunEnd, FileEnd, Index, Unlisted}
@@ -23,23 +23,30 @@ fieldsIn pairs = pingRow
 fieldsIn words = pingRow ++ (u 4 ∷ [])
 fieldsIn unlisted = []
 
--- what the tables say of a kind: its fields, its lengths, and these by its row; what its row measures
+-- what the tables say of a kind: its fields, its lengths, and these by its row; what its row measures, and that this is little
 pub record Said : Type 0 where
   pub fields : List Field
   pub lengths : Length
   pub byRow : Length
   pub measure : List ℕ
+  pub little : Bool
 
 abbrev pub coded : Kind → Said
 coded q =
     let i = placeIn q in
     let n = lengthBy (getD leasts i 0) (getD steps i 0) in
-    record { fields = fieldsOf (getD rowCodes i []); lengths = n; byRow = n; measure = getD measures i [] }
+    record { fields = fieldsOf (getD rowCodes i []); lengths = n; byRow = n; measure = getD measures i []; little = true }
 
 abbrev pub printed : Kind → Said
 printed q =
     let l = lineOf q in
-    record { fields = fieldsIn (l .shape); lengths = l .length; byRow = lengthFrom (l .shape); measure = measured (fieldsIn (l .shape)) }
+    record {
+      fields = fieldsIn (l .shape);
+      lengths = l .length;
+      byRow = lengthFrom (l .shape);
+      measure = measured (fieldsIn (l .shape));
+      little = leb (size (fieldsIn (l .shape))) 255;
+    }
 
 test : map coded listed ≡ map printed listed
 unfolding listed fieldOf fieldsOf rowCodes leasts steps measures lineOf

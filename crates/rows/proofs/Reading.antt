@@ -187,12 +187,12 @@ module _ {k : ℕ} {f : List ℕ} {p : ℕ} {o : Bool} {n : ℕ} (r : Readable (
       ∙ sym (text-length o (rowBy (shapeOf k) (n - 10)) (drop (p + 6) f) filled)
       ∙ ap (λ (vs : List Value). length (textIn vs)) (sym there)
 
-  module _ (lent : List ℕ) (many : ℕ) (is : many ≡ many (fieldsBy (shapeOf k))) where
-    few : many + 1 ≡ countOf k
+  module _ (lent : List ℕ) (held : ℕ) (is : held ≡ many (fieldsBy (shapeOf k))) where
+    few : held + 1 ≡ countOf k
     few = omega (arith, is, row-many (shapeOf k) (0 - 10) opened-row)
 
     -- too few numbers are lent
-    pub untaken : length lent ≤ many → RowAt k f p lent (Refused 19 0) lent
+    pub untaken : length lent ≤ held → RowAt k f p lent (Refused 19 0) lent
     unfolding rowAnswer
     untaken h =
         let short = lt-ltb (length lent) (countOf k) (omega (arith, few)) in
@@ -200,16 +200,16 @@ module _ {k : ℕ} {f : List ℕ} {p : ℕ} {o : Bool} {n : ℕ} (r : Readable (
         record { answer = tells e; outcome = ap (λ (x : Answer). answered x (rowText k f p)) e; memory = ap (λ (x : Answer). leftBy x (rowNumbers f p) lent) e }
 
     -- enough are
-    module _ (room : many < length lent) where
+    module _ (room : held < length lent) where
       accepted : accepting 1 0 ≡ rowAnswer k f p (length lent)
       unfolding rowAnswer
       accepted = ap₂ lentBy (sym (le-ltb (length lent) (countOf k) (omega (arith, few)))) (r .answer)
 
-      stored : sets (sets lent 0 (numbersIn (valuesOf o (fieldsBy (shapeOf k)) (drop (p + 6) f)))) many (numOf o (take 4 (drop (p + n - 8) f)) ∷ []) ≡ rowNumbers f p ++ drop (length (rowNumbers f p)) lent
+      stored : sets (sets lent 0 (numbersIn (valuesOf o (fieldsBy (shapeOf k)) (drop (p + 6) f)))) held (numOf o (take 4 (drop (p + n - 8) f)) ∷ []) ≡ rowNumbers f p ++ drop (length (rowNumbers f p)) lent
       stored =
           let xs = numbersIn (valuesOf o (fieldsBy (shapeOf k)) (drop (p + 6) f)) in
           let v = numOf o (take 4 (drop (p + n - 8) f)) in
-          let l : many ≡ 0 + length (numbersIn (valuesOf o (fieldsBy (shapeOf k)) (drop (p + 6) f))) = omega (arith, is, length-numbers o (fieldsBy (shapeOf k)) (drop (p + 6) f)) in
+          let l : held ≡ 0 + length (numbersIn (valuesOf o (fieldsBy (shapeOf k)) (drop (p + 6) f))) = omega (arith, is, length-numbers o (fieldsBy (shapeOf k)) (drop (p + 6) f)) in
           let z : 0 + length (rowNumbers f p) ≡ length (rowNumbers f p) = omega arith in
           ap (λ (i : ℕ). sets (sets lent 0 xs) i (v ∷ [])) l
           ∙ sym (sets-append xs (v ∷ []) lent 0)
@@ -218,7 +218,7 @@ module _ {k : ℕ} {f : List ℕ} {p : ℕ} {o : Bool} {n : ℕ} (r : Readable (
           ∙ ap (λ (i : ℕ). rowNumbers f p ++ drop i lent) z
 
       pub taken : (t : Part) (left : List ℕ) → t ≡ rowText k f p
-          → left ≡ sets (sets lent 0 (numbersIn (valuesOf o (fieldsBy (shapeOf k)) (drop (p + 6) f)))) many (numOf o (take 4 (drop (p + n - 8) f)) ∷ [])
+          → left ≡ sets (sets lent 0 (numbersIn (valuesOf o (fieldsBy (shapeOf k)) (drop (p + 6) f)))) held (numOf o (take 4 (drop (p + n - 8) f)) ∷ [])
           → RowAt k f p lent (Read t) left
       taken t left e h =
           record {

@@ -11,7 +11,7 @@ use lib.ListN.{length, replicate, getD}
 use Rattle.rules.proofs.Bools.{both-true}
 use Rattle.layout.specs.declared.Kind.{Kind}
 use Rattle.layout.specs.declared.Kind.the-variants.{Signature, Sounder, Channel, Position, Navigation, Attitude, Threshold, Event, PingU, PingC, RunStart, RunEnd, FileEnd, Index, Unlisted}
-use Rattle.layout.specs.Fields.{Field, num, txt, gap, ident, s, size, many, bareSize}
+use Rattle.layout.specs.Fields.{Field, num, txt, gap, ident, s, size, many, bareSize, beforeText}
 use Rattle.layout.specs.Types.{Shape, indexed, row, pairs, words, unlisted, kindOf, shapeOf, lineOf, placeIn, fitting, lengthFrom}
 use Rattle.layout.specs.inner.Codes.{fieldsOf, rowCodes, measures, measured}
 use Rattle.layout.proofs.Tables.{Said, fieldsIn, tabled, by-kind}
@@ -50,6 +50,12 @@ module _ (k : ℕ) (z : IsRow (shapeOf k)) where
   -- and so is what is measured of it
   pub row-measure : getD measures (placeIn (kindOf k)) [] ≡ measured (fieldsBy (shapeOf k))
   row-measure = ap (λ (x : Said). x .measure) (tabled (kindOf k) row-listed) ∙ ap measured (in-fields (shapeOf k) z)
+
+  -- which is little
+  pub row-little : size (fieldsBy (shapeOf k)) ≤ 255
+  row-little =
+      leb-true (size (fieldsBy (shapeOf k))) 255
+      (ap (λ (fs : List Field). leb (size fs) 255) (sym (in-fields (shapeOf k) z)) ∙ sym (ap (λ (x : Said). x .little) (tabled (kindOf k) row-listed)))
 
 -- ---- the characters of a row
 -- how many the first of its fields of characters has
@@ -121,6 +127,13 @@ bare-size (num g w ∷ fs) = omega (arith, bare-size fs)
 bare-size (txt w ∷ fs) = omega (arith, bare-size fs)
 bare-size (gap w ∷ fs) = omega (arith, bare-size fs)
 bare-size (ident ∷ fs) = omega (arith, bare-size fs)
+
+pub before-size : (fs : List Field) → beforeText fs ≤ size fs
+before-size [] = zero-le
+before-size (num g w ∷ fs) = omega (arith, before-size fs)
+before-size (txt w ∷ fs) = zero-le
+before-size (gap w ∷ fs) = omega (arith, before-size fs)
+before-size (ident ∷ fs) = omega (arith, before-size fs)
 
 -- whether a text fits goes by its length
 pub fits-by : (fs : List Field) (t u : List ℕ) → length t ≡ length u → textFits fs t ≡ textFits fs u

@@ -56,6 +56,7 @@ module _ {k : ℕ} {f : List ℕ} {p : ℕ} {lent left : List ℕ} {t : Part} (r
   as-part (Refused c q) = rowText k f p
 
   pub read-text : t ≡ rowText k f p
+  unfolding as-part
   read-text = ap as-part (r .outcome ∙ ap (λ (a : Answer). answered a (rowText k f p)) (sym (r .answer .is)))
 
   -- it has all its numbers

@@ -104,6 +104,9 @@ module _ (k : ℕ) (ns t : List ℕ) (o : Bool) (out : List ℕ) where
   abbrev bytes : List ℕ
   bytes = plainBytes o k (rowValues k ns t)
 
+  abbrev few : Rule Answer
+  few = ltb (length ns) (countOf k) ⇒ Refused 9 0
+
   abbrev unfitted : Rule Answer
   unfitted = not (fitting (lengthsOf k) (rowLength k t)) ⇒ Refused 9 0
 
@@ -111,55 +114,93 @@ module _ (k : ℕ) (ns t : List ℕ) (o : Bool) (out : List ℕ) where
   overlong = ltb 262144 (rowLength k t) ⇒ Refused 11 0
 
   pub no-record : isRecord k ≡ false → RowWritten k ns t o out (Refused 9 0) out
-  no-record e = refused-first (not (isRecord k)) 9 0 ((ltb (length ns) (countOf k) ⇒ Refused 9 0) ∷ unfitted ∷ overlong ∷ []) bytes out (ap not e)
+  no-record e = refused-first (not (isRecord k)) 9 0 (few ∷ unfitted ∷ overlong ∷ []) bytes out (ap not e)
 
-  module _ (a : isRecord k ≡ true) (many : ℕ) (is : many ≡ many (fieldsBy (shapeOf k))) where
-    few : many + 1 ≡ countOf k
-    few = omega (arith, is, row-many (shapeOf k) (0 - 10) (is-row (shapeOf k) a))
+  -- it is a record's type, with so many numbers before the attribute
+  module _ (a : isRecord k ≡ true) {held : ℕ} (is : held ≡ many (fieldsBy (shapeOf k))) where
+    with-attribute : held + 1 ≡ countOf k
+    with-attribute = omega (arith, is, row-many (shapeOf k) (0 - 10) (is-row (shapeOf k) a))
 
-    past : {r : Answer} {left : List ℕ} → Written ((ltb (length ns) (countOf k) ⇒ Refused 9 0) ∷ unfitted ∷ overlong ∷ []) bytes out r left → RowWritten k ns t o out r left
-    past w = written-past (not (isRecord k)) (Refused 9 0) ((ltb (length ns) (countOf k) ⇒ Refused 9 0) ∷ unfitted ∷ overlong ∷ []) bytes out (ap not a) w
+    past : {r : Answer} {left : List ℕ} → Written (few ∷ unfitted ∷ overlong ∷ []) bytes out r left → RowWritten k ns t o out r left
+    past w = written-past (not (isRecord k)) (Refused 9 0) (few ∷ unfitted ∷ overlong ∷ []) bytes out (ap not a) w
 
-    pub too-few : length ns ≤ many → RowWritten k ns t o out (Refused 9 0) out
-    too-few h = past (refused-first (ltb (length ns) (countOf k)) 9 0 (unfitted ∷ overlong ∷ []) bytes out (lt-ltb (length ns) (countOf k) (omega (arith, few))))
+    pub too-few : length ns ≤ held → RowWritten k ns t o out (Refused 9 0) out
+    too-few h =
+        past (refused-first (ltb (length ns) (countOf k)) 9 0 (unfitted ∷ overlong ∷ []) bytes out (lt-ltb (length ns) (countOf k) (omega (arith, with-attribute))))
 
-    module _ (room : many < length ns) (n : ℕ) (whole : n ≡ rowLength k t) where
+    -- they are there, and its tuple would have n bytes
+    module _ (room : held < length ns) {n : ℕ} (whole : n ≡ rowLength k t) where
       past-few : {r : Answer} {left : List ℕ} → Written (unfitted ∷ overlong ∷ []) bytes out r left → RowWritten k ns t o out r left
-      past-few w = past (written-past (ltb (length ns) (countOf k)) (Refused 9 0) (unfitted ∷ overlong ∷ []) bytes out (le-ltb (length ns) (countOf k) (omega (arith, few))) w)
+      past-few w =
+          past
+          (written-past (ltb (length ns) (countOf k)) (Refused 9 0) (unfitted ∷ overlong ∷ []) bytes out
+          (le-ltb (length ns) (countOf k) (omega (arith, with-attribute))) w)
 
       pub unfit : fitting (lengthsOf k) n ≡ false → RowWritten k ns t o out (Refused 9 0) out
-      unfit e = past-few (refused-first (not (fitting (lengthsOf k) (rowLength k t))) 9 0 (overlong ∷ []) bytes out (ap not (ap (fitting (lengthsOf k)) (sym whole) ∙ e)))
+      unfit e =
+          past-few
+          (refused-first (not (fitting (lengthsOf k) (rowLength k t))) 9 0 (overlong ∷ []) bytes out
+          (ap not (ap (fitting (lengthsOf k)) (sym whole) ∙ e)))
 
+      -- that length fits the type
       module _ (fit : fitting (lengthsOf k) n ≡ true) where
         past-unfit : {r : Answer} {left : List ℕ} → Written (overlong ∷ []) bytes out r left → RowWritten k ns t o out r left
-        past-unfit w = past-few (written-past (not (fitting (lengthsOf k) (rowLength k t))) (Refused 9 0) (overlong ∷ []) bytes out (ap not (ap (fitting (lengthsOf k)) (sym whole) ∙ fit)) w)
+        past-unfit w =
+            past-few
+            (written-past (not (fitting (lengthsOf k) (rowLength k t))) (Refused 9 0) (overlong ∷ []) bytes out
+            (ap not (ap (fitting (lengthsOf k)) (sym whole) ∙ fit)) w)
 
         pub over : 262144 < n → RowWritten k ns t o out (Refused 11 0) out
         over h = past-unfit (refused-first (ltb 262144 (rowLength k t)) 11 0 [] bytes out (lt-ltb 262144 (rowLength k t) (omega (arith, whole))))
 
-        module _ (most : n ≤ 262144) where
-          by-tuple : {r : Answer} {left : List ℕ} → Written [] (plainBytes o k (rowValues k ns t)) out r left → RowWritten k ns t o out r left
-          by-tuple w = past-unfit (written-past (ltb 262144 (rowLength k t)) (Refused 11 0) [] bytes out (le-ltb 262144 (rowLength k t) (omega (arith, whole))) w)
+        by-tuple : n ≤ 262144 → {r : Answer} {left : List ℕ} → Written [] (plainBytes o k (rowValues k ns t)) out r left → RowWritten k ns t o out r left
+        by-tuple most w =
+            past-unfit (written-past (ltb 262144 (rowLength k t)) (Refused 11 0) [] bytes out (le-ltb 262144 (rowLength k t) (omega (arith, whole))) w)
 
-          attribute-at : (x : ℕ) → x ≡ getD ns many 0 → x ≡ getD ns (many (fieldsBy (shapeOf k))) 0
-          attribute-at x e = e ∙ ap (λ (i : ℕ). getD ns i 0) is
+-- ---- all rules are kept: a type of records, so many numbers before the attribute, all there, a length that fits and isn't too long
+pub record Kept (k : ℕ) (ns t : List ℕ) (held n : ℕ) : Type 0 where
+  pub type : isRecord k ≡ true
+  pub numbers : held ≡ many (fieldsBy (shapeOf k))
+  pub there : held < length ns
+  pub whole : n ≡ rowLength k t
+  pub fits : fitting (lengthsOf k) n ≡ true
+  pub most : n ≤ 262144
 
-          module _ (less : bareSize (fieldsBy (shapeOf k)) < size (fieldsBy (shapeOf k))) where
-            both-own : Handable (shapeOf k) ns t [] n × (handedValues (shapeOf k) ns t [] (getD ns (many (fieldsBy (shapeOf k))) 0) ≡ woven (rowBy (shapeOf k) 0) ns t)
-            both-own = own ns t n most (shapeOf k) (is-row (shapeOf k) a) (textual (kindOf k)) (lengths-row k n fit) whole less
+module _ {k : ℕ} {ns t : List ℕ} {held n : ℕ} (c : Kept k ns t held n) where
+  abbrev q : Shape
+  q = shapeOf k
 
-            pub own-handable : Handable (shapeOf k) ns t [] n
-            own-handable = both-own .0
+  is : IsRow (shapeOf k)
+  is = is-row (shapeOf k) (c .type)
 
-            pub own-written : (x : ℕ) → x ≡ getD ns many 0 → {r : Answer} {left : List ℕ} → Written [] (plainBytes o k (handedValues (shapeOf k) ns t [] x)) out r left → RowWritten k ns t o out r left
-            own-written x e w = by-tuple (as-values o k (ap (handedValues (shapeOf k) ns t []) (attribute-at x e) ∙ both-own .1) w)
+  -- what is handed over as the row's own characters ..
+  module _ (less : bareSize (fieldsBy (shapeOf k)) < size (fieldsBy (shapeOf k))) where
+    both-own : Handable (shapeOf k) ns t [] n × (handedValues (shapeOf k) ns t [] (getD ns (many (fieldsBy (shapeOf k))) 0) ≡ woven (rowBy (shapeOf k) 0) ns t)
+    both-own = own ns t n (c .most) q is (textual (kindOf k)) (lengths-row k n (c .fits)) (c .whole) less
 
-          module _ (full : size (fieldsBy (shapeOf k)) ≤ bareSize (fieldsBy (shapeOf k))) where
-            both-behind : Handable (shapeOf k) ns [] t n × (handedValues (shapeOf k) ns [] t (getD ns (many (fieldsBy (shapeOf k))) 0) ≡ woven (rowBy (shapeOf k) 0) ns t)
-            both-behind = behind ns t n most (shapeOf k) (is-row (shapeOf k) a) (textual (kindOf k)) (lengths-row k n fit) whole full
+    pub own-handable : Handable (shapeOf k) ns t [] n
+    own-handable = both-own .0
 
-            pub behind-handable : Handable (shapeOf k) ns [] t n
-            behind-handable = both-behind .0
+  -- .. or as those behind its fields
+  module _ (full : size (fieldsBy (shapeOf k)) ≤ bareSize (fieldsBy (shapeOf k))) where
+    both-behind : Handable (shapeOf k) ns [] t n × (handedValues (shapeOf k) ns [] t (getD ns (many (fieldsBy (shapeOf k))) 0) ≡ woven (rowBy (shapeOf k) 0) ns t)
+    both-behind = behind ns t n (c .most) q is (textual (kindOf k)) (lengths-row k n (c .fits)) (c .whole) full
 
-            pub behind-written : (x : ℕ) → x ≡ getD ns many 0 → {r : Answer} {left : List ℕ} → Written [] (plainBytes o k (handedValues (shapeOf k) ns [] t x)) out r left → RowWritten k ns t o out r left
-            behind-written x e w = by-tuple (as-values o k (ap (handedValues (shapeOf k) ns [] t) (attribute-at x e) ∙ both-behind .1) w)
+    pub behind-handable : Handable (shapeOf k) ns [] t n
+    behind-handable = both-behind .0
+
+  -- and the attribute x, is the record's values
+  attribute-at : (x : ℕ) → x ≡ getD ns held 0 → x ≡ getD ns (many (fieldsBy (shapeOf k))) 0
+  attribute-at x e = e ∙ ap (λ (i : ℕ). getD ns i 0) (c .numbers)
+
+  module _ (o : Bool) (out : List ℕ) {r : Answer} {left : List ℕ} where
+    wrote : Written [] (plainBytes o k (rowValues k ns t)) out r left → RowWritten k ns t o out r left
+    wrote w = by-tuple k ns t o out (c .type) (c .numbers) (c .there) (c .whole) (c .fits) (c .most) w
+
+    pub own-written : (x : ℕ) → x ≡ getD ns held 0 → bareSize (fieldsBy (shapeOf k)) < size (fieldsBy (shapeOf k))
+        → Written [] (plainBytes o k (handedValues (shapeOf k) ns t [] x)) out r left → RowWritten k ns t o out r left
+    own-written x e less w = wrote (as-values o k (ap (handedValues q ns t []) (attribute-at x e) ∙ both-own less .1) w)
+
+    pub behind-written : (x : ℕ) → x ≡ getD ns held 0 → size (fieldsBy (shapeOf k)) ≤ bareSize (fieldsBy (shapeOf k))
+        → Written [] (plainBytes o k (handedValues (shapeOf k) ns [] t x)) out r left → RowWritten k ns t o out r left
+    behind-written x e full w = wrote (as-values o k (ap (handedValues q ns [] t) (attribute-at x e) ∙ both-behind full .1) w)
