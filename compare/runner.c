@@ -4,7 +4,8 @@
    many arguments, where in the bytes lent the code that it hands back goes, then the arguments. An argument: its kind, then the
    number, or a slice's place, bytes and entries. The answer: the lent bytes as the calls left them.
    With any argument each slice is a block of its own, so that a tool that watches the heap sees a step outside of it.
-   What it needs of the C library is declared here, since no C header for x86-64 need be there. */
+   calls.list has the exports, CALL(name) each; tests/calls makes it from include/hac.h. What is needed of the C library is
+   declared here, since no C header for x86-64 need be there. */
 
 typedef unsigned long word;
 
@@ -15,17 +16,16 @@ void free(void *block);
 void *memcpy(void *to, const void *from, word count);
 
 /* The most words that an export takes, and the most slices of them; the kinds of argument. */
-enum { WORDS = 40, SLICES = 8 };
+enum { WORDS = 24, SLICES = 8 };
 enum { NUMBER, GIVEN, LENT };
 
 typedef unsigned char export(word, word, word, word, word, word, word, word, word, word, word, word, word, word, word, word, word,
-                             word, word, word, word, word, word, word, word, word, word, word, word, word, word, word, word, word,
-                             word, word, word, word, word, word);
+                             word, word, word, word, word, word, word);
 
-#define CALL(name, entries) export name;
+#define CALL(name) export name;
 #include "calls.list"
 #undef CALL
-#define CALL(name, entries) name,
+#define CALL(name) name,
 static export *const exports[] = {
 #include "calls.list"
 };
@@ -33,8 +33,7 @@ static export *const exports[] = {
 /* An export takes as many of the words as it has parameters: by the C convention the others do no harm. */
 static word call(export *e, const word *a) {
     return e(a[0], a[1], a[2], a[3], a[4], a[5], a[6], a[7], a[8], a[9], a[10], a[11], a[12], a[13], a[14], a[15], a[16], a[17],
-             a[18], a[19], a[20], a[21], a[22], a[23], a[24], a[25], a[26], a[27], a[28], a[29], a[30], a[31], a[32], a[33],
-             a[34], a[35], a[36], a[37], a[38], a[39]);
+             a[18], a[19], a[20], a[21], a[22], a[23]);
 }
 
 /* A batch's memory, and whether slices are blocks of their own. */

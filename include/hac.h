@@ -9,22 +9,31 @@
    - Each call has a least number of entries, HAC_.._ENTRIES. Where `entries` is less it returns HAC_NO_ROOM and writes nothing.
    - Accepted: code 0, place 0, tuples, length, compared, then the fields. Entries behind the call's own stay as they were.
    - Refused: code, place, 0, 0, 0. All other entries, and all other lent memory, stay as they were.
-   - A signed field is told as its pattern in its own width: (int16_t)answer[HAC_NAVIGATION_HEADING] is the heading.
+   - A signed field is told as its pattern in its own width: (int32_t)answer[HAC_PING_DETECTED_BOTTOM_RANGE] is a ping's bottom.
    - No pointer may be null, even where the length is 0. Lent memory must not overlap anything else that is handed over.
    - Calls share nothing: any number of threads may call at once.
 
-   An example: the tuples of a file, and the heading of each navigation tuple.
+   An example: the heading of each navigation tuple of a file, and each of them written anew, facing the other way.
 
-       uint64_t answer[HAC_READ_NAVIGATION_ENTRIES], step[HAC_FORWARD_ENTRIES];
+       uint64_t answer[HAC_READ_RECORD_ENTRIES], step[HAC_FORWARD_ENTRIES];
+       uint32_t numbers[HAC_NAVIGATION_NUMBERS];
+       uint8_t out[HAC_NAVIGATION_LENGTH];
        if (hac_check(file, length, answer, HAC_CHECK_ENTRIES) != HAC_ACCEPTED) {
            printf("refused %d at %llu\n", (int)answer[HAC_CODE], (unsigned long long)answer[HAC_PLACE]);
            return;
        }
+       bool msb = file[0] == 0;
        for (size_t at = HAC_FIRST_PLACE;; at = (size_t)step[HAC_STEP_NEXT]) {
            if (hac_forward(file, length, at, step, HAC_FORWARD_ENTRIES) != HAC_ACCEPTED || step[HAC_TUPLES] == 0)
                break;
-           if (hac_read_navigation(file, length, at, answer, HAC_READ_NAVIGATION_ENTRIES) == HAC_ACCEPTED)
-               printf("heading %d\n", (int)(int16_t)answer[HAC_NAVIGATION_HEADING]);
+           if (hac_read_record(file, length, at, HAC_TYPE_NAVIGATION, numbers, HAC_NAVIGATION_NUMBERS, answer,
+                   HAC_READ_RECORD_ENTRIES) != HAC_ACCEPTED)
+               continue;
+           printf("heading %d\n", (int)(int16_t)numbers[HAC_NAVIGATION_HEADING]);
+           numbers[HAC_NAVIGATION_HEADING] = -(int16_t)numbers[HAC_NAVIGATION_HEADING];
+           if (hac_write_record(HAC_TYPE_NAVIGATION, numbers, HAC_NAVIGATION_NUMBERS, file, 0, msb, out, sizeof out, answer,
+                   HAC_WRITE_ENTRIES) != HAC_ACCEPTED)
+               return;
        }
 */
 #ifndef HAC_H
@@ -88,22 +97,8 @@ enum {
     HAC_MISCOUNTED = 25          /* number of samples wrong */
 };
 
-/* ---- type codes of the listed types */
-enum {
-    HAC_TYPE_POSITION = 20,
-    HAC_TYPE_NAVIGATION = 30,
-    HAC_TYPE_ATTITUDE = 40,
-    HAC_TYPE_SOUNDER = 100,
-    HAC_TYPE_CHANNEL = 1000,
-    HAC_TYPE_PING_U = 10000,
-    HAC_TYPE_PING_C = 10010,
-    HAC_TYPE_THRESHOLD = 10100,
-    HAC_TYPE_EVENT = 10110,
-    HAC_TYPE_RUN_START = 65516,
-    HAC_TYPE_RUN_END = 65517,
-    HAC_TYPE_FILE_END = 65534,
-    HAC_TYPE_SIGNATURE = 65535
-};
+/* ---- type codes of the pings; those of the records stand in hac_records.h: HAC_TYPE_NAVIGATION .. */
+enum { HAC_TYPE_PING_U = 10000, HAC_TYPE_PING_C = 10010 };
 
 /* ---- the first five entries of every answer
 
@@ -214,249 +209,53 @@ uint8_t hac_write_c32(uint16_t time_fraction, uint32_t time_cpu, uint16_t softwa
     const uint32_t *numbers, size_t numbers_length, const int32_t *values, size_t values_length, bool msb, uint8_t *out,
     size_t out_length, uint64_t *answer, size_t entries);
 
-/* ---- the records: for each the places of its fields in a reader's answer, and its reader and writer. int16_t and int32_t
-   beside a field: it is signed. A reader refuses as a forward step is refused, 3 at the end; 9 for another type; then 9, and 8
-   for a signature. A writer refuses by 19 alone, where nothing else is said. Characters are part of the file: a reader tells
-   where they stand in it (.._PLACE) and how many they are (.._LENGTH). */
+/* ---- the records: what stands in a listed tuple that is no ping.
 
-/* Signature. The identifier is no field: 44204 and 44201 are read, and 44204 is written. */
-enum { HAC_READ_SIGNATURE_ENTRIES = 9 };
+   `numbers` holds a record's fields in TR's order, the attribute last, in one layout for reading and for writing: read a record,
+   alter a number, write it back. hac_records.h has of each record the place of each field in it (HAC_NAVIGATION_HEADING), how
+   many they are (HAC_NAVIGATION_NUMBERS), its type and its length. A signed field is read as its pattern in its own width:
+   (int16_t)numbers[HAC_NAVIGATION_HEADING] is the heading. Of a number to write only the lower bytes of the field's width are
+   taken, so that -905 may be handed over as it is. In C the fields may be named, and what isn't named is 0:
 
-enum {
-    HAC_SIGNATURE_HAC_VERSION = 5,
-    HAC_SIGNATURE_ACQUISITION_SOFTWARE_VERSION = 6,
-    HAC_SIGNATURE_ACQUISITION_SOFTWARE_IDENTIFIER = 7,
-    HAC_SIGNATURE_TUPLE_ATTRIBUTE = 8                  /* int32_t */
-};
+       uint32_t numbers[HAC_NAVIGATION_NUMBERS] = {[HAC_NAVIGATION_HEADING] = -905, [HAC_NAVIGATION_NAVIGATION_SPEED] = 5144};
 
-uint8_t hac_read_signature(const uint8_t *file, size_t length, size_t place, uint64_t *answer, size_t entries);
+   A record's characters are a sounder's and a channel's remarks, an event's text and an end of file's data. They are a part of
+   the file when they are read, and `text` when they are written; a record that has none is written with a text of length 0.
 
-uint8_t hac_write_signature(uint16_t hac_version, uint16_t acquisition_software_version,
-    uint32_t acquisition_software_identifier, int32_t tuple_attribute, bool msb, uint8_t *out, size_t out_length,
-    uint64_t *answer, size_t entries);
+   These two calls stand in the place of 22, a reader and a writer of each record. What changes for a caller of these:
+   - hac_read_navigation(file, length, place, answer, HAC_READ_NAVIGATION_ENTRIES) is now
+     hac_read_record(file, length, place, HAC_TYPE_NAVIGATION, numbers, HAC_NAVIGATION_NUMBERS, answer, HAC_READ_RECORD_ENTRIES).
+   - HAC_NAVIGATION_HEADING and its like are places in `numbers`, from 0 on, and no longer in `answer`, from 5 on.
+   - Where characters stand is told in answer[HAC_RECORD_TEXT_PLACE] and answer[HAC_RECORD_TEXT_LENGTH] of every record, in the
+     place of HAC_SOUNDER_REMARKS_PLACE and its like.
+   - hac_write_navigation(time_fraction, .., tuple_attribute, msb, ..) is now
+     hac_write_record(HAC_TYPE_NAVIGATION, numbers, HAC_NAVIGATION_NUMBERS, text, 0, msb, ..), with the same fields in the same
+     order in `numbers`. Remarks and texts are handed over as before, as `text`.
+   - hac_write_file_end wrote two bytes of data, both 0: hand these two over.
+   - Refusals are the same. Beside them stand those of what couldn't be asked for before: a type that is no record's, too few
+     numbers, characters for a record that has none. */
 
-/* Echosounder. 9 at 0 where the remarks to write are not HAC_REMARK characters, before 19. */
-enum { HAC_READ_SOUNDER_ENTRIES = 20 };
-
-enum {
-    HAC_SOUNDER_NUMBER_OF_SOFTWARE_CHANNELS = 5,
-    HAC_SOUNDER_ECHOSOUNDER_DOCUMENT_IDENTIFIER = 6,
-    HAC_SOUNDER_SOUND_SPEED = 7,
-    HAC_SOUNDER_PING_INTERVAL = 8,
-    HAC_SOUNDER_TRANSMITTER_ATTENUATION_SETTING = 9, /* int16_t */
-    HAC_SOUNDER_MULTIPLEXING_MODE = 10,
-    HAC_SOUNDER_BLANKING_AT_TVG_MAX_RANGE = 11,      /* int16_t */
-    HAC_SOUNDER_TVG_MAX_RANGE = 12,
-    HAC_SOUNDER_BLANKING_UP_TO_RANGE = 13,
-    HAC_SOUNDER_CALIBRATOR_SIGNAL = 14,              /* int16_t */
-    HAC_SOUNDER_CALIBRATOR_MODE = 15,
-    HAC_SOUNDER_CALIBRATOR_SEPARATOR = 16,
-    HAC_SOUNDER_TUPLE_ATTRIBUTE = 17,                /* int32_t */
-    HAC_SOUNDER_REMARKS_PLACE = 18,
-    HAC_SOUNDER_REMARKS_LENGTH = 19
-};
-
-uint8_t hac_read_sounder(const uint8_t *file, size_t length, size_t place, uint64_t *answer, size_t entries);
-
-uint8_t hac_write_sounder(uint16_t number_of_software_channels, uint32_t echosounder_document_identifier,
-    uint16_t sound_speed, uint16_t ping_interval, int16_t transmitter_attenuation_setting, uint16_t multiplexing_mode,
-    int16_t blanking_at_tvg_max_range, uint16_t tvg_max_range, uint16_t blanking_up_to_range, int16_t calibrator_signal,
-    uint16_t calibrator_mode, uint16_t calibrator_separator, int32_t tuple_attribute, const uint8_t *remarks,
-    size_t remarks_length, bool msb, uint8_t *out, size_t out_length, uint64_t *answer, size_t entries);
-
-/* Channel. 9 at 0 where the remarks to write are not HAC_REMARK characters, before 19. */
-enum { HAC_READ_CHANNEL_ENTRIES = 32 };
+/* The record of a type at a place. Its numbers are written to `numbers`; entries past them stay. Refused as a forward step is
+   refused, 3 at the end; 9 for another type than asked for, and for every tuple where `type` is no record's; then 9, and 8 for a
+   signature, all at the place; last by 19 at 0 where `numbers_length` is less than the record's numbers. */
+enum { HAC_READ_RECORD_ENTRIES = 7 };
 
 enum {
-    HAC_CHANNEL_SOFTWARE_CHANNEL_IDENTIFIER = 5,
-    HAC_CHANNEL_ECHOSOUNDER_DOCUMENT_IDENTIFIER = 6,
-    HAC_CHANNEL_SAMPLING_RATE = 7,
-    HAC_CHANNEL_TYPE_OF_DATA_SAMPLE = 8,
-    HAC_CHANNEL_TIME_VARIED_GAIN_MODE = 9,
-    HAC_CHANNEL_TRANSCEIVER_CHANNEL_NUMBER = 10,
-    HAC_CHANNEL_ACOUSTIC_FREQUENCY = 11,
-    HAC_CHANNEL_INSTALLATION_DEPTH_OF_TRANSDUCER = 12,
-    HAC_CHANNEL_ALONGSHIP_ANGLE_OFFSET_OF_THE_TRANSDUCER_FACE = 13,                  /* int16_t */
-    HAC_CHANNEL_ATHWARTSHIP_ANGLE_OFFSET_OF_THE_TRANSDUCER_FACE = 14,                /* int16_t */
-    HAC_CHANNEL_ALONGSHIP_ANGLE_OFFSET_OF_THE_MAIN_AXIS_OF_THE_ACOUSTIC_BEAM = 15,   /* int16_t */
-    HAC_CHANNEL_ATHWARTSHIP_ANGLE_OFFSET_OF_THE_MAIN_AXIS_OF_THE_ACOUSTIC_BEAM = 16, /* int16_t */
-    HAC_CHANNEL_ABSORPTION_OF_SOUND = 17,
-    HAC_CHANNEL_PULSE_LENGTH = 18,
-    HAC_CHANNEL_BANDWIDTH = 19,
-    HAC_CHANNEL_CALIBRATION_SOURCE_LEVEL = 20,
-    HAC_CHANNEL_BEAMWIDTH_3_DB_OF_THE_TRANSDUCER_BEAM = 21,
-    HAC_CHANNEL_BEAM_PATTERN = 22,
-    HAC_CHANNEL_WIDE_BEAM_DROP_OFF = 23,
-    HAC_CHANNEL_CALIBRATION_RECEIVING_SENSITIVITY = 24,                              /* int16_t */
-    HAC_CHANNEL_RECEIVER_GAIN = 25,                                                  /* int16_t */
-    HAC_CHANNEL_BOTTOM_DETECTION_MINIMUM_LEVEL = 26,                                 /* int16_t */
-    HAC_CHANNEL_BOTTOM_WINDOW_MIN = 27,
-    HAC_CHANNEL_BOTTOM_WINDOW_MAX = 28,
-    HAC_CHANNEL_TUPLE_ATTRIBUTE = 29,                                                /* int32_t */
-    HAC_CHANNEL_REMARKS_PLACE = 30,
-    HAC_CHANNEL_REMARKS_LENGTH = 31
+    HAC_RECORD_TEXT_PLACE = 5, /* where its characters stand in the file; its attribute's place where it has none */
+    HAC_RECORD_TEXT_LENGTH = 6 /* how many they are; 0 where it has none */
 };
 
-uint8_t hac_read_channel(const uint8_t *file, size_t length, size_t place, uint64_t *answer, size_t entries);
+uint8_t hac_read_record(const uint8_t *file, size_t length, size_t place, uint16_t type, uint32_t *numbers,
+    size_t numbers_length, uint64_t *answer, size_t entries);
 
-uint8_t hac_write_channel(uint16_t software_channel_identifier, uint32_t echosounder_document_identifier,
-    uint32_t sampling_rate, uint16_t type_of_data_sample, uint16_t time_varied_gain_mode,
-    uint16_t transceiver_channel_number, uint32_t acoustic_frequency, uint32_t installation_depth_of_transducer,
-    int16_t alongship_angle_offset_of_the_transducer_face, int16_t athwartship_angle_offset_of_the_transducer_face,
-    int16_t alongship_angle_offset_of_the_main_axis_of_the_acoustic_beam,
-    int16_t athwartship_angle_offset_of_the_main_axis_of_the_acoustic_beam, uint16_t absorption_of_sound,
-    uint16_t pulse_length, uint16_t bandwidth, uint16_t calibration_source_level,
-    uint16_t beamwidth_3_db_of_the_transducer_beam, uint16_t beam_pattern, uint16_t wide_beam_drop_off,
-    int16_t calibration_receiving_sensitivity, int16_t receiver_gain, int16_t bottom_detection_minimum_level,
-    uint32_t bottom_window_min, uint32_t bottom_window_max, int32_t tuple_attribute, const uint8_t *remarks,
-    size_t remarks_length, bool msb, uint8_t *out, size_t out_length, uint64_t *answer, size_t entries);
-
-/* Threshold. */
-enum { HAC_READ_THRESHOLD_ENTRIES = 17 };
-
-enum {
-    HAC_THRESHOLD_TIME_FRACTION = 5,
-    HAC_THRESHOLD_TIME_CPU = 6,
-    HAC_THRESHOLD_SOFTWARE_CHANNEL_IDENTIFIER = 7,
-    HAC_THRESHOLD_TVG_MAX_RANGE = 8,
-    HAC_THRESHOLD_TVG_MIN_RANGE = 9,
-    HAC_THRESHOLD_TVT_EVALUATION_MODE = 10,
-    HAC_THRESHOLD_TVT_EVALUATION_INTERVAL = 11,
-    HAC_THRESHOLD_TVT_EVALUATION_NO_OF_PINGS = 12,
-    HAC_THRESHOLD_TVT_EVALUATION_STARTING_TVT_PING_NUMBER = 13,
-    HAC_THRESHOLD_TVT_OFFSET_PARAMETER_OR_CONSTANT_THRESHOLD = 14,
-    HAC_THRESHOLD_TVT_AMPLIFICATION_PARAMETER = 15,
-    HAC_THRESHOLD_TUPLE_ATTRIBUTE = 16                             /* int32_t */
-};
-
-uint8_t hac_read_threshold(const uint8_t *file, size_t length, size_t place, uint64_t *answer, size_t entries);
-
-uint8_t hac_write_threshold(uint16_t time_fraction, uint32_t time_cpu, uint16_t software_channel_identifier,
-    uint16_t tvg_max_range, uint16_t tvg_min_range, uint16_t tvt_evaluation_mode, uint16_t tvt_evaluation_interval,
-    uint16_t tvt_evaluation_no_of_pings, uint32_t tvt_evaluation_starting_tvt_ping_number,
-    uint32_t tvt_offset_parameter_or_constant_threshold, uint32_t tvt_amplification_parameter, int32_t tuple_attribute,
+/* A record written. Numbers past the record's are not looked at. Refused, all at 0, by 9 where `type` is no record's; by 9 where
+   `numbers_length` is less than the record's numbers; by 9 where the record can't hold the text: remarks that are not HAC_REMARK
+   characters, a text for a record without characters, an event's text that is empty or no multiple of 4, an end of file's data
+   that are not 2, 6, 10 .. bytes; by 11 for a tuple over HAC_TUPLE_LIMIT; by 19. */
+uint8_t hac_write_record(uint16_t type, const uint32_t *numbers, size_t numbers_length, const uint8_t *text, size_t text_length,
     bool msb, uint8_t *out, size_t out_length, uint64_t *answer, size_t entries);
 
-/* Position. */
-enum { HAC_READ_POSITION_ENTRIES = 12 };
-
-enum {
-    HAC_POSITION_TIME_FRACTION = 5,      /* int16_t */
-    HAC_POSITION_TIME_CPU = 6,
-    HAC_POSITION_GPS_TIME = 7,
-    HAC_POSITION_POSITIONING_SYSTEM = 8,
-    HAC_POSITION_LATITUDE = 9,           /* int32_t */
-    HAC_POSITION_LONGITUDE = 10,         /* int32_t */
-    HAC_POSITION_TUPLE_ATTRIBUTE = 11    /* int32_t */
-};
-
-uint8_t hac_read_position(const uint8_t *file, size_t length, size_t place, uint64_t *answer, size_t entries);
-
-uint8_t hac_write_position(int16_t time_fraction, uint32_t time_cpu, uint32_t gps_time, uint16_t positioning_system,
-    int32_t latitude, int32_t longitude, int32_t tuple_attribute, bool msb, uint8_t *out, size_t out_length,
-    uint64_t *answer, size_t entries);
-
-/* Navigation. */
-enum { HAC_READ_NAVIGATION_ENTRIES = 11 };
-
-enum {
-    HAC_NAVIGATION_TIME_FRACTION = 5,
-    HAC_NAVIGATION_TIME_CPU = 6,
-    HAC_NAVIGATION_NAVIGATION_SYSTEM = 7,
-    HAC_NAVIGATION_HEADING = 8,           /* int16_t */
-    HAC_NAVIGATION_NAVIGATION_SPEED = 9,
-    HAC_NAVIGATION_TUPLE_ATTRIBUTE = 10   /* int32_t */
-};
-
-uint8_t hac_read_navigation(const uint8_t *file, size_t length, size_t place, uint64_t *answer, size_t entries);
-
-uint8_t hac_write_navigation(uint16_t time_fraction, uint32_t time_cpu, uint16_t navigation_system, int16_t heading,
-    uint16_t navigation_speed, int32_t tuple_attribute, bool msb, uint8_t *out, size_t out_length, uint64_t *answer,
-    size_t entries);
-
-/* Attitude. Software channel 65535 means all channels, here alone. */
-enum { HAC_READ_ATTITUDE_ENTRIES = 15 };
-
-enum {
-    HAC_ATTITUDE_TIME_FRACTION = 5,
-    HAC_ATTITUDE_TIME_CPU = 6,
-    HAC_ATTITUDE_SOFTWARE_CHANNEL_IDENTIFIER = 7,
-    HAC_ATTITUDE_PLATFORM_REFERRED_TO = 8,
-    HAC_ATTITUDE_ALONGSHIP_OFFSET = 9,            /* int16_t */
-    HAC_ATTITUDE_ATHWARTSHIP_OFFSET = 10,         /* int16_t */
-    HAC_ATTITUDE_PITCH = 11,                      /* int16_t */
-    HAC_ATTITUDE_ROLL = 12,                       /* int16_t */
-    HAC_ATTITUDE_HEAVE = 13,                      /* int16_t */
-    HAC_ATTITUDE_TUPLE_ATTRIBUTE = 14             /* int32_t */
-};
-
-uint8_t hac_read_attitude(const uint8_t *file, size_t length, size_t place, uint64_t *answer, size_t entries);
-
-uint8_t hac_write_attitude(uint16_t time_fraction, uint32_t time_cpu, uint16_t software_channel_identifier,
-    uint16_t platform_referred_to, int16_t alongship_offset, int16_t athwartship_offset, int16_t pitch, int16_t roll,
-    int16_t heave, int32_t tuple_attribute, bool msb, uint8_t *out, size_t out_length, uint64_t *answer, size_t entries);
-
-/* Event marker. 9 at 0 where the text to write has no characters or no multiple of four; 11 at 0 where the tuple would be over
-   HAC_TUPLE_LIMIT; 19. */
-enum { HAC_READ_EVENT_ENTRIES = 10 };
-
-enum {
-    HAC_EVENT_TIME_FRACTION = 5,
-    HAC_EVENT_TIME_CPU = 6,
-    HAC_EVENT_TUPLE_ATTRIBUTE = 7, /* int32_t */
-    HAC_EVENT_TEXT_PLACE = 8,
-    HAC_EVENT_TEXT_LENGTH = 9
-};
-
-uint8_t hac_read_event(const uint8_t *file, size_t length, size_t place, uint64_t *answer, size_t entries);
-
-uint8_t hac_write_event(uint16_t time_fraction, uint32_t time_cpu, int32_t tuple_attribute, const uint8_t *text,
-    size_t text_length, bool msb, uint8_t *out, size_t out_length, uint64_t *answer, size_t entries);
-
-/* Start of run. */
-enum { HAC_READ_RUN_START_ENTRIES = 8 };
-
-enum {
-    HAC_RUN_START_TIME_FRACTION = 5,
-    HAC_RUN_START_TIME_CPU = 6,
-    HAC_RUN_START_TUPLE_ATTRIBUTE = 7  /* int32_t */
-};
-
-uint8_t hac_read_run_start(const uint8_t *file, size_t length, size_t place, uint64_t *answer, size_t entries);
-
-uint8_t hac_write_run_start(uint16_t time_fraction, uint32_t time_cpu, int32_t tuple_attribute, bool msb, uint8_t *out,
-    size_t out_length, uint64_t *answer, size_t entries);
-
-/* End of run. */
-enum { HAC_READ_RUN_END_ENTRIES = 8 };
-
-enum {
-    HAC_RUN_END_TIME_FRACTION = 5,
-    HAC_RUN_END_TIME_CPU = 6,
-    HAC_RUN_END_TUPLE_ATTRIBUTE = 7  /* int32_t */
-};
-
-uint8_t hac_read_run_end(const uint8_t *file, size_t length, size_t place, uint64_t *answer, size_t entries);
-
-uint8_t hac_write_run_end(uint16_t time_fraction, uint32_t time_cpu, int32_t tuple_attribute, bool msb, uint8_t *out,
-    size_t out_length, uint64_t *answer, size_t entries);
-
-/* End of file. The data bytes before its attribute are read as part of the file; two of them, both 0, are written. */
-enum { HAC_READ_FILE_END_ENTRIES = 11 };
-
-enum {
-    HAC_FILE_END_TIME_FRACTION = 5,
-    HAC_FILE_END_TIME_CPU = 6,
-    HAC_FILE_END_CLOSING_MODE = 7,
-    HAC_FILE_END_TUPLE_ATTRIBUTE = 8, /* int32_t */
-    HAC_FILE_END_DATA_PLACE = 9,
-    HAC_FILE_END_DATA_LENGTH = 10
-};
-
-uint8_t hac_read_file_end(const uint8_t *file, size_t length, size_t place, uint64_t *answer, size_t entries);
-
-uint8_t hac_write_file_end(uint16_t time_fraction, uint32_t time_cpu, uint16_t closing_mode, int32_t tuple_attribute,
-    bool msb, uint8_t *out, size_t out_length, uint64_t *answer, size_t entries);
+#include "hac_records.h"
 
 #ifdef __cplusplus
 }

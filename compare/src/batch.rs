@@ -3,19 +3,25 @@
 //! Beside each call stands what the second program makes of the same memory.
 //! The runner hands all lent bytes back, and every one of them is compared.
 
+use crate::answers::COMPARED;
 use crate::exports::Export;
 use crate::runner::Runner;
 use crate::tally::Tally;
-use second::Answer;
 use std::io;
 use std::mem;
 use std::ops::Range;
 
 /// What lent memory holds before a call.
-pub const FILL: u8 = 0xA5;
+const FILL: u8 = 0xA5;
 
 /// The bytes of an entry, and of all that numbers are aligned to.
 const ENTRY: usize = 8;
+
+/// The bytes of a sample number, of a value and of a record's number.
+const WORD: usize = 4;
+
+/// What a word holds before a call.
+pub const FILLED: u32 = u32::from_ne_bytes([FILL; WORD]);
 
 /// Bytes behind lent memory, which no call may touch.
 const GUARD: usize = 8;
@@ -37,24 +43,6 @@ const SHOWN: usize = 32;
 const FULL: usize = 1 << 20;
 const FULL_GIVEN: usize = 64 << 20;
 
-/// An answer's five numbers, which fields may follow.
-pub fn five(answer: Answer) -> Vec<u64> {
-    let Answer {
-        code,
-        place,
-        tuples,
-        length,
-        compared,
-    } = answer;
-    vec![code.into(), place, tuples, length, compared]
-}
-
-/// Where an answer's numbers end and its fields start.
-pub const FIELDS: usize = 5;
-
-/// Where among the numbers that of identifiers compared stands.
-const COMPARED: usize = 4;
-
 /// Memory that a call gets: to read from, or to write to.
 #[derive(Clone, Copy, PartialEq, Eq, Debug)]
 enum Memory {
@@ -71,7 +59,7 @@ pub struct Slice {
 }
 
 impl Slice {
-    pub fn of(self, width: usize) -> Slice {
+    fn of(self, width: usize) -> Slice {
         Slice { width, ..self }
     }
 
@@ -229,6 +217,22 @@ impl Batch {
         }
     }
 
+    /// Lends words, which the second program left like this.
+    pub fn lend_words(&mut self, left: &[u32]) -> Arg {
+        let lent = self.lend(WORD * left.len());
+        let slots = self.expected(&lent).chunks_exact_mut(WORD);
+        for (slot, word) in slots.zip(left) {
+            slot.copy_from_slice(&word.to_le_bytes());
+        }
+        lent.of(WORD).into()
+    }
+
+    /// Words to read from.
+    pub fn give_words(&mut self, words: &[u32]) -> Arg {
+        let bytes: Vec<u8> = words.iter().flat_map(|word| word.to_le_bytes()).collect();
+        self.give(&bytes).of(WORD).into()
+    }
+
     pub fn expected(&mut self, lent: &Slice) -> &mut [u8] {
         &mut self.expected[lent.bytes.clone()]
     }
@@ -236,6 +240,7 @@ impl Batch {
     /// Makes a call, the second program's numbers beside it: its code first.
     /// At times makes it again with too few entries, which alters nothing.
     pub fn call(&mut self, export: Export, arguments: &[Arg], numbers: &[u64]) {
+        assert_eq!(arguments.len(), export.parameters, "{}", export.name);
         let code = numbers[0];
         let before = self.tally.count(export, code, numbers[COMPARED]);
         let spare = (before % SPARE) as usize;
@@ -297,6 +302,11 @@ impl Batch {
             self.run()?;
         }
         Ok(self.difference.is_none())
+    }
+
+    /// A record of a type was read or written.
+    pub fn met(&mut self, record: &'static str, written: bool) {
+        self.tally.met(record, written);
     }
 
     /// The calls of a file begin.
@@ -377,7 +387,8 @@ impl Batch {
         };
         let shown = at..self.back.len().min(at + SHOWN);
         format!(
-            "{}: {} of {}: the archive says {}, the second program {}; lent byte {} and on: {:02x?} and {:02x?}",
+            "{}: {} of {}: the archive says {}, the second program {}; \
+             lent byte {} and on: {:02x?} and {:02x?}",
             self.about,
             call.export.name,
             arguments.join(", "),

@@ -1,8 +1,10 @@
 //! The cases of a seed: of one in so many all is compared, of the others little.
 
 use crate::batch::Batch;
-use crate::files::{compare_file, compare_whole};
-use crate::writers::{compare_limit_pings, compare_long_texts, compare_pings, compare_records};
+use crate::files::{self, compare_file, compare_whole};
+use crate::pings::{self, compare_limit_pings, compare_pings};
+use crate::records::{self, compare_long_texts, compare_records};
+use crate::tally::Given;
 use second::gen::{big_limit_count, file_case, limit_count, Case, Rng};
 use std::io;
 
@@ -21,6 +23,12 @@ const UNEQUAL_PAIR: u64 = 15;
 
 /// The numbers of the writers' cases lie apart from the generator's.
 const WRITERS: u64 = 0x5EC0_4D57_0817_E455;
+
+/// What each export can give, as those who compare it say.
+pub fn given() -> Vec<Given> {
+    let all = files::GIVEN.into_iter().chain(pings::GIVEN);
+    all.chain(records::GIVEN).collect()
+}
 
 /// So many cases are compared in full, of a number of cases asked for.
 pub fn full_cases(asked: u64) -> u64 {

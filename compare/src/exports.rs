@@ -1,17 +1,26 @@
-//! The archive's exports, as calls.list has them.
+//! The archive's exports, as include/hac.h declares them.
 
+#[allow(dead_code)]
+#[path = "../../include/calls.rs"]
+mod calls;
+
+use calls::Header;
+use std::fmt::Write;
 use std::sync::LazyLock;
 
-/// What the runner is made of, too.
-const LIST: &str = include_str!("../calls.list");
+static HEADER: LazyLock<Header> = LazyLock::new(|| {
+    let header = Header::of(include_str!("../../include/hac.h"));
+    header.unwrap_or_else(|why| panic!("{why}"))
+});
 
 /// Every export, in the runner's order.
 pub static EXPORTS: LazyLock<Vec<Export>> = LazyLock::new(|| {
-    let listed = LIST.lines().filter_map(listed).enumerate();
-    let exports = listed.map(|(number, (name, entries))| Export {
+    let calls = HEADER.calls.iter().enumerate();
+    let exports = calls.map(|(number, call)| Export {
         number,
-        name,
-        entries,
+        name: &call.name,
+        entries: call.entries,
+        parameters: call.parameters.len(),
     });
     exports.collect()
 });
@@ -23,33 +32,21 @@ pub struct Export {
     pub name: &'static str,
     /// The least entries that it is to be lent for its answer.
     pub entries: usize,
+    /// How many parameters it has, a slice counted as one, but for the answer.
+    pub parameters: usize,
 }
 
-impl Export {
-    /// The export of a name; the list is fixed when compiled.
-    pub fn named(name: &str) -> Export {
-        let found = EXPORTS.iter().find(|export| export.name == name);
-        *found.unwrap_or_else(|| panic!("no export {name}"))
+/// The export of a name. There must be one.
+pub fn export(name: &str) -> Export {
+    let found = EXPORTS.iter().find(|export| export.name == name);
+    *found.unwrap_or_else(|| panic!("include/hac.h declares no hac_{name}"))
+}
+
+/// The list that the runner is made of, a line an export.
+pub fn list() -> String {
+    let mut list = String::new();
+    for export in EXPORTS.iter() {
+        writeln!(list, "CALL(hac_{})", export.name).expect("a string takes all");
     }
+    list
 }
-
-fn listed(line: &'static str) -> Option<(&'static str, usize)> {
-    let call = line.strip_prefix("CALL(hac_")?.strip_suffix(')')?;
-    let (name, entries) = call.split_once(", ")?;
-    Some((name, entries.parse().ok()?))
-}
-
-/// The exports that are called by their names; the records' are called by theirs.
-macro_rules! calls {
-    ($($name:ident)*) => {
-        pub struct Calls {
-            $(pub $name: Export,)*
-        }
-
-        pub static CALLS: LazyLock<Calls> = LazyLock::new(|| Calls {
-            $($name: Export::named(stringify!($name)),)*
-        });
-    };
-}
-
-calls!(check forward backward ask normalise normalise_tuple read_ping read_samples write_u32 write_c32);

@@ -1,9 +1,12 @@
-//! What is compared of a file: the check, the walks, every reader at many
+//! What is compared of a file: the check, the walks, pings and records read at many
 //! places, and the normal form.
 
-use crate::batch::{five, Arg, Batch, File, FILL};
-use crate::exports::{Export, CALLS};
-use crate::records::{header_numbers, reply_numbers, Field, KINDS};
+use crate::answers::{five, reply_numbers};
+use crate::batch::{Batch, File, FILLED};
+use crate::exports::{export, Export};
+use crate::kinds::header_numbers;
+use crate::records;
+use crate::tally::Given;
 use second::gen::{Case, Rng};
 use second::layout::{CHANNEL_LIMIT, FILE_LIMIT, VALUE_LIMIT};
 use second::programs::normalise_tuple;
@@ -60,12 +63,32 @@ const DAMAGED: usize = 48;
 /// The code of a place where no ping starts.
 const OTHER_TYPE: u64 = 9;
 
-/// The bytes of a sample number, and of a value.
-pub const WORD: usize = 4;
+/// The refusals of a check.
+const CHECKED: [usize; 19] = [
+    1, 2, 3, 4, 5, 6, 7, 8, 9, 11, 12, 13, 14, 15, 16, 17, 23, 24, 25,
+];
 
-/// What entries for samples hold before a call.
-const NUMBER: u32 = u32::from_ne_bytes([FILL; 4]);
-const VALUE: i32 = NUMBER as i32;
+/// What the exports compared here can give. A check needs no identifier compared;
+/// asking needs a ping, its channel and that one's sounder.
+pub const GIVEN: [Given; 8] = [
+    Given::new("check", &CHECKED).comparing(0),
+    Given::new("forward", &[1, 2, 3, 5, 6]),
+    Given::new("backward", &[1, 2, 3, 5, 6]),
+    Given::new("ask", &CHECKED).comparing(2),
+    Given::new(
+        "normalise",
+        &[
+            1, 2, 3, 4, 5, 6, 7, 8, 9, 11, 12, 13, 14, 15, 16, 17, 18, 19, 20, 23, 24, 25,
+        ],
+    )
+    .comparing(0),
+    Given::new(
+        "normalise_tuple",
+        &[1, 2, 3, 5, 6, 8, 9, 11, 15, 18, 19, 23, 24, 25],
+    ),
+    Given::new("read_ping", &[1, 2, 3, 5, 6, 9, 11, 23, 24, 25]),
+    Given::new("read_samples", &[1, 2, 3, 5, 6, 9, 11, 19, 23, 24, 25]),
+];
 
 type Writer = fn(&[u8], &mut [u8]) -> Answer;
 
@@ -85,11 +108,11 @@ fn step_numbers(step: Step) -> Vec<u64> {
 fn ask_numbers(file: &[u8], place: u64) -> Vec<u64> {
     reply_numbers(parents(file, place), |found| {
         vec![
-            found.channel.number(),
+            found.channel.0.into(),
             found.channel_place,
             found.sampling_rate.into(),
             found.type_of_data_sample.into(),
-            found.sounder.number(),
+            found.sounder.0.into(),
             found.sounder_place,
         ]
     })
@@ -121,7 +144,7 @@ pub fn compare_whole(batch: &mut Batch, case: &Case) -> io::Result<Option<Vec<u8
     check_file(batch, &mut file, case.expected);
     let tuples = walk_both(batch, &mut file)?;
     each_ping(batch, &mut file, &tuples)?;
-    compare_normal(batch, CALLS.normalise, normalise, &mut file)
+    compare_normal(batch, export("normalise"), normalise, &mut file)
 }
 
 /// Fields and samples of each ping, and the parents of the first and the last.
@@ -162,10 +185,15 @@ pub fn compare_file(batch: &mut Batch, case: &Case, rng: &mut Rng) -> io::Result
     for place in &tuples {
         lend_samples(batch, &mut file, *place)?;
     }
+    for place in &tuples {
+        records::alter_at(batch, &mut file, *place, rng)?;
+    }
     if file.bytes.len() <= LARGE {
         each_tuple(batch, &file, &tuples, rng)?;
+    } else {
+        one_tuple(batch, file.bytes)?;
     }
-    compare_normal(batch, CALLS.normalise, normalise, &mut file)
+    compare_normal(batch, export("normalise"), normalise, &mut file)
 }
 
 /// All tuples of a file, or some where they are many, the last among them.
@@ -187,7 +215,7 @@ fn check_file(batch: &mut Batch, file: &mut File, told: Option<(u32, u64)>) {
         batch.differ("more identifiers are compared than 1,024 a tuple");
     }
     let given = batch.file(file);
-    batch.call(CALLS.check, &[given.into()], &five(answer));
+    batch.call(export("check"), &[given.into()], &five(answer));
 }
 
 /// Both walks all through. Gives the places of the tuples found forward.
@@ -209,13 +237,13 @@ fn walk_both(batch: &mut Batch, file: &mut File) -> io::Result<Vec<u64>> {
 
 fn forward_at(batch: &mut Batch, file: &mut File, place: u64) -> Step {
     let step = forward(file.bytes, place);
-    call_at(batch, CALLS.forward, file, place, &step_numbers(step));
+    call_at(batch, export("forward"), file, place, &step_numbers(step));
     step
 }
 
 fn backward_at(batch: &mut Batch, file: &mut File, place: u64) -> Step {
     let step = backward(file.bytes, place);
-    call_at(batch, CALLS.backward, file, place, &step_numbers(step));
+    call_at(batch, export("backward"), file, place, &step_numbers(step));
     step
 }
 
@@ -252,50 +280,38 @@ fn asked(places: &[u64], tuples: &[u64], file: &File) -> Vec<u64> {
     asked.into_iter().rev().step_by(apart).collect()
 }
 
-/// Steps, samples, ping fields and every record reader at a place.
+/// Steps, samples, ping fields and every record at a place.
 fn read_at(batch: &mut Batch, file: &mut File, place: u64) {
     forward_at(batch, file, place);
     backward_at(batch, file, place);
     let lent = (place as usize % 7, place as usize / 7 % 5);
     samples_at(batch, file, place, lent);
     ping_at(batch, file, place);
-    for kind in KINDS.iter() {
-        let numbers = (kind.read)(file.bytes, place);
-        call_at(batch, kind.reader, file, place, &numbers);
-    }
+    records::read_at(batch, file, place);
 }
 
 /// A ping's fields at a place; gives the code.
 pub fn ping_at(batch: &mut Batch, file: &mut File, place: u64) -> u64 {
     let numbers = ping_numbers(file.bytes, place);
-    call_at(batch, CALLS.read_ping, file, place, &numbers);
+    call_at(batch, export("read_ping"), file, place, &numbers);
     numbers[0]
 }
 
 fn ask_at(batch: &mut Batch, file: &mut File, place: u64) {
     let numbers = ask_numbers(file.bytes, place);
-    call_at(batch, CALLS.ask, file, place, &numbers);
+    call_at(batch, export("ask"), file, place, &numbers);
 }
 
 /// The samples at a place, into so many entries.
 fn samples_at(batch: &mut Batch, file: &mut File, place: u64, lent: (usize, usize)) {
-    let (mut numbers, mut values) = (vec![NUMBER; lent.0], vec![VALUE; lent.1]);
+    let (mut numbers, mut values) = (vec![FILLED; lent.0], vec![FILLED as i32; lent.1]);
     let answer = read_samples(file.bytes, place, &mut numbers, &mut values);
+    let values: Vec<u32> = values.into_iter().map(|value| value as u32).collect();
     let given = batch.file(file);
-    let of_numbers = lend_words(batch, numbers.into_iter());
-    let of_values = lend_words(batch, values.into_iter().map(|value| value as u32));
+    let of_numbers = batch.lend_words(&numbers);
+    let of_values = batch.lend_words(&values);
     let arguments = [given.into(), place.into(), of_numbers, of_values];
-    batch.call(CALLS.read_samples, &arguments, &five(answer));
-}
-
-/// Lends entries of four bytes, which the second program left like this.
-fn lend_words(batch: &mut Batch, left: impl ExactSizeIterator<Item = u32>) -> Arg {
-    let lent = batch.lend(WORD * left.len());
-    let slots = batch.expected(&lent).chunks_exact_mut(WORD);
-    for (slot, word) in slots.zip(left) {
-        slot.copy_from_slice(&word.to_le_bytes());
-    }
-    lent.of(WORD).into()
+    batch.call(export("read_samples"), &arguments, &five(answer));
 }
 
 /// The samples of a tuple into entries that just suffice, that are one short
@@ -383,6 +399,7 @@ fn turned(order: Order) -> Order {
 
 fn one_tuple(batch: &mut Batch, bytes: &[u8]) -> io::Result<()> {
     let mut file = File::new(bytes);
-    compare_normal(batch, CALLS.normalise_tuple, normalise_tuple, &mut file)?;
+    let export = export("normalise_tuple");
+    compare_normal(batch, export, normalise_tuple, &mut file)?;
     Ok(())
 }

@@ -2,21 +2,26 @@
 //! of a seed: `compare SEED CASES RUNNER..`, the last being the command that
 //! starts the runner. Ends with status 1 where a code handed back, an entry
 //! or a byte of lent memory differs, where the runner ends with a fault, where
-//! a code comes that is no longer given and, of cases enough, where something
-//! that must be met was not.
+//! an export gives a code that it can't give and, of cases enough, where something
+//! that must be met was not. `compare calls` prints the list that the runner is
+//! made of.
 
+mod answers;
 mod batch;
+mod boundary;
 mod cases;
 mod exports;
 mod files;
+mod kinds;
 mod lists;
+mod pings;
 mod records;
 mod runner;
 mod tally;
-mod writers;
+mod writing;
 
 use batch::Batch;
-use cases::{compare_cases, complete, full_cases};
+use cases::{compare_cases, complete, full_cases, given};
 use runner::Runner;
 use std::sync::atomic::{AtomicU64, Ordering};
 use std::time::Instant;
@@ -78,26 +83,30 @@ fn report(job: &Job, found: &[Found], seconds: u64) -> bool {
             println!("compare: DIFFERENT: {difference}");
         }
     }
-    let verdict = if same { "the same" } else { "DIFFERENT" };
-    let (seed, told) = (job.seed, tally.tell());
-    println!("compare: seed {seed}, {verdict} ({seconds} s), {told}");
-    let gone = tally.gone();
-    if let Some(gone) = &gone {
-        println!("compare: {gone}");
+    for line in tally.tell() {
+        println!("compare: {line}");
     }
-    let missing = tally.missing();
-    for missing in &missing {
-        println!("compare: {missing}");
+    let given = given();
+    let unsaid = tally.unsaid(&given);
+    let missing = tally.missing(&given);
+    for line in unsaid.iter().chain(&missing) {
+        println!("compare: {line}");
     }
     let enough = job.full >= complete();
     if !enough && !missing.is_empty() {
-        println!("compare: that is no failure, for too few cases were asked for");
+        println!("compare: that something was not met is no failure of so few cases");
     }
-    same && gone.is_none() && (missing.is_empty() || !enough)
+    let verdict = if same { "the same" } else { "DIFFERENT" };
+    println!("compare: seed {}, {verdict} ({seconds} s)", job.seed);
+    same && unsaid.is_empty() && (missing.is_empty() || !enough)
 }
 
 fn main() -> io::Result<()> {
     let arguments: Vec<String> = env::args().skip(1).collect();
+    if arguments == ["calls"] {
+        print!("{}", exports::list());
+        return Ok(());
+    }
     let [seed, cases, command @ ..] = &arguments[..] else {
         usage()
     };
@@ -117,6 +126,6 @@ fn main() -> io::Result<()> {
 }
 
 fn usage() -> ! {
-    eprintln!("usage: compare SEED CASES RUNNER..");
+    eprintln!("usage: compare SEED CASES RUNNER.., or compare calls");
     process::exit(2)
 }

@@ -1,204 +1,244 @@
-//! The listed types but the pings: a reader and a writer each.
+//! What is compared of the two calls on records: every type read at many places and
+//! written from many numbers, what was written read back, and records of a file read,
+//! altered in one field and written back.
 
-use crate::batch::five;
-use crate::exports::Export;
+use crate::batch::{Arg, Batch, File, FILLED};
+use crate::boundary::{kind_of, read_record, write_record};
+use crate::exports::export;
+use crate::kinds::{Kind, Text, KINDS};
+use crate::tally::Given;
+use crate::writing::{compare_writer, BEHIND_MARK};
 use second::gen::Rng;
-use second::records::*;
-use second::TransceiverNumber;
-use second::{Answer, DocumentId, Order, Reply, SoftwareChannel};
-use std::sync::LazyLock;
+use second::layout::{PING_C32, PING_U32};
+use second::Order;
+use std::io;
 
-/// A field as a number: a signed one as its pattern.
-pub trait Field: Copy {
-    fn draw(rng: &mut Rng) -> Self;
-    fn number(self) -> u64;
-    fn of(number: u64) -> Self;
+/// What the exports compared here can give.
+pub const GIVEN: [Given; 2] = [
+    Given::new("read_record", &[1, 2, 3, 5, 6, 8, 9, 19]),
+    Given::new("write_record", &[9, 11, 19]),
+];
+
+/// Types that are no record's: the pings, the index class, and what isn't listed.
+const NO_RECORDS: [u16; 6] = [PING_U32, PING_C32, 0, 65406, 65515, 12345];
+
+/// More numbers than any record has, and some more.
+const MANY: u64 = 30;
+
+/// So many of a hundred writers are handed too few numbers, and so many more than the
+/// record has.
+const FEW: u64 = 15;
+const SURPLUS: u64 = 25;
+
+/// So many of a hundred texts have a length that is drawn whatever the record is.
+const ANY_TEXT: u64 = 20;
+
+/// Lengths of remarks: mostly the field's width, some beside it.
+const REMARKS: [usize; 6] = [30, 30, 30, 29, 31, 0];
+
+/// Lengths of an end of file's data: mostly two and more by fours.
+const DATA: [usize; 8] = [2, 2, 6, 10, 18, 0, 3, 4];
+
+/// Other texts are mostly under so many characters.
+const SHORT_TEXTS: usize = 21;
+
+/// Texts at the limit of an event and of an end of file, and past it.
+const LONG_TEXTS: [usize; 11] = [
+    262_120, 262_122, 262_123, 262_124, 262_125, 262_126, 262_127, 262_128, 262_130, 262_132,
+    262_144,
+];
+
+/// Every record at a place, lent just its numbers, one more, one fewer and none; and a
+/// type that is no record's.
+pub fn read_at(batch: &mut Batch, file: &mut File, place: u64) {
+    for kind in &KINDS {
+        for lent in [kind.numbers, kind.numbers + 1, kind.numbers - 1, 0] {
+            read_as(batch, file, place, kind.code, lent);
+        }
+    }
+    let nth = place % NO_RECORDS.len() as u64;
+    read_as(
+        batch,
+        file,
+        place,
+        NO_RECORDS[nth as usize],
+        (place % MANY) as usize,
+    );
 }
 
-macro_rules! field {
-    ($type:ty, $draw:ident, $pattern:ty, $of:expr, $to:expr) => {
-        impl Field for $type {
-            fn draw(rng: &mut Rng) -> Self {
-                $of(rng.$draw())
-            }
-            fn number(self) -> u64 {
-                u64::from($to(self))
-            }
-            fn of(number: u64) -> Self {
-                $of(number as $pattern)
+/// What stands at a place, read as a type into so many numbers. Gives what the second
+/// program left there, where it was read.
+fn read_as(
+    batch: &mut Batch,
+    file: &mut File,
+    place: u64,
+    code: u16,
+    lent: usize,
+) -> Option<Vec<u32>> {
+    let mut numbers = vec![FILLED; lent];
+    let told = read_record(file.bytes, place, code, &mut numbers);
+    let given = batch.file(file);
+    let of_numbers = batch.lend_words(&numbers);
+    let arguments = [
+        given.into(),
+        place.into(),
+        u64::from(code).into(),
+        of_numbers,
+    ];
+    batch.call(export("read_record"), &arguments, &told);
+    let read = told[0] == 0;
+    if let Some(kind) = kind_of(code).filter(|_| read) {
+        batch.met(kind.name, false);
+    }
+    read.then_some(numbers)
+}
+
+/// What the writer is handed.
+#[derive(Clone)]
+struct Handed {
+    code: u16,
+    numbers: Vec<u32>,
+    text: Vec<u8>,
+}
+
+impl Handed {
+    /// Numbers of a record, each with whatever stands above its width, now and then
+    /// too few or too many; and a text of so many characters.
+    fn draw(kind: &Kind, text: usize, rng: &mut Rng) -> Handed {
+        let mut numbers = (kind.draw)(rng);
+        let plain = (kind.cut)(&[u32::MAX; MANY as usize]);
+        for (number, most) in numbers.iter_mut().zip(plain) {
+            if rng.chance(50) {
+                *number |= rng.four() & !most;
             }
         }
-    };
-}
-
-field!(u16, two, u16, |n| n, |n| n);
-field!(i16, two, u16, |n| n as i16, |n| n as u16);
-field!(u32, four, u32, |n| n, |n| n);
-field!(i32, four, u32, |n| n as i32, |n| n as u32);
-field!(DocumentId, four, u32, DocumentId, |n: DocumentId| n.0);
-field!(
-    SoftwareChannel,
-    two,
-    u16,
-    SoftwareChannel,
-    |n: SoftwareChannel| n.0
-);
-field!(
-    TransceiverNumber,
-    two,
-    u16,
-    TransceiverNumber,
-    |n: TransceiverNumber| n.0
-);
-
-/// The characters beside a record, where its writer takes any.
-#[derive(Clone, Copy, PartialEq, Eq)]
-pub enum Chars {
-    None,
-    Remarks,
-    Text,
-}
-
-/// A listed type, its fields as numbers in order, the attribute last.
-pub struct Kind {
-    pub reader: Export,
-    pub writer: Export,
-    pub chars: Chars,
-    /// What reading at a place answers.
-    pub read: fn(&[u8], u64) -> Vec<u64>,
-    pub draw: fn(&mut Rng) -> Vec<u64>,
-    pub write: fn(&[u64], &[u8], Order, &mut [u8]) -> Answer,
-}
-
-/// A reader's numbers: the answer, and on acceptance the fields.
-pub fn reply_numbers<T>(reply: Reply<T>, fields: impl Fn(T) -> Vec<u64>) -> Vec<u64> {
-    match reply {
-        Ok((answer, record)) => [five(answer), fields(record)].concat(),
-        Err(answer) => five(answer),
+        match rng.below(100) {
+            few if few < FEW => numbers.truncate(rng.index(kind.numbers)),
+            more if more < FEW + SURPLUS => numbers.extend((0..=rng.below(4)).map(|_| rng.four())),
+            _ => {}
+        }
+        Handed {
+            code: kind.code,
+            numbers,
+            text: rng.bytes(text),
+        }
     }
 }
 
-/// A part of a file as its place and length.
-fn part_numbers(file: &[u8], part: &[u8]) -> [u64; 2] {
-    let place = part.as_ptr() as usize - file.as_ptr() as usize;
-    [place, part.len()].map(|number| number as u64)
+/// A length for the text of a record, mostly one that it can hold.
+fn text_length(kind: &Kind, rng: &mut Rng) -> usize {
+    if rng.chance(ANY_TEXT) {
+        return rng.index(2 * SHORT_TEXTS);
+    }
+    match kind.text {
+        Text::None => 0,
+        Text::Remarks => REMARKS[rng.index(REMARKS.len())],
+        Text::Multiple => rng.index(SHORT_TEXTS),
+        Text::Data => DATA[rng.index(DATA.len())],
+    }
 }
 
-/// A ping's header: drawn, and with the attribute as numbers.
-macro_rules! header {
-    ($($field:ident)*) => {
-        pub fn draw_header(rng: &mut Rng) -> PingHeader {
-            PingHeader {
-                $($field: Field::draw(rng),)*
+/// Every record written from numbers and characters drawn anew, and a type that is no
+/// record's.
+pub fn compare_records(batch: &mut Batch, rng: &mut Rng) -> io::Result<()> {
+    for kind in &KINDS {
+        let text = text_length(kind, rng);
+        compare_written(batch, &Handed::draw(kind, text, rng), rng)?;
+    }
+    let kind = &KINDS[rng.index(KINDS.len())];
+    let text = text_length(kind, rng);
+    let other = Handed {
+        code: NO_RECORDS[rng.index(NO_RECORDS.len())],
+        ..Handed::draw(kind, text, rng)
+    };
+    compare_written(batch, &other, rng)
+}
+
+/// Records whose text has any length, on texts about as long as a tuple holds.
+pub fn compare_long_texts(batch: &mut Batch, rng: &mut Rng) -> io::Result<()> {
+    for kind in &KINDS {
+        if matches!(kind.text, Text::Multiple | Text::Data) || rng.chance(ANY_TEXT) {
+            let text = LONG_TEXTS[rng.index(LONG_TEXTS.len())];
+            compare_written(batch, &Handed::draw(kind, text, rng), rng)?;
+        }
+    }
+    Ok(())
+}
+
+/// A record of a file read, one of its numbers altered, written back in both orders
+/// with its characters, and read again.
+pub fn alter_at(batch: &mut Batch, file: &mut File, place: u64, rng: &mut Rng) -> io::Result<()> {
+    for kind in &KINDS {
+        let Ok(read) = (kind.read)(file.bytes, place) else {
+            continue;
+        };
+        let Some(mut numbers) = read_as(batch, file, place, kind.code, kind.numbers) else {
+            batch.differ("a record that is read is not read by its type");
+            continue;
+        };
+        let at = rng.index(numbers.len());
+        numbers[at] = rng.four();
+        let text = read
+            .text
+            .map_or(0..0, |[at, n]| at as usize..(at + n) as usize);
+        let altered = Handed {
+            code: kind.code,
+            numbers,
+            text: file.bytes[text].to_vec(),
+        };
+        compare_written(batch, &altered, rng)?;
+    }
+    Ok(())
+}
+
+/// The writer in both orders, and what it writes read back.
+fn compare_written(batch: &mut Batch, handed: &Handed, rng: &mut Rng) -> io::Result<()> {
+    let Handed {
+        code,
+        numbers,
+        text,
+    } = handed;
+    for order in Order::BOTH {
+        let written = compare_writer(
+            batch,
+            export("write_record"),
+            order,
+            rng,
+            |batch| {
+                let of_numbers = batch.give_words(numbers);
+                let of_text: Arg = batch.give(text).into();
+                vec![u64::from(*code).into(), of_numbers, of_text]
+            },
+            |out| write_record(*code, numbers, text, order, out),
+        )?;
+        if let Some(written) = written {
+            read_back(batch, handed, &written);
+        }
+    }
+    Ok(())
+}
+
+/// What was written is read back: the same numbers in their own widths, and the same
+/// characters.
+fn read_back(batch: &mut Batch, handed: &Handed, bytes: &[u8]) {
+    let Some(kind) = kind_of(handed.code) else {
+        return batch.differ("a type that is no record's was written");
+    };
+    batch.met(kind.name, true);
+    match (kind.read)(bytes, BEHIND_MARK) {
+        Ok(read) => {
+            if read.numbers != (kind.cut)(&handed.numbers) {
+                batch.differ("other fields are read than were written");
+            }
+            let text = read
+                .text
+                .map_or(0..0, |[at, n]| at as usize..(at + n) as usize);
+            if bytes[text] != handed.text {
+                batch.differ("other characters are read than were written");
             }
         }
-
-        pub fn header_numbers(header: &PingHeader, attribute: i32) -> Vec<u64> {
-            vec![$(header.$field.number(),)* attribute.number()]
-        }
-    };
+        Err(_) => batch.differ("what was written is not read"),
+    }
+    let mut file = File::new(bytes);
+    read_as(batch, &mut file, BEHIND_MARK, kind.code, kind.numbers);
 }
-
-header!(
-    time_fraction time_cpu_ansi_c_standard_time software_channel_identifier transmitter_mode
-    ping_number detected_bottom_range
-);
-
-macro_rules! kind {
-    ($name:literal, $type:ident, $chars:expr, [$($field:ident)*] $(, part $part:ident)?) => {
-        Kind {
-            reader: Export::named(concat!("read_", $name)),
-            writer: Export::named(concat!("write_", $name)),
-            chars: $chars,
-            read: |file, place| {
-                reply_numbers($type::read(file, place), |record| {
-                    let fields = vec![
-                        $(record.$field.number(),)*
-                        record.tuple_attribute.number(),
-                    ];
-                    $(let fields = [&fields[..], &part_numbers(file, record.$part)].concat();)?
-                    fields
-                })
-            },
-            draw: |rng| {
-                vec![
-                    $(draw_like(|record: &$type| record.$field, rng),)*
-                    i32::draw(rng).number(),
-                ]
-            },
-            write: |fields, chars, order, out| {
-                let mut fields = fields.iter();
-                let mut next = || fields.next().copied().unwrap_or(0);
-                let _ = chars;
-                let record = $type {
-                    $($field: Field::of(next()),)*
-                    $($part: chars,)?
-                    tuple_attribute: Field::of(next()),
-                };
-                record.write(order, out)
-            },
-        }
-    };
-}
-
-/// Draws a number of the type that a field of a record has.
-fn draw_like<R, T: Field>(_: impl Fn(&R) -> T, rng: &mut Rng) -> u64 {
-    T::draw(rng).number()
-}
-
-pub static KINDS: LazyLock<Vec<Kind>> = LazyLock::new(|| {
-    vec![
-        kind!("signature", Signature, Chars::None, [
-            hac_version acquisition_software_version acquisition_software_identifier
-        ]),
-        kind!("sounder", Echosounder, Chars::Remarks, [
-            number_of_software_channels echosounder_document_identifier sound_speed ping_interval
-            transmitter_attenuation_setting multiplexing_mode blanking_at_tvg_max_range
-            tvg_max_range blanking_up_to_range calibrator_signal calibrator_mode
-            calibrator_separator
-        ], part remarks),
-        kind!("channel", Channel, Chars::Remarks, [
-            software_channel_identifier echosounder_document_identifier sampling_rate
-            type_of_data_sample time_varied_gain_mode transceiver_channel_number
-            acoustic_frequency installation_depth_of_transducer
-            alongship_angle_offset_of_the_transducer_face
-            athwartship_angle_offset_of_the_transducer_face
-            alongship_angle_offset_of_the_main_axis_of_the_acoustic_beam
-            athwartship_angle_offset_of_the_main_axis_of_the_acoustic_beam
-            absorption_of_sound pulse_length bandwidth calibration_source_level
-            beamwidth_3_db_of_the_transducer_beam beam_pattern wide_beam_drop_off
-            calibration_receiving_sensitivity receiver_gain bottom_detection_minimum_level
-            bottom_window_min bottom_window_max
-        ], part remarks),
-        kind!("threshold", Threshold, Chars::None, [
-            time_fraction time_cpu_ansi_c_standard_time software_channel_identifier
-            tvg_max_range tvg_min_range tvt_evaluation_mode tvt_evaluation_interval
-            tvt_evaluation_no_of_pings tvt_evaluation_starting_tvt_ping_number
-            tvt_offset_parameter_or_constant_threshold tvt_amplification_parameter
-        ]),
-        kind!("position", Position, Chars::None, [
-            time_fraction time_cpu_ansi_c_standard_time gps_time positioning_system latitude
-            longitude
-        ]),
-        kind!("navigation", Navigation, Chars::None, [
-            time_fraction time_cpu_ansi_c_standard_time navigation_system heading
-            navigation_speed
-        ]),
-        kind!("attitude", Attitude, Chars::None, [
-            time_fraction time_cpu_ansi_c_standard_time software_channel_identifier
-            platform_referred_to alongship_offset athwartship_offset pitch roll heave
-        ]),
-        kind!("event", EventMarker, Chars::Text, [
-            time_fraction time_cpu_ansi_c_standard_time
-        ], part text),
-        kind!("run_start", StartOfRun, Chars::None, [
-            time_fraction time_cpu_ansi_c_standard_time
-        ]),
-        kind!("run_end", EndOfRun, Chars::None, [
-            time_fraction time_cpu_ansi_c_standard_time
-        ]),
-        kind!("file_end", EndOfFile, Chars::None, [
-            time_fraction time_cpu_ansi_c_standard_time closing_mode
-        ], part data),
-    ]
-});

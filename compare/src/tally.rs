@@ -1,46 +1,46 @@
 //! What was compared: how often each export was called, which codes it gave, how
-//! many identifiers it told as compared, and which files there were.
+//! many identifiers it told as compared, which records were met and which files.
 
 use crate::exports::{Export, EXPORTS};
+use crate::kinds::KINDS;
 use second::layout::{CHANNEL_LIMIT, FILE_LIMIT};
 use second::Order;
+use std::collections::BTreeMap;
 
 /// The codes of 01 and 02, and 0 for acceptance.
 const CODES: usize = 26;
 
-/// The code that no call gives any more: request c of 02.
-const GONE: usize = 10;
-
-/// The codes that a call can refuse with.
-fn refusals() -> impl Iterator<Item = usize> {
-    (1..CODES).filter(|code| *code != GONE)
-}
-
-/// The codes of a ping's samples that a call gives, by its export's name.
-fn sample_codes(name: &str) -> &'static [usize] {
-    match name {
-        "check" | "ask" | "normalise" | "normalise_tuple" | "read_ping" | "read_samples" => {
-            &[11, 23, 24, 25]
-        }
-        "write_u32" | "write_c32" => &[11, 23],
-        _ => &[],
-    }
-}
-
-/// The least number of identifiers compared that a call which checks a whole file
-/// can accept with, by its export's name: asking needs a ping, its channel and
-/// that one's sounder.
-fn least_compared(name: &str) -> Option<u64> {
-    match name {
-        "check" | "normalise" => Some(0),
-        "ask" => Some(2),
-        _ => None,
-    }
-}
-
 /// The most identifiers that one search compares. Only a number above it shows
 /// that searches among many were added up.
 const FEW_COMPARED: u64 = CHANNEL_LIMIT as u64;
+
+/// What an export can give, and so must: said by the module that compares it.
+#[derive(Clone, Copy)]
+pub struct Given {
+    name: &'static str,
+    /// The codes that it can refuse with.
+    codes: &'static [usize],
+    /// Of one that checks a whole file, the fewest identifiers compared that it can
+    /// accept with.
+    fewest: Option<u64>,
+}
+
+impl Given {
+    pub const fn new(name: &'static str, codes: &'static [usize]) -> Given {
+        Given {
+            name,
+            codes,
+            fewest: None,
+        }
+    }
+
+    pub const fn comparing(self, fewest: u64) -> Given {
+        Given {
+            fewest: Some(fewest),
+            ..self
+        }
+    }
+}
 
 /// Of one export.
 #[derive(Clone, Default)]
@@ -82,6 +82,11 @@ impl Count {
     fn calls(&self) -> u64 {
         self.accepted() + self.refused()
     }
+
+    /// The refusals that were given.
+    fn refusals(&self) -> impl Iterator<Item = usize> + '_ {
+        (1..CODES).filter(|code| self.codes[*code] > 0)
+    }
 }
 
 /// Of the files that begin with one of the marks.
@@ -95,6 +100,8 @@ struct Marked {
 #[derive(Clone)]
 pub struct Tally {
     exports: Vec<Count>,
+    /// Of each record how often it was read, and how often it was written.
+    records: BTreeMap<&'static str, [u64; 2]>,
     /// In the order of `Order::BOTH`.
     marked: [Marked; 2],
     pub cases: u64,
@@ -106,6 +113,7 @@ impl Default for Tally {
     fn default() -> Tally {
         Tally {
             exports: vec![Count::default(); EXPORTS.len()],
+            records: BTreeMap::new(),
             marked: Default::default(),
             cases: 0,
             files: 0,
@@ -131,6 +139,11 @@ impl Tally {
         self.exports[export.number].short += 1;
     }
 
+    /// Counts a record that was read or written.
+    pub fn met(&mut self, record: &'static str, written: bool) {
+        self.records.entry(record).or_default()[usize::from(written)] += 1;
+    }
+
     pub fn file(&mut self, file: &[u8]) {
         let length = file.len() as u64;
         self.files += 1;
@@ -150,6 +163,11 @@ impl Tally {
         for (sum, count) in self.exports.iter_mut().zip(&other.exports) {
             sum.add(count);
         }
+        for (record, [read, written]) in &other.records {
+            let sum = self.records.entry(record).or_default();
+            sum[0] += read;
+            sum[1] += written;
+        }
         for (sum, marked) in self.marked.iter_mut().zip(&other.marked) {
             sum.files += marked.files;
             sum.at_limit += marked.at_limit;
@@ -157,99 +175,70 @@ impl Tally {
         }
     }
 
-    /// In words: cases and files, calls by export, identifiers compared, codes by
-    /// kind of call.
-    pub fn tell(&self) -> String {
+    /// In words, a line each: cases and files; each export's calls with the codes
+    /// that they gave and the identifiers compared; the records.
+    pub fn tell(&self) -> Vec<String> {
         let [lsb, msb] = &self.marked;
         let calls: u64 = self.exports.iter().map(Count::calls).sum();
         let short: u64 = self.exports.iter().map(|count| count.short).sum();
-        let (files, marked) = (self.files, lsb.files + msb.files);
-        format!(
-            "{} cases, {files} files ({} LSB, {} MSB, {} without a mark; of 16 MiB {} LSB, {} MSB; past it {} LSB, {} MSB), \
-             {} bytes, {calls} calls, {short} of them with 0 entries and with one too few, too; calls: {}; identifiers compared: {}; codes: {}",
-            self.cases,
-            lsb.files,
-            msb.files,
-            files - marked,
-            lsb.at_limit,
-            msb.at_limit,
-            lsb.past_limit,
-            msb.past_limit,
-            self.bytes,
-            self.by_export(),
-            self.by_compared(),
-            self.by_code(),
-        )
-    }
-
-    /// Of each export: how many calls were compared, and how many accepted.
-    fn by_export(&self) -> String {
-        let counts = EXPORTS.iter().zip(&self.exports);
-        let told = counts.map(|(export, count)| {
-            let (calls, accepted) = (count.calls(), count.accepted());
-            format!("{} {calls} ({accepted} accepted)", export.name)
-        });
-        told.collect::<Vec<_>>().join(", ")
-    }
-
-    /// Of each export that checks a whole file: the least and the most identifiers
-    /// compared that it told of an accepted one.
-    fn by_compared(&self) -> String {
-        let counts = EXPORTS.iter().zip(&self.exports);
-        let checking = counts.filter(|(export, _)| least_compared(export.name).is_some());
-        let told = checking.map(|(export, count)| match count.compared {
-            Some((least, most)) => format!("{} {least} to {most}", export.name),
-            None => format!("{} never", export.name),
-        });
-        told.collect::<Vec<_>>().join(", ")
-    }
-
-    /// Of each code: the kinds of call that gave it, and how often.
-    fn by_code(&self) -> String {
-        let kinds = self.kinds();
-        let of_code = |code: usize| {
-            let given = kinds.iter().filter(|(_, count)| count.codes[code] > 0);
-            let told = given.map(|(kind, count)| format!("{kind} {}", count.codes[code]));
-            format!("{code}: {}", told.collect::<Vec<_>>().join(", "))
-        };
-        refusals().map(of_code).collect::<Vec<_>>().join("; ")
-    }
-
-    /// The exports' counts summed up by kind.
-    fn kinds(&self) -> Vec<(&'static str, Count)> {
-        let mut kinds: Vec<(&str, Count)> = Vec::new();
+        let mut lines = vec![
+            format!(
+                "{} cases, {} files of {} bytes: {} LSB, {} MSB, {} without a mark; \
+                 of 16 MiB {} LSB, {} MSB; past it {} LSB, {} MSB",
+                self.cases,
+                self.files,
+                self.bytes,
+                lsb.files,
+                msb.files,
+                self.files - lsb.files - msb.files,
+                lsb.at_limit,
+                msb.at_limit,
+                lsb.past_limit,
+                msb.past_limit,
+            ),
+            format!("{calls} calls, {short} of them with 0 entries and with one too few, too"),
+        ];
         for (export, count) in EXPORTS.iter().zip(&self.exports) {
-            let kind = kind_of(export.name);
-            match kinds.iter_mut().find(|(listed, _)| *listed == kind) {
-                Some((_, sum)) => sum.add(count),
-                None => kinds.push((kind, count.clone())),
+            lines.push(of_export(export.name, count));
+        }
+        let records = self.records.iter();
+        let told = records.map(|(name, [read, written])| format!("{name} {read}, {written}"));
+        let told: Vec<String> = told.collect();
+        lines.push(format!("records read, written: {}", told.join("; ")));
+        lines
+    }
+
+    /// What is wrong however many cases there were: exports that nobody says what they
+    /// can give, or that gave something else.
+    pub fn unsaid(&self, given: &[Given]) -> Vec<String> {
+        let mut unsaid = Vec::new();
+        for (export, count) in EXPORTS.iter().zip(&self.exports) {
+            let Some(given) = given.iter().find(|given| given.name == export.name) else {
+                unsaid.push(format!("nobody says what {} can give", export.name));
+                continue;
+            };
+            for code in count.refusals().filter(|code| !given.codes.contains(code)) {
+                unsaid.push(format!("{} gave code {code}, which it can't", export.name));
             }
         }
-        kinds
+        unsaid
     }
 
-    /// How many calls gave a code.
-    fn given(&self, code: usize) -> u64 {
-        self.exports.iter().map(|count| count.codes[code]).sum()
-    }
-
-    /// How many calls gave the code that none may give.
-    pub fn gone(&self) -> Option<String> {
-        let times = self.given(GONE);
-        (times > 0)
-            .then(|| format!("code {GONE}, which is no longer given, was given {times} times"))
-    }
-
-    /// What was not compared: codes that no call gave; what an export never did;
-    /// files at the limit and past it in either order.
-    pub fn missing(&self) -> Vec<String> {
-        let codes = refusals().filter(|code| self.given(*code) == 0);
-        let mut missing: Vec<String> = codes
-            .map(|code| format!("no call gave code {code}"))
-            .collect();
+    /// What was not compared: codes that no call gave; what an export or a record
+    /// never did; files at the limit and past it in either order.
+    pub fn missing(&self, given: &[Given]) -> Vec<String> {
+        let mut missing = Vec::new();
         for (export, count) in EXPORTS.iter().zip(&self.exports) {
-            missing.extend(never_done(export.name, count));
-            missing.extend(never_compared(export.name, count));
+            let said = given.iter().filter(|given| given.name == export.name);
+            missing.extend(said.flat_map(|given| never_done(given, count)));
+        }
+        for kind in &KINDS {
+            let met = self.records.get(kind.name).copied().unwrap_or_default();
+            for (what, times) in ["read", "written"].iter().zip(met) {
+                if times == 0 {
+                    missing.push(format!("{} was never {what}", kind.name));
+                }
+            }
         }
         for (order, marked) in Order::BOTH.iter().zip(&self.marked) {
             for (what, files) in [("of", marked.at_limit), ("past", marked.past_limit)] {
@@ -262,34 +251,44 @@ impl Tally {
     }
 }
 
-/// Whether an export was never accepted, never refused or never called with too
-/// few entries; of one that judges samples, which code of them it never gave.
-fn never_done(name: &str, count: &Count) -> Vec<String> {
+/// An export's calls, in words.
+fn of_export(name: &str, count: &Count) -> String {
+    let codes = count.refusals();
+    let codes: Vec<String> = codes
+        .map(|code| format!("{code}: {}", count.codes[code]))
+        .collect();
+    let (calls, accepted) = (count.calls(), count.accepted());
+    let compared = match count.compared {
+        Some((least, most)) if most > 0 => format!("; identifiers compared {least} to {most}"),
+        _ => String::new(),
+    };
+    let codes = codes.join(", ");
+    format!("{name} {calls} times, accepted {accepted}, refused by {codes}{compared}")
+}
+
+/// Which of the codes that it can give an export never gave; whether it was never
+/// accepted or never called with too few entries; of one that checks a whole file,
+/// whether it was never accepted with the fewest identifiers compared that there can
+/// be, or never with many.
+fn never_done(given: &Given, count: &Count) -> Vec<String> {
+    let name = given.name;
     let mut never = Vec::new();
     for (what, times) in [
         ("accepted", count.accepted()),
-        ("refused", count.refused()),
         ("called with too few entries", count.short),
     ] {
         if times == 0 {
             never.push(format!("{name} was never {what}"));
         }
     }
-    for code in sample_codes(name) {
+    for code in given.codes {
         if count.codes[*code] == 0 {
             never.push(format!("{name} never gave code {code}"));
         }
     }
-    never
-}
-
-/// Of an export that checks a whole file: whether it was never accepted with the
-/// fewest identifiers compared that there can be, or never with many.
-fn never_compared(name: &str, count: &Count) -> Vec<String> {
-    let (Some(fewest), Some((least, most))) = (least_compared(name), count.compared) else {
-        return Vec::new();
+    let (Some(fewest), Some((least, most))) = (given.fewest, count.compared) else {
+        return never;
     };
-    let mut never = Vec::new();
     if least > fewest {
         never.push(format!(
             "{name} was never accepted with {fewest} identifiers compared"
@@ -301,15 +300,4 @@ fn never_compared(name: &str, count: &Count) -> Vec<String> {
         ));
     }
     never
-}
-
-/// The kind of a call, by its export's name: the records' readers are one, and
-/// so are their writers.
-fn kind_of(name: &'static str) -> &'static str {
-    match name {
-        "read_samples" | "read_ping" | "write_u32" | "write_c32" => name,
-        _ if name.starts_with("read_") => "record readers",
-        _ if name.starts_with("write_") => "record writers",
-        _ => name,
-    }
 }

@@ -1,4 +1,5 @@
-//! Fields as they stand in records, and in the entries of an answer.
+//! Fields as they stand in records, in the entries of an answer and among the numbers
+//! of a record.
 
 /// Names an echosounder tuple.
 #[derive(Clone, Copy, Debug, Default, PartialEq, Eq, Hash)]
@@ -20,31 +21,54 @@ impl SoftwareChannel {
 #[repr(transparent)]
 pub struct Transceiver(pub u16);
 
-/// A field, told as an entry of an answer: its pattern in its own width.
+/// A field, told as its pattern in its own width.
 pub(crate) trait Field {
-    fn of_entry(entry: u64) -> Self;
+    fn of(pattern: u64) -> Self;
 }
 
-/// Numbers: the lower bits of the entry. A `usize` is a number of tuples or of
-/// identifiers, a place or a length.
+/// A field of a record, handed over as the same pattern.
+pub(crate) trait Number: Field {
+    fn pattern(self) -> u32;
+}
+
+/// Numbers: the lower bits of the pattern, which is a number without a sign.
 macro_rules! numbers {
-    ($($number:ty)*) => {$(
+    ($($number:ty as $unsigned:ty)*) => {$(
         impl Field for $number {
-            fn of_entry(entry: u64) -> $number {
-                entry as $number
+            fn of(pattern: u64) -> $number {
+                pattern as $number
+            }
+        }
+
+        impl Number for $number {
+            fn pattern(self) -> u32 {
+                u32::from(self as $unsigned)
             }
         }
     )*};
 }
 
-numbers!(u16 u32 i16 i32 usize);
+numbers!(u16 as u16 i16 as u16 u32 as u32 i32 as u32);
+
+/// A number of tuples or of identifiers, a place or a length.
+impl Field for usize {
+    fn of(pattern: u64) -> usize {
+        pattern as usize
+    }
+}
 
 /// Identifiers: the number that they are.
 macro_rules! identifiers {
     ($($identifier:ident)*) => {$(
         impl Field for $identifier {
-            fn of_entry(entry: u64) -> $identifier {
-                $identifier(Field::of_entry(entry))
+            fn of(pattern: u64) -> $identifier {
+                $identifier(Field::of(pattern))
+            }
+        }
+
+        impl Number for $identifier {
+            fn pattern(self) -> u32 {
+                self.0.pattern()
             }
         }
     )*};
@@ -52,17 +76,7 @@ macro_rules! identifiers {
 
 identifiers!(DocumentId SoftwareChannel Transceiver);
 
-/// The fields of an answer, taken in their order.
-pub(crate) struct Fields<'a>(std::slice::Iter<'a, u64>);
-
-impl<'a> Fields<'a> {
-    /// The fields behind the numbers that every answer begins with.
-    pub fn of(answer: &'a [u64]) -> Fields<'a> {
-        Fields(answer[crate::call::HEAD..].iter())
-    }
-
-    /// The next field. Its answer has an entry for each.
-    pub fn next<F: Field>(&mut self) -> F {
-        F::of_entry(*self.0.next().expect("an entry for each field"))
-    }
+/// A field of an answer: the entry at its place.
+pub(crate) fn told<F: Field>(answer: &[u64], place: usize) -> F {
+    F::of(answer[place])
 }

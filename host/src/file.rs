@@ -1,8 +1,8 @@
 //! A whole file: its limits, its byte order, its check, and a ping's parents.
 
 use crate::answer::Refusal;
-use crate::call::{self, COMPARED, TUPLES};
-use crate::field::{DocumentId, Field, Fields, SoftwareChannel};
+use crate::call::{self, HAC_COMPARED, HAC_TUPLES};
+use crate::field::{told, DocumentId, SoftwareChannel};
 
 /// The most bytes of a file, and of a normal form.
 pub const FILE_LIMIT: usize = 16_777_216;
@@ -79,10 +79,10 @@ pub struct Counts {
 /// 3, 6, 7, 9, 8, 12, 14, 13, 11, 23, 24, 25; behind the end of file 15, 16, 17.
 /// [`crate::wrong_sample`] tells more of 23, 24 and 25.
 pub fn check(file: &[u8]) -> Result<Counts, Refusal> {
-    let answer = call::hac_check(file)?;
+    let answer = call::check(file)?;
     Ok(Counts {
-        tuples: Field::of_entry(answer[TUPLES]),
-        compared: Field::of_entry(answer[COMPARED]),
+        tuples: told(&answer, HAC_TUPLES),
+        compared: told(&answer, HAC_COMPARED),
     })
 }
 
@@ -111,16 +111,15 @@ pub struct Parents {
 /// The parents of the ping at a place. Refuses as [`check`] does; then by 9 where
 /// no listed ping starts.
 pub fn ask(file: &[u8], place: usize) -> Result<Parents, Refusal> {
-    let answer = call::hac_ask(file, place)?;
-    let mut fields = Fields::of(&answer);
+    let answer = call::ask(file, place)?;
     Ok(Parents {
-        channel: fields.next(),
-        channel_place: fields.next(),
-        sampling_rate: fields.next(),
-        type_of_data_sample: fields.next(),
-        sounder: fields.next(),
-        sounder_place: fields.next(),
-        tuples: Field::of_entry(answer[TUPLES]),
-        compared: Field::of_entry(answer[COMPARED]),
+        channel: told(&answer, call::HAC_ASK_CHANNEL),
+        channel_place: told(&answer, call::HAC_ASK_CHANNEL_PLACE),
+        sampling_rate: told(&answer, call::HAC_ASK_SAMPLING_RATE),
+        type_of_data_sample: told(&answer, call::HAC_ASK_TYPE_OF_DATA_SAMPLE),
+        sounder: told(&answer, call::HAC_ASK_SOUNDER),
+        sounder_place: told(&answer, call::HAC_ASK_SOUNDER_PLACE),
+        tuples: told(&answer, HAC_TUPLES),
+        compared: told(&answer, HAC_COMPARED),
     })
 }

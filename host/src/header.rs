@@ -1,136 +1,50 @@
-//! Holds include/hac.h to the tables of this crate: answers, records, codes, types,
-//! limits.
+//! Holds include/hac.h and include/hac_records.h to the tables of this crate: codes,
+//! types, limits, records. Its calls, and the places of what they tell, need no such
+//! test: they are made from it.
 
-use crate::call::{COMPARED, HEAD, LENGTH, PLACE, TUPLES};
+#[allow(dead_code)]
+#[path = "../../include/calls.rs"]
+mod calls;
+
 use crate::{types, Code, CHANNEL_LIMIT, FILE_LIMIT, FIRST_PLACE, REMARK};
 use crate::{SOUNDER_LIMIT, TUPLE_LIMIT, VALUE_LIMIT};
+use calls::Header;
 
-/// The header, blanks and line ends made alike.
-fn header() -> String {
-    let words: Vec<&str> = include_str!("../../include/hac.h")
-        .split_whitespace()
-        .collect();
-    words.join(" ")
+const CALLS: &str = include_str!("../../include/hac.h");
+const RECORDS: &str = include_str!("../../include/hac_records.h");
+
+fn header() -> Header {
+    Header::of(&[CALLS, RECORDS].concat()).expect("both headers can be read")
 }
 
-fn holds(header: &str, text: &str) {
-    assert!(header.contains(text), "include/hac.h lacks: {text}");
-}
-
-/// A type as C has it.
-fn c_type(kind: &str) -> &'static str {
-    match kind {
-        "u16" | "SoftwareChannel" | "Transceiver" => "uint16_t",
-        "u32" | "DocumentId" => "uint32_t",
-        "i16" => "int16_t",
-        "i32" => "int32_t",
-        _ => panic!("{kind} is no type of a field"),
-    }
-}
-
-/// Holds the header to a constant of its own.
-fn holds_number(header: &str, name: &str, number: usize) {
-    let text = format!("HAC_{name} = {number}");
-    let ends = |end| header.contains(&format!("{text}{end}"));
-    assert!(ends(",") || ends(" "), "include/hac.h lacks: {text}");
+/// Holds the headers to a number.
+fn holds(header: &Header, name: &str, number: usize) {
+    let name = format!("HAC_{name}");
+    let said = header.constants.get(&name).copied();
+    assert_eq!(said, Some(number as u64), "{name}");
 }
 
 /// One record, as the table has it.
 struct Row {
     kind: &'static str,
     code: u16,
-    read: &'static str,
-    write: &'static str,
-    told: usize,
-    beside: Option<&'static str>,
-    characters: Option<&'static str>,
-    fields: Vec<(&'static str, &'static str)>,
-}
-
-impl Row {
-    fn holds(&self, header: &str) {
-        let name = self
-            .read
-            .strip_prefix("hac_read_")
-            .expect("a reader's name");
-        let upper = name.to_uppercase();
-        holds_number(header, &format!("TYPE_{}", self.kind), self.code.into());
-        holds(
-            header,
-            &format!(
-                "enum {{ HAC_READ_{upper}_ENTRIES = {} }};",
-                HEAD + self.told
-            ),
-        );
-        holds(header, &format!("enum {{ {} }};", self.places(&upper)));
-        let asked = "const uint8_t *file, size_t length, size_t place";
-        let answer = "uint64_t *answer, size_t entries";
-        holds(
-            header,
-            &format!("uint8_t {}({asked}, {answer});", self.read),
-        );
-        let written = format!("bool msb, uint8_t *out, size_t out_length, {answer}");
-        let handed = self.handed();
-        holds(
-            header,
-            &format!("uint8_t {}({handed}, {written});", self.write),
-        );
-    }
-
-    /// The places of its fields, as the header's enum has them.
-    fn places(&self, upper: &str) -> String {
-        let told = self
-            .fields
-            .iter()
-            .map(|(field, kind)| (field.to_uppercase(), c_type(kind)));
-        let parts = self.beside.into_iter().flat_map(|part| {
-            ["place", "length"].map(|end| (format!("{part}_{end}").to_uppercase(), "size_t"))
-        });
-        let told: Vec<_> = told.chain(parts).collect();
-        assert_eq!(told.len(), self.told, "{}", self.read);
-        let line = |(at, (field, kind)): (usize, &(String, &str))| {
-            let comma = if at + 1 < told.len() { "," } else { "" };
-            let sign = match kind.starts_with("int") {
-                true => format!(" /* {kind} */"),
-                false => String::new(),
-            };
-            format!("HAC_{upper}_{field} = {}{comma}{sign}", HEAD + at)
-        };
-        told.iter()
-            .enumerate()
-            .map(line)
-            .collect::<Vec<_>>()
-            .join(" ")
-    }
-
-    /// What its writer is handed.
-    fn handed(&self) -> String {
-        let fields = self
-            .fields
-            .iter()
-            .map(|(field, kind)| format!("{} {field}", c_type(kind)));
-        let characters = self.characters.into_iter();
-        let characters =
-            characters.map(|name| format!("const uint8_t *{name}, size_t {name}_length"));
-        fields.chain(characters).collect::<Vec<_>>().join(", ")
-    }
+    numbers: usize,
+    fields: Vec<&'static str>,
 }
 
 macro_rules! rows {
     ($(
         $(#[$about:meta])*
-        $record:ident = $type:ident: $read:ident[$told:literal] => ($($beside:ident)?),
-        $write:ident <= ($($characters:ident)?) { $($field:ident: $kind:ty,)* }
+        $record:ident = $type:ident
+            => ($($beside:ident)?)
+            <= $(($characters:ident))? $([$zeros:literal])?
+        { $($field:ident: $kind:ty,)* }
     )*) => {
         vec![$(Row {
             kind: stringify!($type),
             code: crate::$record::CODE,
-            read: stringify!($read),
-            write: stringify!($write),
-            told: $told,
-            beside: None $(.or(Some(stringify!($beside))))?,
-            characters: None $(.or(Some(stringify!($characters))))?,
-            fields: vec![$((stringify!($field), stringify!($kind))),*],
+            numbers: crate::$record::NUMBERS,
+            fields: vec![$(stringify!($field)),*],
         }),*]
     };
 }
@@ -140,94 +54,16 @@ fn records() {
     let rows: Vec<Row> = records!(rows);
     let header = header();
     assert_eq!(rows.len(), 11);
-    rows.iter().for_each(|row| row.holds(&header));
-}
-
-#[test]
-fn numbers_of_every_answer() {
-    let header = header();
-    for (name, at) in [
-        ("PLACE", PLACE),
-        ("TUPLES", TUPLES),
-        ("LENGTH", LENGTH),
-        ("COMPARED", COMPARED),
-        // of calls that tell no more
-        ("CHECK_ENTRIES", HEAD),
-        ("NORMALISE_ENTRIES", HEAD),
-        ("NORMALISE_TUPLE_ENTRIES", HEAD),
-        ("READ_SAMPLES_ENTRIES", HEAD),
-        ("WRITE_ENTRIES", HEAD),
-    ] {
-        holds_number(&header, name, at);
-    }
-}
-
-/// The fields of a step, of a question and of a ping, in the order in which they are
-/// taken from an answer.
-#[test]
-fn fields_of_other_calls() {
-    let header = header();
-    let step = ["PLACE", "LENGTH", "TYPE", "NEXT"];
-    let ask = [
-        "CHANNEL",
-        "CHANNEL_PLACE",
-        "SAMPLING_RATE",
-        "TYPE_OF_DATA_SAMPLE",
-        "SOUNDER",
-        "SOUNDER_PLACE",
-    ];
-    let ping = [
-        "TIME_FRACTION",
-        "TIME_CPU",
-        "SOFTWARE_CHANNEL_IDENTIFIER",
-        "TRANSMITTER_MODE",
-        "PING_NUMBER",
-        "DETECTED_BOTTOM_RANGE",
-        "TUPLE_ATTRIBUTE",
-        "KIND",
-        "VALUES",
-    ];
-    for (call, kind, fields) in [
-        ("FORWARD", "STEP", &step[..]),
-        ("BACKWARD", "STEP", &step),
-        ("ASK", "ASK", &ask),
-        ("READ_PING", "PING", &ping),
-    ] {
-        holds_number(&header, &format!("{call}_ENTRIES"), HEAD + fields.len());
-        for (nth, field) in fields.iter().enumerate() {
-            holds_number(&header, &format!("{kind}_{field}"), HEAD + nth);
+    for row in &rows {
+        holds(&header, &format!("TYPE_{}", row.kind), row.code.into());
+        holds(&header, &format!("{}_NUMBERS", row.kind), row.numbers);
+        for (nth, field) in row.fields.iter().enumerate() {
+            let name = format!("{}_{}", row.kind, field.to_uppercase());
+            holds(&header, &name, nth);
         }
     }
-}
-
-/// A name in capitals: `NoParent` is `NO_PARENT`.
-fn capitals(name: &str) -> String {
-    let mut capitals = String::new();
-    for c in name.chars() {
-        if c.is_uppercase() && !capitals.is_empty() {
-            capitals.push('_');
-        }
-        capitals.extend(c.to_uppercase());
-    }
-    capitals
-}
-
-#[test]
-fn codes() {
-    let header = header();
-    holds(&header, "HAC_ACCEPTED = 0,");
-    for code in Code::ALL {
-        let name = capitals(&format!("{code:?}"));
-        let comma = if code.number() < 25 { "," } else { "" };
-        let line = format!(
-            "HAC_{name} = {}{comma} /* {} */",
-            code.number(),
-            code.words()
-        );
-        holds(&header, &line);
-    }
-    // a number that C programs may still name
-    holds(&header, "HAC_BROKEN_SAMPLES = 10, /* no longer given: ");
+    let most = rows.iter().map(|row| row.numbers).max();
+    holds(&header, "NUMBERS_MOST", most.expect("a record"));
 }
 
 #[test]
@@ -244,6 +80,84 @@ fn limits_and_pings() {
         ("TYPE_PING_U", types::PING_U.into()),
         ("TYPE_PING_C", types::PING_C.into()),
     ] {
-        holds_number(&header, name, number);
+        holds(&header, name, number);
+    }
+}
+
+/// A name in capitals: `NoParent` is `NO_PARENT`.
+fn capitals(name: &str) -> String {
+    let mut capitals = String::new();
+    for c in name.chars() {
+        if c.is_uppercase() && !capitals.is_empty() {
+            capitals.push('_');
+        }
+        capitals.extend(c.to_uppercase());
+    }
+    capitals
+}
+
+/// Each code has its name and its words.
+#[test]
+fn codes() {
+    let words: Vec<&str> = CALLS.split_whitespace().collect();
+    let text = words.join(" ");
+    let holds = |line: &str| assert!(text.contains(line), "include/hac.h lacks: {line}");
+    holds("HAC_ACCEPTED = 0,");
+    for code in Code::ALL {
+        let name = capitals(&format!("{code:?}"));
+        let (number, words) = (code.number(), code.words());
+        let comma = if number < 25 { "," } else { "" };
+        holds(&format!("HAC_{name} = {number}{comma} /* {words} */"));
+    }
+    // a number that C programs may still name
+    holds("HAC_BROKEN_SAMPLES = 10, /* no longer given: ");
+}
+
+/// Each call, with the entries of its answer; a declaration that can't be read is
+/// named.
+#[test]
+fn declarations() {
+    let header = header();
+    let entries = |name: &str| {
+        let call = header.calls.iter().find(|call| call.name == name);
+        call.map(|call| call.entries)
+    };
+    assert_eq!(entries("check"), Some(5));
+    assert_eq!(entries("read_record"), Some(7));
+    assert_eq!(entries("write_record"), Some(5));
+    assert_eq!(entries("read_navigation"), None);
+    let answer = "uint64_t *answer, size_t entries";
+    for (text, why) in [
+        (
+            format!("uint8_t hac_new({answer});"),
+            "there is no HAC_NEW_ENTRIES",
+        ),
+        (format!("int hac_new({answer});"), "a call is declared as"),
+        (
+            "uint8_t hac_new(size_t place);".into(),
+            "it isn't lent answer last",
+        ),
+        (
+            format!("uint8_t hac_new(float depth, {answer});"),
+            "float is no type",
+        ),
+        (
+            format!("uint8_t hac_new(uint8_t *out, {answer});"),
+            "behind out there is no",
+        ),
+        (
+            format!("uint8_t hac_new(char, {answer});"),
+            "char is no parameter",
+        ),
+        ("enum { HAC_NEW };".into(), "HAC_NEW has no number"),
+        ("enum { HAC_NEW = x };".into(), "x is no number"),
+        (
+            "enum { HAC_NEW = 1, HAC_NEW = 2 };".into(),
+            "HAC_NEW stands twice",
+        ),
+    ] {
+        let said = Header::of(&text).expect_err("no declaration");
+        assert!(said.contains("new") || said.contains("NEW"), "{said}");
+        assert!(said.contains(why), "{said}");
     }
 }

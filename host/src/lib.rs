@@ -30,7 +30,7 @@
 //! # Ok::<(), hac::Refusal>(())
 //! ```
 
-// Unsafe code stands in `call` alone; `ffi` declares what it calls.
+// Unsafe code stands in what `call` takes in, and nowhere else.
 #![deny(unsafe_code)]
 #![warn(missing_docs)]
 
@@ -40,7 +40,6 @@ mod table;
 mod answer;
 #[allow(unsafe_code)]
 mod call;
-mod ffi;
 mod field;
 mod file;
 #[cfg(test)]
@@ -63,8 +62,8 @@ pub use ping::{
     read_ping, read_samples, samples, write_c32, write_u32, Ping, PingHeader, PingKind, Samples,
 };
 pub use record::{
-    Attitude, Channel, Event, FileEnd, Navigation, Position, RunEnd, RunStart, Signature, Sounder,
-    Threshold, REMARK,
+    read_record, write_record, Attitude, Channel, Event, FileEnd, Navigation, Position, RunEnd,
+    RunStart, Signature, Sounder, Threshold, REMARK,
 };
 pub use walk::{Step, Tuple, Tuples, Walk};
 pub use wrong::{wrong_sample, SampleFault, WrongSample};

@@ -1,8 +1,8 @@
 //! The normal form of a file, and of one tuple.
 
 use crate::answer::Refusal;
-use crate::call::{self, COMPARED, HEAD, LENGTH, TUPLES};
-use crate::field::Field;
+use crate::call::{self, HAC_COMPARED, HAC_LENGTH, HAC_TUPLES};
+use crate::field::told;
 use crate::file::FILE_LIMIT;
 
 /// A normal form that was written.
@@ -18,11 +18,11 @@ pub struct Normal {
 }
 
 impl Normal {
-    fn of(answer: [u64; HEAD]) -> Normal {
+    fn of<const ENTRIES: usize>(answer: [u64; ENTRIES]) -> Normal {
         Normal {
-            tuples: Field::of_entry(answer[TUPLES]),
-            length: Field::of_entry(answer[LENGTH]),
-            compared: Field::of_entry(answer[COMPARED]),
+            tuples: told(&answer, HAC_TUPLES),
+            length: told(&answer, HAC_LENGTH),
+            compared: told(&answer, HAC_COMPARED),
         }
     }
 }
@@ -30,14 +30,14 @@ impl Normal {
 /// Writes a file's normal form into lent memory. Refuses as [`crate::check`]
 /// does; then by 18, 20, 19.
 pub fn normalise(file: &[u8], out: &mut [u8]) -> Result<Normal, Refusal> {
-    call::hac_normalise(file, out).map(Normal::of)
+    call::normalise(file, out).map(Normal::of)
 }
 
 /// Writes the normal form of a mark and one tuple into lent memory: the mark
 /// alone for a tuple of the index class. Refuses by 1, 2; 3, 5, 3, 6, 9, 8, 11 at
 /// 4; 23, 24, 25 at their bytes; 15 for bytes behind the tuple; 18; 19.
 pub fn normalise_tuple(file: &[u8], out: &mut [u8]) -> Result<Normal, Refusal> {
-    call::hac_normalise_tuple(file, out).map(Normal::of)
+    call::normalise_tuple(file, out).map(Normal::of)
 }
 
 /// A normal form is less than so many times as long as its file: at the most a

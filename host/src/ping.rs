@@ -1,8 +1,8 @@
 //! Pings: their fields and samples read, and pings written.
 
 use crate::answer::Refusal;
-use crate::call::{self, LENGTH};
-use crate::field::{Field, Fields, SoftwareChannel};
+use crate::call::{self, HAC_LENGTH};
+use crate::field::{told, Field, SoftwareChannel};
 use crate::file::Order;
 
 /// The fields before a ping's samples, under the names of TR Tables 6 and 20.
@@ -21,14 +21,14 @@ pub struct PingHeader {
 #[derive(Clone, Copy, Debug, PartialEq, Eq)]
 pub enum PingKind {
     /// Type 10000, pairs of sample number and value.
-    U32 = 0,
+    U32 = call::HAC_KIND_U32 as isize,
     /// Type 10010, values and runs of silence.
-    C32 = 1,
+    C32 = call::HAC_KIND_C32 as isize,
 }
 
 impl Field for PingKind {
-    fn of_entry(entry: u64) -> PingKind {
-        if entry == PingKind::U32 as u64 {
+    fn of(pattern: u64) -> PingKind {
+        if pattern == PingKind::U32 as u64 {
             PingKind::U32
         } else {
             PingKind::C32
@@ -53,20 +53,19 @@ pub struct Ping {
 /// end; by 9 for another type; then by 9, 11, all at the place; by 23, 24, 25 at
 /// the byte of the first number or word that is wrong, or of the number of samples.
 pub fn read_ping(file: &[u8], place: usize) -> Result<Ping, Refusal> {
-    let answer = call::hac_read_ping(file, place)?;
-    let mut fields = Fields::of(&answer);
+    let answer = call::read_ping(file, place)?;
     Ok(Ping {
         header: PingHeader {
-            time_fraction: fields.next(),
-            time_cpu: fields.next(),
-            software_channel_identifier: fields.next(),
-            transmitter_mode: fields.next(),
-            ping_number: fields.next(),
-            detected_bottom_range: fields.next(),
+            time_fraction: told(&answer, call::HAC_PING_TIME_FRACTION),
+            time_cpu: told(&answer, call::HAC_PING_TIME_CPU),
+            software_channel_identifier: told(&answer, call::HAC_PING_SOFTWARE_CHANNEL_IDENTIFIER),
+            transmitter_mode: told(&answer, call::HAC_PING_TRANSMITTER_MODE),
+            ping_number: told(&answer, call::HAC_PING_PING_NUMBER),
+            detected_bottom_range: told(&answer, call::HAC_PING_DETECTED_BOTTOM_RANGE),
         },
-        attribute: fields.next(),
-        kind: fields.next(),
-        values: fields.next(),
+        attribute: told(&answer, call::HAC_PING_TUPLE_ATTRIBUTE),
+        kind: told(&answer, call::HAC_PING_KIND),
+        values: told(&answer, call::HAC_PING_VALUES),
     })
 }
 
@@ -79,8 +78,8 @@ pub fn read_samples(
     numbers: &mut [u32],
     values: &mut [i32],
 ) -> Result<usize, Refusal> {
-    let answer = call::hac_read_samples(file, place, numbers, values)?;
-    Ok(Field::of_entry(answer[LENGTH]))
+    let answer = call::read_samples(file, place, numbers, values)?;
+    Ok(told(&answer, HAC_LENGTH))
 }
 
 /// A ping's samples: the number of each, and its value.
@@ -105,7 +104,7 @@ pub fn samples(file: &[u8], place: usize) -> Result<Samples, Refusal> {
 }
 
 macro_rules! writers {
-    ($($(#[$about:meta])* $write:ident $call:ident)*) => {$(
+    ($($(#[$about:meta])* $write:ident)*) => {$(
         $(#[$about])*
         pub fn $write(
             header: &PingHeader,
@@ -115,8 +114,20 @@ macro_rules! writers {
             order: Order,
             out: &mut [u8],
         ) -> Result<usize, Refusal> {
-            let answer = call::$call(header, attribute, numbers, values, order, out)?;
-            Ok(Field::of_entry(answer[LENGTH]))
+            let answer = call::$write(
+                header.time_fraction,
+                header.time_cpu,
+                header.software_channel_identifier.0,
+                header.transmitter_mode,
+                header.ping_number,
+                header.detected_bottom_range,
+                attribute,
+                numbers,
+                values,
+                order.is_msb(),
+                out,
+            )?;
+            Ok(told(&answer, HAC_LENGTH))
         }
     )*};
 }
@@ -125,10 +136,10 @@ writers! {
     /// Writes a ping as pairs, and gives its length. Refuses by 23 at the smaller
     /// of unequal counts; 11 (count); 22 without samples; 23 at the first number
     /// not above the one before it; 11 (length); 19.
-    write_u32 hac_write_u32
+    write_u32
 
     /// Writes a ping in the fewest words, and gives its length. Refuses by 23 at
     /// the smaller of unequal counts; 11 (count); 23 at the first number not above
     /// the one before it; 21 at the first value that has no word; 11 (length); 19.
-    write_c32 hac_write_c32
+    write_c32
 }

@@ -1,23 +1,23 @@
-//! The eleven records, said once.
+//! The eleven records. Made from views/records.txt by views/make.
 
-/// Hands the table of records to a macro. A row: the record and its type, its
-/// reader with how many fields it tells and the characters that stand beside
-/// what it reads (told as two fields, place and length), its writer with the
-/// characters that it takes, and the fields in the order of both.
+/// Hands the table of records to a macro. A row: the record and its type; behind
+/// `=>` the characters that stand beside what is read; behind `<=` those that the
+/// writer takes, or how many zeros it writes in their place; then the fields in the
+/// order of the record's numbers.
 macro_rules! records {
     ($then:ident) => {
         $then! {
             /// Signature, type 65535: TR Table 18. Its identifier is no field: 44204 and 44201
             /// are read, and 44204 is written.
-            Signature = SIGNATURE: hac_read_signature[4] => (), hac_write_signature <= () {
+            Signature = SIGNATURE => () <= [0] {
                 hac_version: u16,
                 acquisition_software_version: u16,
                 acquisition_software_identifier: u32,
                 tuple_attribute: i32,
             }
-            /// Echosounder, type 100: TR Table 2. Its remarks, [`REMARK`] characters, stand
+            /// Sounder, type 100: TR Table 2. An echosounder. Its remarks, 30 characters, stand
             /// beside it; to write others is refused by 9 at 0.
-            Sounder = SOUNDER: hac_read_sounder[15] => (remarks), hac_write_sounder <= (remarks) {
+            Sounder = SOUNDER => (remarks) <= (remarks) {
                 number_of_software_channels: u16,
                 echosounder_document_identifier: DocumentId,
                 sound_speed: u16,
@@ -32,9 +32,9 @@ macro_rules! records {
                 calibrator_separator: u16,
                 tuple_attribute: i32,
             }
-            /// Channel, type 1000: TR Table 4. Its remarks, [`REMARK`] characters, stand
-            /// beside it; to write others is refused by 9 at 0.
-            Channel = CHANNEL: hac_read_channel[27] => (remarks), hac_write_channel <= (remarks) {
+            /// Channel, type 1000: TR Table 4. Its remarks, 30 characters, stand beside it; to
+            /// write others is refused by 9 at 0.
+            Channel = CHANNEL => (remarks) <= (remarks) {
                 software_channel_identifier: SoftwareChannel,
                 echosounder_document_identifier: DocumentId,
                 sampling_rate: u32,
@@ -62,7 +62,7 @@ macro_rules! records {
                 tuple_attribute: i32,
             }
             /// Threshold, type 10100: TR Table 8.
-            Threshold = THRESHOLD: hac_read_threshold[12] => (), hac_write_threshold <= () {
+            Threshold = THRESHOLD => () <= [0] {
                 time_fraction: u16,
                 time_cpu: u32,
                 software_channel_identifier: SoftwareChannel,
@@ -76,8 +76,8 @@ macro_rules! records {
                 tvt_amplification_parameter: u32,
                 tuple_attribute: i32,
             }
-            /// Position, type 20: TR Table 7, whose time fraction is signed.
-            Position = POSITION: hac_read_position[7] => (), hac_write_position <= () {
+            /// Position, type 20: TR Table 7. Its time fraction is signed, here alone.
+            Position = POSITION => () <= [0] {
                 time_fraction: i16,
                 time_cpu: u32,
                 gps_time: u32,
@@ -87,7 +87,7 @@ macro_rules! records {
                 tuple_attribute: i32,
             }
             /// Navigation, type 30: TR Table 9.
-            Navigation = NAVIGATION: hac_read_navigation[6] => (), hac_write_navigation <= () {
+            Navigation = NAVIGATION => () <= [0] {
                 time_fraction: u16,
                 time_cpu: u32,
                 navigation_system: u16,
@@ -95,9 +95,9 @@ macro_rules! records {
                 navigation_speed: u16,
                 tuple_attribute: i32,
             }
-            /// Platform attitude, type 40: TR Table 10. [`SoftwareChannel::ALL`] means all
-            /// channels.
-            Attitude = ATTITUDE: hac_read_attitude[10] => (), hac_write_attitude <= () {
+            /// Attitude, type 40: TR Table 10. A platform's. [`SoftwareChannel::ALL`] means all
+            /// channels, here alone.
+            Attitude = ATTITUDE => () <= [0] {
                 time_fraction: u16,
                 time_cpu: u32,
                 software_channel_identifier: SoftwareChannel,
@@ -109,29 +109,29 @@ macro_rules! records {
                 heave: i16,
                 tuple_attribute: i32,
             }
-            /// Event marker, type 10110: TR Table 11. Its text, a multiple of four characters
-            /// and not none, stands beside it; to write another is refused by 9 at 0, one that
-            /// makes the tuple too long by 11 at 0.
-            Event = EVENT: hac_read_event[5] => (text), hac_write_event <= (text) {
+            /// Event, type 10110: TR Table 11. An event marker. Its text, a multiple of four
+            /// characters and not none, stands beside it; to write another is refused by 9 at
+            /// 0, one that makes the tuple too long by 11 at 0.
+            Event = EVENT => (text) <= (text) {
                 time_fraction: u16,
                 time_cpu: u32,
                 tuple_attribute: i32,
             }
-            /// Start of run, type 65516: TR Table 15.
-            RunStart = RUN_START: hac_read_run_start[3] => (), hac_write_run_start <= () {
+            /// RunStart, type 65516: TR Table 15.
+            RunStart = RUN_START => () <= [0] {
                 time_fraction: u16,
                 time_cpu: u32,
                 tuple_attribute: i32,
             }
-            /// End of run, type 65517: TR Table 16.
-            RunEnd = RUN_END: hac_read_run_end[3] => (), hac_write_run_end <= () {
+            /// RunEnd, type 65517: TR Table 16.
+            RunEnd = RUN_END => () <= [0] {
                 time_fraction: u16,
                 time_cpu: u32,
                 tuple_attribute: i32,
             }
-            /// End of file, type 65534: TR Table 17. Its possible data stand beside it when
-            /// read; it is written with two bytes of them, both 0.
-            FileEnd = FILE_END: hac_read_file_end[6] => (data), hac_write_file_end <= () {
+            /// FileEnd, type 65534: TR Table 17. Its possible data, 2 bytes or 6, 10, 14 and so
+            /// on, stand beside it when it is read. It is written with 2 bytes of them, all 0.
+            FileEnd = FILE_END => (data) <= [2] {
                 time_fraction: u16,
                 time_cpu: u32,
                 closing_mode: u16,

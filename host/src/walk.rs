@@ -1,8 +1,8 @@
 //! The walk: a state that a step takes and hands back, and iterators over it.
 
 use crate::answer::Refusal;
-use crate::call::{self, TUPLES};
-use crate::field::Fields;
+use crate::call::{self, HAC_TUPLES};
+use crate::field::told;
 use crate::file::FIRST_PLACE;
 use std::iter::FusedIterator;
 
@@ -51,12 +51,12 @@ impl Walk {
 
     /// Steps over the tuple that starts here. The file's length is the end.
     pub fn forward(self, file: &[u8]) -> Step {
-        step(call::hac_forward(file, self.at))
+        step(call::forward(file, self.at))
     }
 
     /// Steps back over the tuple that ends here. Place 4 is the end.
     pub fn backward(self, file: &[u8]) -> Step {
-        step(call::hac_backward(file, self.at))
+        step(call::backward(file, self.at))
     }
 
     /// The tuples from here on. A refusal is the last item.
@@ -83,17 +83,18 @@ fn step<const ENTRIES: usize>(answer: call::Answer<ENTRIES>) -> Step {
         Ok(answer) => answer,
         Err(refusal) => return Step::Refused(refusal),
     };
-    if answer[TUPLES] == 0 {
+    if answer[HAC_TUPLES] == 0 {
         return Step::End;
     }
-    let mut fields = Fields::of(&answer);
     Step::Tuple {
         tuple: Tuple {
-            place: fields.next(),
-            length: fields.next(),
-            kind: fields.next(),
+            place: told(&answer, call::HAC_STEP_PLACE),
+            length: told(&answer, call::HAC_STEP_LENGTH),
+            kind: told(&answer, call::HAC_STEP_TYPE),
         },
-        next: Walk { at: fields.next() },
+        next: Walk {
+            at: told(&answer, call::HAC_STEP_NEXT),
+        },
     }
 }
 

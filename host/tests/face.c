@@ -10,8 +10,9 @@ typedef unsigned long long number;
 static uint8_t file[HAC_FILE_LIMIT];
 static size_t length;
 
-/* The fields of each call that was accepted. */
-static uint64_t answer[HAC_READ_CHANNEL_ENTRIES];
+/* What the last call said, with the most fields that a call tells here; and the numbers of the last record read. */
+static uint64_t answer[HAC_ASK_ENTRIES];
+static uint32_t numbers[HAC_NUMBERS_MOST];
 
 static void print_counts(void) {
     printf("%llu tuples, %llu compared\n", (number)answer[HAC_TUPLES], (number)answer[HAC_COMPARED]);
@@ -26,29 +27,33 @@ static void accept(uint8_t code) {
     }
 }
 
+static void read_record(size_t place, uint16_t type) {
+    accept(hac_read_record(file, length, place, type, numbers, HAC_NUMBERS_MOST, answer, HAC_READ_RECORD_ENTRIES));
+}
+
 static void print_navigation(size_t place) {
-    accept(hac_read_navigation(file, length, place, answer, HAC_READ_NAVIGATION_ENTRIES));
-    printf("heading %d\n", (int)(int16_t)answer[HAC_NAVIGATION_HEADING]);
+    read_record(place, HAC_TYPE_NAVIGATION);
+    printf("heading %d\n", (int)(int16_t)numbers[HAC_NAVIGATION_HEADING]);
 }
 
 static void print_position(size_t place) {
-    accept(hac_read_position(file, length, place, answer, HAC_READ_POSITION_ENTRIES));
-    printf("position %ld %ld\n", (long)(int32_t)answer[HAC_POSITION_LATITUDE], (long)(int32_t)answer[HAC_POSITION_LONGITUDE]);
+    read_record(place, HAC_TYPE_POSITION);
+    printf("position %ld %ld\n", (long)(int32_t)numbers[HAC_POSITION_LATITUDE], (long)(int32_t)numbers[HAC_POSITION_LONGITUDE]);
 }
 
 static void print_event(size_t place) {
-    accept(hac_read_event(file, length, place, answer, HAC_READ_EVENT_ENTRIES));
-    printf("event %.*s\n", (int)answer[HAC_EVENT_TEXT_LENGTH], (const char *)file + answer[HAC_EVENT_TEXT_PLACE]);
+    read_record(place, HAC_TYPE_EVENT);
+    printf("event %.*s\n", (int)answer[HAC_RECORD_TEXT_LENGTH], (const char *)file + answer[HAC_RECORD_TEXT_PLACE]);
 }
 
 /* A ping's parents, what its channel says of its samples, and the sum of these. */
 static void print_ping(size_t place) {
-    static uint32_t numbers[HAC_VALUE_LIMIT];
+    static uint32_t places[HAC_VALUE_LIMIT];
     static int32_t values[HAC_VALUE_LIMIT];
     accept(hac_ask(file, length, place, answer, HAC_ASK_ENTRIES));
     printf("ping of %llu of %llu, rate %llu, type %llu", (number)answer[HAC_ASK_CHANNEL], (number)answer[HAC_ASK_SOUNDER],
         (number)answer[HAC_ASK_SAMPLING_RATE], (number)answer[HAC_ASK_TYPE_OF_DATA_SAMPLE]);
-    accept(hac_read_samples(file, length, place, numbers, HAC_VALUE_LIMIT, values, HAC_VALUE_LIMIT, answer,
+    accept(hac_read_samples(file, length, place, places, HAC_VALUE_LIMIT, values, HAC_VALUE_LIMIT, answer,
         HAC_READ_SAMPLES_ENTRIES));
     long long sum = 0;
     for (size_t i = 0; i < answer[HAC_LENGTH]; i++) {

@@ -1,8 +1,16 @@
 //! The header: by itself, and in C programs linked with the archive.
 
+#[allow(dead_code)]
+#[path = "../../include/calls.rs"]
+mod calls;
+
 use crate::damage;
-use crate::known::{repository, Known, Tuple, COMPARED, NORMAL, SPELLINGS};
+use crate::known::{
+    e3, four_bytes, repository, two_bytes, Known, Tuple, COMPARED, NORMAL, SPELLINGS,
+};
+use crate::records::plain;
 use crate::room::{run, Ran, Room};
+use calls::{Call, Header, Shape};
 use std::fmt::Write;
 use std::path::{Path, PathBuf};
 use std::process::Command;
@@ -20,20 +28,21 @@ const STRICT: [&str; 4] = ["-Wall", "-Wextra", "-Werror", "-pedantic"];
 
 #[test]
 fn the_header_alone() {
-    let header = repository("include/hac.h");
-    let alone = |compiler: &str, options: &[&str]| {
+    let alone = |compiler: &str, options: &[&str], header: &str| {
         let mut command = Command::new(compiler);
         compile(
             command
                 .args(STRICT)
                 .arg("-fsyntax-only")
                 .args(options)
-                .arg(&header),
+                .arg(repository(header)),
         );
     };
-    alone("cc", &["-std=c99", "-x", "c"]);
-    alone("c++", &["-x", "c++"]);
-    alone("c++", &["-std=c++98", "-x", "c++"]);
+    for header in ["include/hac.h", "include/hac_records.h"] {
+        alone("cc", &["-std=c99", "-x", "c"], header);
+        alone("c++", &["-x", "c++"], header);
+        alone("c++", &["-std=c++98", "-x", "c++"], header);
+    }
 }
 
 /// The example of the header's top comment, set in deeper than the rest of it.
@@ -46,7 +55,9 @@ fn the_example() {
         .filter_map(|line| line.strip_prefix("       "))
         .map(|line| format!("{line}\n"))
         .collect();
-    assert!(example.contains("hac_check(") && example.contains("hac_forward("));
+    for call in ["check", "forward", "read_record", "write_record"] {
+        assert!(example.contains(&format!("hac_{call}(")), "{call}");
+    }
     let room = Room::new();
     let source = format!(
         "#include \"hac.h\"\n#include <stdio.h>\n\
@@ -63,10 +74,13 @@ fn the_example() {
 
 /// Compiles a C program of this folder and links the archive.
 fn built(room: &Room, name: &str) -> PathBuf {
+    let folder = Path::new(env!("CARGO_MANIFEST_DIR")).join("tests");
+    linked(room, name, &folder.join(format!("{name}.c")))
+}
+
+/// Compiles a C program and links the archive.
+fn linked(room: &Room, name: &str, source: &Path) -> PathBuf {
     let program = room.at(name);
-    let source = Path::new(env!("CARGO_MANIFEST_DIR"))
-        .join("tests")
-        .join(format!("{name}.c"));
     let mut command = Command::new("cc");
     command
         .args(STRICT)
@@ -146,23 +160,122 @@ fn face() {
     }
 }
 
-/// All calls of the header are tried, and each refuses too few entries; those that
-/// check a file tell how many identifiers were compared, and a refusal tells none.
+/// What alter.c is to write of a tuple: a field or two altered, spaces 0.
+fn altered(tuple: &Tuple) -> Option<Vec<u8>> {
+    let later = || {
+        let fraction = two_bytes(tuple.order, tuple.two(6) + 1);
+        let time = four_bytes(tuple.order, tuple.four(8) + 1);
+        [&fraction[..], &time].concat()
+    };
+    let (at, bytes) = match tuple.kind() {
+        // the heading; the sound speed; both times
+        30 => (14, two_bytes(tuple.order, -905_i16 as u16).to_vec()),
+        100 => (12, two_bytes(tuple.order, 15_000).to_vec()),
+        10110 | 65534 => (6, later()),
+        _ => return None,
+    };
+    let mut written = plain(tuple);
+    written[at..at + bytes.len()].copy_from_slice(&bytes);
+    Some(written)
+}
+
+/// Records read in C, a field altered by its name, and written back; and one whose
+/// fields are named where they are handed over.
+#[test]
+fn alter() {
+    let room = Room::new();
+    let program = built(&room, "alter");
+    for name in SPELLINGS {
+        let known = Known::sample(name);
+        let mut expected = format!("{}\n", hexadecimal(&e3()[hac::FIRST_PLACE..]));
+        for written in known.tuples.iter().filter_map(altered) {
+            writeln!(expected, "{}", hexadecimal(&written)).expect("a string");
+        }
+        let ran = run(Command::new(&program).arg(&known.path));
+        assert_eq!((ran.status, ran.out, ran.err), (0, expected, String::new()));
+    }
+}
+
+fn hexadecimal(bytes: &[u8]) -> String {
+    bytes.iter().map(|byte| format!("{byte:02x}")).collect()
+}
+
+/// The bytes of each slice that few entries are tried with, and what lent memory
+/// holds before a call.
+const SLICE: usize = 64;
+const FILLED: u8 = 0xA5;
+
+/// In C: the call with each number of entries that is too few.
+fn with_few(call: &Call) -> String {
+    let (mut handed, mut lent_slices) = (String::new(), 0);
+    for parameter in &call.parameters {
+        handed.push_str(&match parameter.shape {
+            Shape::Number(_) => "4, ".into(),
+            Shape::Flag => "false, ".into(),
+            Shape::Slice { element, lent } => {
+                let memory = if lent {
+                    lent_slices += 1;
+                    format!("({} *)lent.slices[{}]", element.c, lent_slices - 1)
+                } else {
+                    format!("(const {} *)given", element.c)
+                };
+                format!("{memory}, {SLICE} / sizeof({}), ", element.c)
+            }
+        });
+    }
+    let (name, entries) = (&call.name, call.entries);
+    format!(
+        "    for (size_t entries = 0; entries < {entries}; entries++) {{
+        lent = before;
+        judge(\"hac_{name}\", hac_{name}({handed}lent.answer, entries), entries);
+    }}
+    puts(\"hac_{name}\");
+"
+    )
+}
+
+/// Every call of the header, made with each number of entries that is too few, returns
+/// 19 and writes nothing. The program that tries it is made from the header.
 #[test]
 fn few_entries() {
-    let room = Room::new();
-    let program = built(&room, "few");
-    let mut command = Command::new(&program);
-    command.arg(Known::sample("cruise-msb").path);
-    let ran = run(command.arg(COMPARED.to_string()));
-    let mut tried = ran.lines();
-    tried.sort_unstable();
     let header = std::fs::read_to_string(repository("include/hac.h")).expect("the header");
-    let calls = header
-        .lines()
-        .filter_map(|line| line.strip_prefix("uint8_t "));
-    let mut calls: Vec<&str> = calls.filter_map(|line| line.split('(').next()).collect();
-    calls.sort_unstable();
-    assert_eq!(tried, calls);
+    let header = Header::of(&header).expect("declarations");
+    let most = header.calls.iter().map(|call| call.entries).max();
+    let most = most.expect("a call");
+    let tried: String = header.calls.iter().map(with_few).collect();
+    let source = format!(
+        "#include \"hac.h\"
+#include <stdio.h>
+#include <stdlib.h>
+#include <string.h>
+
+static const uint64_t given[{SLICE} / 8];
+
+static struct {{
+    uint64_t slices[8][{SLICE} / 8], answer[{most}];
+}} lent, before;
+
+static void judge(const char *call, uint8_t code, size_t entries) {{
+    if (code != HAC_NO_ROOM || memcmp(&lent, &before, sizeof lent) != 0) {{
+        printf(\"%s with %d entries\\n\", call, (int)entries);
+        exit(1);
+    }}
+}}
+
+int main(void) {{
+    memset(&before, {FILLED}, sizeof before);
+{tried}    return 0;
+}}
+"
+    );
+    let room = Room::new();
+    let program = linked(&room, "few", &room.put("few.c", source.as_bytes()));
+    let ran = run(&mut Command::new(&program));
+    let calls: Vec<String> = header
+        .calls
+        .iter()
+        .map(|call| format!("hac_{}", call.name))
+        .collect();
+    assert_eq!(ran.lines(), calls);
     assert_eq!(ran.status, 0);
 }

@@ -39,6 +39,21 @@ pub fn vector(name: &str) -> Vec<u8> {
     decode(&fs::read_to_string(path).expect("a vector"))
 }
 
+/// A number of two bytes, and one of four, as a file of an order has them.
+pub fn two_bytes(order: Order, number: u16) -> [u8; 2] {
+    match order {
+        Order::Lsb => number.to_le_bytes(),
+        Order::Msb => number.to_be_bytes(),
+    }
+}
+
+pub fn four_bytes(order: Order, number: u32) -> [u8; 4] {
+    match order {
+        Order::Lsb => number.to_le_bytes(),
+        Order::Msb => number.to_be_bytes(),
+    }
+}
+
 /// A tuple of a sample.
 #[derive(Clone)]
 pub struct Tuple {

@@ -1,6 +1,6 @@
 //! The eleven records, read and written, held to document 01's rows.
 
-use crate::known::{decode, e3, Known, Tuple, SPELLINGS};
+use crate::known::{decode, e3, two_bytes, Known, Tuple, SPELLINGS};
 use hac::*;
 
 /// 01's rows: the widths behind the type, `s` signed, `c` characters, `z` a space,
@@ -60,6 +60,16 @@ fn by_row(tuple: &Tuple, row: &str) -> ByRow {
     assert_eq!(at, attribute);
     told.numbers.push((tuple.four(attribute) as i32).into());
     told
+}
+
+/// A tuple of a record with its spaces 0.
+pub fn plain(tuple: &Tuple) -> Vec<u8> {
+    by_row(tuple, row_of(tuple.kind())).plain
+}
+
+fn row_of(kind: u16) -> &'static str {
+    let found = ROWS.iter().find(|(code, _)| *code == kind);
+    found.expect("a record's type").1
 }
 
 /// The numbers of a record, in the order of its fields.
@@ -153,6 +163,166 @@ fn all_records_of_all_spellings() {
     }
 }
 
+/// What stands in lent numbers before a call.
+const FILLED: u32 = 0xA5A5_A5A5;
+
+/// More numbers than any record has.
+const MANY: usize = 26;
+
+/// Types that no record has: both pings, the index class, and what isn't listed.
+const NO_RECORDS: [u16; 6] = [10000, 10010, 65406, 65515, 0, 12345];
+
+/// Numbers as they are told: a signed one as its pattern in its own width.
+fn patterns(numbers: &[i64], row: &str) -> Vec<u32> {
+    let widths = row.split(' ').chain(["s4"]);
+    let widths = widths.filter(|width| ["2", "4", "s2", "s4"].contains(width));
+    let patterns = numbers.iter().zip(widths).map(|(number, width)| {
+        if width.ends_with('2') {
+            (*number as u16).into()
+        } else {
+            *number as u32
+        }
+    });
+    patterns.collect()
+}
+
+/// By its type each record has its row's numbers and characters, and from these it is
+/// written again as it stands but for its spaces: with numbers past its own, which
+/// nobody looks at or alters, and with more than a field's width, which isn't taken.
+#[test]
+fn numbers_of_all_records() {
+    for name in SPELLINGS {
+        let Known { bytes, tuples, .. } = Known::sample(name);
+        for tuple in tuples.iter().filter(|tuple| !tuple.is_ping()) {
+            if types::INDEX.contains(&tuple.kind()) {
+                continue;
+            }
+            let row = row_of(tuple.kind());
+            let told = by_row(tuple, row);
+            let own = patterns(&told.numbers, row);
+            for lent in [own.len(), MANY] {
+                let mut numbers = vec![FILLED; lent];
+                let text = read_record(&bytes, tuple.place, tuple.kind(), &mut numbers);
+                assert_eq!(text, Ok(&told.characters[..]), "{}", tuple.kind());
+                assert_eq!(numbers[..own.len()], own, "{}", tuple.kind());
+                assert!(numbers[own.len()..].iter().all(|number| *number == FILLED));
+                for (number, field) in numbers.iter_mut().zip(&told.numbers) {
+                    *number = *field as u32;
+                }
+                let mut out = vec![7; tuple.bytes.len() + 1];
+                let text = &told.characters;
+                let length = write_record(tuple.kind(), &numbers, text, tuple.order, &mut out);
+                assert_eq!(length, Ok(tuple.bytes.len()));
+                assert_eq!(out.pop(), Some(7));
+                assert_eq!(out, told.plain, "{}", tuple.kind());
+            }
+        }
+    }
+}
+
+/// The end of file is written with the data handed over.
+#[test]
+fn data_of_an_end() {
+    for order in [Order::Lsb, Order::Msb] {
+        for data in [&b"ab"[..], b"abcdef", b"abcdefghij"] {
+            let mut file = order.mark().to_vec();
+            file.resize(FIRST_PLACE + 22 + data.len(), 7);
+            let out = &mut file[FIRST_PLACE..];
+            let written = write_record(FileEnd::CODE, &[1, 2, 3, 4], data, order, out);
+            assert_eq!(written, Ok(22 + data.len()));
+            let (end, read) = FileEnd::read(&file, FIRST_PLACE).expect("an end");
+            assert_eq!((end.closing_mode, end.tuple_attribute), (3, 4));
+            assert_eq!(read, data);
+        }
+    }
+}
+
+/// Reading by type is refused as reading is; by 9 for what is no record, and last by
+/// 19 for too few numbers.
+#[test]
+fn refused_numbers_to_read() {
+    let refused = |code, place| Err(Refusal { code, place });
+    let Known { bytes, tuples, .. } = Known::sample("cruise-msb");
+    let mut numbers = [FILLED; MANY];
+    for tuple in &tuples {
+        for code in NO_RECORDS {
+            let read = read_record(&bytes, tuple.place, code, &mut numbers);
+            assert_eq!(read, refused(Code::Unfit, tuple.place), "{code}");
+        }
+    }
+    for code in [NO_RECORDS[0], Navigation::CODE] {
+        let end = bytes.len();
+        let read = read_record(&bytes, end, code, &mut numbers);
+        assert_eq!(read, refused(Code::CutShort, end));
+        assert_eq!(
+            read_record(&[], 9, code, &mut numbers),
+            refused(Code::NoMark, 9)
+        );
+    }
+    let place = |code| {
+        let found = tuples.iter().find(|tuple| tuple.kind() == code);
+        found.expect("a tuple").place
+    };
+    for (code, own) in [
+        (Channel::CODE, Channel::NUMBERS),
+        (Event::CODE, Event::NUMBERS),
+    ] {
+        for lent in [0, own - 1] {
+            let read = read_record(&bytes, place(code), code, &mut numbers[..lent]);
+            assert_eq!(read, refused(Code::NoRoom, 0));
+            let other = read_record(&bytes, place(code), RunEnd::CODE, &mut numbers[..lent]);
+            assert_eq!(other, refused(Code::Unfit, place(code)));
+        }
+    }
+    assert_eq!(numbers, [FILLED; MANY]);
+}
+
+/// Writing by type is refused by 9 for what is no record, for too few numbers and for
+/// characters that don't fit, then by 11, then by 19.
+#[test]
+fn refused_numbers_to_write() {
+    let numbers = [FILLED; MANY];
+    let text = vec![b' '; TUPLE_LIMIT + 2];
+    let mut out = SHORT;
+    let mut holds = |code, of: usize, characters: usize, refused| {
+        let written = write_record(
+            code,
+            &numbers[..of],
+            &text[..characters],
+            Order::Lsb,
+            &mut out,
+        );
+        let refused = Err(Refusal {
+            code: refused,
+            place: 0,
+        });
+        assert_eq!(written, refused, "{code} {of} {characters}");
+    };
+    for code in NO_RECORDS {
+        holds(code, MANY, 0, Code::Unfit);
+    }
+    for (code, own, fits, others) in [
+        (Navigation::CODE, 6, 0, &[1, 2, 4, TUPLE_LIMIT][..]),
+        (Channel::CODE, 25, 30, &[0, 29, 31, 34, TUPLE_LIMIT]),
+        (Event::CODE, 3, 8, &[0, 1, 3, 5, TUPLE_LIMIT - 19]),
+        (FileEnd::CODE, 4, 6, &[0, 1, 3, 4, 5, 8, TUPLE_LIMIT]),
+    ] {
+        for few in [0, own - 1] {
+            holds(code, few, fits, Code::Unfit);
+        }
+        for other in others {
+            holds(code, own, *other, Code::Unfit);
+        }
+        holds(code, own, fits, Code::NoRoom);
+        holds(code, MANY, fits, Code::NoRoom);
+    }
+    for (code, framed) in [(Event::CODE, 20), (FileEnd::CODE, 22)] {
+        holds(code, MANY, TUPLE_LIMIT - framed, Code::NoRoom);
+        holds(code, MANY, TUPLE_LIMIT - framed + 4, Code::Overfull);
+    }
+    assert_eq!(out, SHORT);
+}
+
 /// E3's record: heading -905.
 fn e3_record() -> Navigation {
     Navigation {
@@ -219,13 +389,10 @@ fn refused_readers() {
 
 /// The cruise with another number for its signature's identifier.
 fn identified(name: &str, number: u16) -> Vec<u8> {
-    let Known { mut bytes, .. } = Known::sample(name);
-    let written = match name {
-        "cruise-lsb" => number.to_le_bytes(),
-        _ => number.to_be_bytes(),
-    };
-    bytes[FIRST_PLACE + 6..FIRST_PLACE + 8].copy_from_slice(&written);
-    bytes
+    let mut known = Known::sample(name);
+    let written = two_bytes(known.order, number);
+    known.bytes[FIRST_PLACE + 6..FIRST_PLACE + 8].copy_from_slice(&written);
+    known.bytes
 }
 
 /// Files with 44201, the number that TR's table prints, are read in both byte

@@ -15,6 +15,7 @@ mod parents;
 mod progress;
 mod samples;
 mod shown;
+mod stop;
 mod summary;
 mod verdict;
 mod walk;

@@ -2,9 +2,9 @@
 
 use crate::input::{Identity, Input};
 use crate::json::Object;
-use crate::one::Stop;
 use crate::output::Output;
 use crate::shown::shown;
+use crate::stop::Stop;
 use crate::whole;
 use std::fs::{self, File};
 use std::io::{self, ErrorKind};

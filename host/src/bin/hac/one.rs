@@ -3,40 +3,10 @@
 use crate::arguments::Task;
 use crate::input::{self, Input};
 use crate::output::{say, say_verdict, Broken, Output};
+use crate::stop::Stop;
 use crate::verdict::{Status, Verdict};
 use crate::{normal, parents, samples, walk};
-use hac::{Refusal, Walk};
-use std::io;
-
-/// Why a command ends before its end.
-pub enum Stop {
-    Broken(Broken),
-    /// Its input was refused.
-    Refused(Refusal),
-    /// Its input couldn't be read.
-    Unread(io::Error),
-    /// Something else, in words.
-    Fault(String),
-}
-
-impl From<Broken> for Stop {
-    fn from(broken: Broken) -> Stop {
-        Stop::Broken(broken)
-    }
-}
-
-impl From<Refusal> for Stop {
-    fn from(refusal: Refusal) -> Stop {
-        Stop::Refused(refusal)
-    }
-}
-
-/// An error in reading the input; other errors are told in words.
-impl From<io::Error> for Stop {
-    fn from(error: io::Error) -> Stop {
-        Stop::Unread(error)
-    }
-}
+use hac::Walk;
 
 pub fn run(input: &Input, task: &Task, output: &mut Output) -> Result<(), Broken> {
     let mut bytes = Vec::new();

@@ -2,8 +2,8 @@
 //! of its samples.
 
 use crate::json::Object;
-use crate::one::Stop;
 use crate::output::Output;
+use crate::stop::Stop;
 
 pub fn run(file: &[u8], place: usize, output: &mut Output) -> Result<(), Stop> {
     let parents = hac::ask(file, place)?;

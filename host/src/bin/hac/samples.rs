@@ -1,8 +1,8 @@
 //! `hac samples`: a ping's samples, a line each.
 
 use crate::json::Object;
-use crate::one::Stop;
 use crate::output::Output;
+use crate::stop::Stop;
 
 pub fn run(file: &[u8], place: usize, output: &mut Output) -> Result<(), Stop> {
     let samples = hac::samples(file, place)?;

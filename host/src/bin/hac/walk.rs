@@ -1,8 +1,8 @@
 //! `hac walk`: a file's tuples, a line each.
 
 use crate::json::Object;
-use crate::one::Stop;
 use crate::output::Output;
+use crate::stop::Stop;
 use hac::{types, Walk};
 
 pub fn run(file: &[u8], back: bool, output: &mut Output) -> Result<(), Stop> {

@@ -1,0 +1,34 @@
+//! Why a command ends before its end.
+
+use crate::output::Broken;
+use hac::Refusal;
+use std::io;
+
+pub enum Stop {
+    Broken(Broken),
+    /// Its input was refused.
+    Refused(Refusal),
+    /// Its input couldn't be read.
+    Unread(io::Error),
+    /// Something else, in words.
+    Fault(String),
+}
+
+impl From<Broken> for Stop {
+    fn from(broken: Broken) -> Stop {
+        Stop::Broken(broken)
+    }
+}
+
+impl From<Refusal> for Stop {
+    fn from(refusal: Refusal) -> Stop {
+        Stop::Refused(refusal)
+    }
+}
+
+/// An error in reading the input; other errors are told in words.
+impl From<io::Error> for Stop {
+    fn from(error: io::Error) -> Stop {
+        Stop::Unread(error)
+    }
+}
