@@ -155,7 +155,7 @@ fn put_tuple(
     requires { ⌜ whole ≤ length (now out) ⌝ }
     ensures { λ _. ⌜ now (out .exit) ≡ sets (now (out .entry)) 0 (plainBytes msb code (handedValues (shapeOf code) (now (numbers .entry)) (now (remark .entry)) (now (behind .entry)) (patternOf 4 attribute))) ⌝ }
 {
-    let row = layout::row(layout::kind_of(code).line());
+    let row = layout::row(layout::kind_of(code).listing());
     open_frame(out, msb, whole, code);
     turning::write_row(&row, numbers, remark, msb, out, FIELDS);
     turning::copy(behind, 0, behind.len(), out, whole - TAIL - behind.len());
