@@ -16,7 +16,7 @@ use Rattle.layout.specs.declared.Kind.{Kind}
 use Rattle.layout.specs.declared.Kind.the-variants.{Signature, Sounder, Channel, Attitude, Threshold, PingU, PingC, Unlisted}
 use Rattle.layout.specs.Fields.{Field, known, size}
 use Rattle.layout.specs.Types
-use Rattle.layout.specs.Types.{Shape, indexed, row, pairs, words, unlisted, classes, inClass, kindRules, kindOf, lineOf, shapeOf, lengthsOf, fitting, pingRow}
+use Rattle.layout.specs.Types.{Shape, indexed, row, pairs, words, unlisted, classes, inClass, kindRules, kindOf, listingOf, shapeOf, lengthsOf, fitting, pingRow}
 use Rattle.turning.specs.Rows.{Value, valuesOf}
 use Rattle.turning.proofs.Contents.{valuesAt, values-at, values-take, within-take}
 use Rattle.frame.specs.Frames.{Tup, lengthOf, sizeAt, kindAt, tupAt}
@@ -41,9 +41,9 @@ Shaped k words = k ≡ 10010
 Shaped k unlisted = (eqb k 65535 ≡ false) × (eqb k 65534 ≡ false)
 
 pub shaped : (k : ℕ) → Shaped k (shapeOf k)
-unfolding kindOf lineOf
+unfolding kindOf listingOf
 shaped k =
-    by-rules (λ (q : Kind). Shaped k (lineOf q .shape)) (kindRules k) Unlisted (
+    by-rules (λ (q : Kind). Shaped k (listingOf q .shape)) (kindRules k) Unlisted (
       λ e. unfold inClass classes in (leb-true 65406 k (both-true (leb 65406 k) (leb k 65515) e .0), leb-true k 65515 (both-true (leb 65406 k) (leb k 65515) e .1)),
       λ _. (λ _. tt, λ n. (λ _. tt, λ _. (λ _. tt, λ _. (λ _. tt, λ _. (λ _. tt, λ _. (λ _. tt, λ _. (λ _. tt, λ _. (λ _. tt, λ _. (λ e. eqb-true k 10000 e, λ _. (λ e. eqb-true k 10010 e, λ _. (λ _. tt, λ _. (λ _. tt, λ _. (λ _. tt, λ m. (n, m)))))))))))))),
     )
@@ -146,32 +146,32 @@ module _ (o : Bool) (f : List ℕ) (at n : ℕ) (w : Whole o f at n) where
   k = kindAt o (drop at f)
 
   -- the digest of a kind's row
-  row-link : (q : Kind) (fs : List Field) → kindOf k ≡ q → lineOf q .shape ≡ row fs none → size (rowIn fs none 0) + 10 ≤ n
+  row-link : (q : Kind) (fs : List Field) → kindOf k ≡ q → listingOf q .shape ≡ row fs none → size (rowIn fs none 0) + 10 ≤ n
       → digest o t .link ≡ linkBy q (valuesAt o (rowIn fs none 0) f at 6)
   unfolding itemOf digestOf t k
   row-link q fs e s h =
       let vs = valuesOf o (rowIn fs none 0) (t .body) in
-      ap (λ (x : Kind). digestItem (itemBy (lineOf x .shape) o t) .link) e
+      ap (λ (x : Kind). digestItem (itemBy (listingOf x .shape) o t) .link) e
       ∙ ap (λ (x : Shape). digestItem (itemBy x o t) .link) s
       ∙ ap (λ (x : Kind). linkBy x vs) e
       ∙ ap (linkBy q) (values-place (rowIn fs none 0) h)
 
   pub link-sounder : kindOf (kindAt o (drop at f)) ≡ Sounder → n ≡ 72 → digest o (tupAt o (drop at f)) .link ≡ Links.sounder (record { doc = record { 0 = fieldAt o f at 4 8 }; says = fieldAt o f at 2 6 })
-  unfolding t k lineOf
+  unfolding t k listingOf
   link-sounder e h = row-link Sounder _ e refl (omega arith)
 
   pub link-channel : kindOf (kindAt o (drop at f)) ≡ Channel → n ≡ 108
       → digest o (tupAt o (drop at f)) .link ≡ Links.channel (record { id = record { 0 = fieldAt o f at 2 6 }; parent = record { 0 = fieldAt o f at 4 8 }; rate = fieldAt o f at 4 12; samples = fieldAt o f at 2 16 })
-  unfolding t k lineOf
+  unfolding t k listingOf
   link-channel e h = row-link Channel _ e refl (omega arith)
 
   pub link-threshold : kindOf (kindAt o (drop at f)) ≡ Threshold → n ≡ 44 → digest o (tupAt o (drop at f)) .link ≡ Links.names (record { 0 = fieldAt o f at 2 12 })
-  unfolding t k lineOf
+  unfolding t k listingOf
   link-threshold e h = row-link Threshold _ e refl (omega arith)
 
   pub link-attitude : kindOf (kindAt o (drop at f)) ≡ Attitude → n ≡ 36
       → digest o (tupAt o (drop at f)) .link ≡ unless (eqb (fieldAt o f at 2 12) 65535) (Links.names (record { 0 = fieldAt o f at 2 12 }))
-  unfolding t k lineOf
+  unfolding t k listingOf
   link-attitude e h = row-link Attitude _ e refl (omega arith)
 
   -- both pings name the channel of their header
@@ -180,21 +180,21 @@ module _ (o : Bool) (f : List ℕ) (at n : ℕ) (w : Whole o f at n) where
   header h = ap (λ (vs : List Value). numberAt vs 2) (values-place pingRow (omega arith))
 
   pub link-ping-U : kindOf (kindAt o (drop at f)) ≡ PingU → 40 ≤ n → digest o (tupAt o (drop at f)) .link ≡ Links.names (record { 0 = fieldAt o f at 2 12 })
-  unfolding itemOf digestOf contentU lineOf t
-  link-ping-U e h = ap (λ (x : Kind). digestItem (itemBy (lineOf x .shape) o t) .link) e ∙ ap (λ (c : ℕ). Links.names (record { 0 = c })) (header h)
+  unfolding itemOf digestOf contentU listingOf t
+  link-ping-U e h = ap (λ (x : Kind). digestItem (itemBy (listingOf x .shape) o t) .link) e ∙ ap (λ (c : ℕ). Links.names (record { 0 = c })) (header h)
 
   pub link-ping-C : kindOf (kindAt o (drop at f)) ≡ PingC → 40 ≤ n → digest o (tupAt o (drop at f)) .link ≡ Links.names (record { 0 = fieldAt o f at 2 12 })
-  unfolding itemOf digestOf contentC lineOf t
-  link-ping-C e h = ap (λ (x : Kind). digestItem (itemBy (lineOf x .shape) o t) .link) e ∙ ap (λ (c : ℕ). Links.names (record { 0 = c })) (header h)
+  unfolding itemOf digestOf contentC listingOf t
+  link-ping-C e h = ap (λ (x : Kind). digestItem (itemBy (listingOf x .shape) o t) .link) e ∙ ap (λ (c : ℕ). Links.names (record { 0 = c })) (header h)
 
   -- ---- its own rules
-  pub fits-place : fitting (lengthsOf (tupAt o (drop at f) .kind)) (lengthOf (tupAt o (drop at f))) ≡ fitting (lineOf (kindOf (kindAt o (drop at f))) .length) n
+  pub fits-place : fitting (lengthsOf (tupAt o (drop at f) .kind)) (lengthOf (tupAt o (drop at f))) ≡ fitting (listingOf (kindOf (kindAt o (drop at f))) .length) n
   fits-place = ap (fitting (lengthsOf (kindAt o (drop at f)))) length-place
 
   pub identifier-place : kindOf (kindAt o (drop at f)) ≡ Signature → n ≡ 24 → identifiedBy (shapeOf (kindAt o (drop at f))) o (tupAt o (drop at f)) ≡ known (fieldAt o f at 2 6)
-  unfolding lineOf t
+  unfolding listingOf t
   identifier-place e h =
-      ap (λ (x : Kind). identifiedBy (lineOf x .shape) o t) e
+      ap (λ (x : Kind). identifiedBy (listingOf x .shape) o t) e
       ∙ and-true (known (numOf o (take 2 (t .body))))
       ∙ ap (λ (l : List ℕ). known (numOf o l)) (field-place 0 2 (omega arith))
 
@@ -206,39 +206,39 @@ module _ (o : Bool) (f : List ℕ) (at n : ℕ) (w : Whole o f at n) where
   words-C h = let z : n - 14 - 22 ≡ n - 36 = omega arith in words-place 22 (omega arith) ∙ ap (λ (i : ℕ). allWords 4 o (take i (drop (at + 28) f))) z
 
   pub inner-U : kindOf (kindAt o (drop at f)) ≡ PingU → 40 ≤ n → judged (innerRules o (tupAt o (drop at f))) ≡ judgedPairs o (take (n - 32) (drop (at + 24) f))
-  unfolding lineOf contentU judgedPairs t
-  inner-U e h = ap (λ (x : Kind). judged (innerBy (lineOf x .shape) o t)) e ∙ ap (λ (ws : List ℕ). judged (pairRules (pairUp ws))) (words-U h)
+  unfolding listingOf contentU judgedPairs t
+  inner-U e h = ap (λ (x : Kind). judged (innerBy (listingOf x .shape) o t)) e ∙ ap (λ (ws : List ℕ). judged (pairRules (pairUp ws))) (words-U h)
 
   pub inner-C : kindOf (kindAt o (drop at f)) ≡ PingC → 40 ≤ n
       → judged (innerRules o (tupAt o (drop at f))) ≡ judgedWords o (fieldAt o f at 4 24) (take (n - 36) (drop (at + 28) f))
-  unfolding lineOf judgedWords countIn t
+  unfolding listingOf judgedWords countIn t
   inner-C e h =
-      ap (λ (x : Kind). judged (innerBy (lineOf x .shape) o t)) e
+      ap (λ (x : Kind). judged (innerBy (listingOf x .shape) o t)) e
       ∙ ap₂ (λ (i : ℕ) (ws : List ℕ). judged (wordRules i ws)) (ap (numOf o) (field-place 18 4 (omega arith))) (words-C h)
 
   -- and say its samples
   pub samples-U : kindOf (kindAt o (drop at f)) ≡ PingU → 40 ≤ n
       → (q : Ping) × (itemOf o (tupAt o (drop at f)) ≡ some (ping q)) × (q .samples ≡ pairUp (allWords 4 o (take (n - 32) (drop (at + 24) f))))
-  unfolding lineOf itemOf contentU t
-  samples-U e h = (contentU o (t .body), ap (λ (x : Kind). itemBy (lineOf x .shape) o t) e, ap pairUp (words-U h))
+  unfolding listingOf itemOf contentU t
+  samples-U e h = (contentU o (t .body), ap (λ (x : Kind). itemBy (listingOf x .shape) o t) e, ap pairUp (words-U h))
 
   pub samples-C : kindOf (kindAt o (drop at f)) ≡ PingC → 40 ≤ n
       → (q : Ping) × (itemOf o (tupAt o (drop at f)) ≡ some (ping q)) × (q .samples ≡ decode radix (allWords 4 o (take (n - 36) (drop (at + 28) f))))
-  unfolding lineOf itemOf contentC t
-  samples-C e h = (contentC o (t .body), ap (λ (x : Kind). itemBy (lineOf x .shape) o t) e, ap (decode radix) (words-C h))
+  unfolding listingOf itemOf contentC t
+  samples-C e h = (contentC o (t .body), ap (λ (x : Kind). itemBy (listingOf x .shape) o t) e, ap (decode radix) (words-C h))
 
 -- ---- codes of no concern to a rule: each is passed over by its code
 module _ (o : Bool) (t : Tup) where
   pub identified-other : (t .kind ≡ 65535 → ⊥) → identifiedBy (shapeOf (t .kind)) o t ≡ true
-  unfolding kindOf lineOf
+  unfolding kindOf listingOf
   identified-other a =
-      by-rules (λ (q : Kind). identifiedBy (lineOf q .shape) o t ≡ true) (kindRules (t .kind)) Unlisted
+      by-rules (λ (q : Kind). identifiedBy (listingOf q .shape) o t ≡ true) (kindRules (t .kind)) Unlisted
       (λ _. refl, λ _. (λ e. absurd (a (eqb-true (t .kind) 65535 e)), λ _. (λ _. refl, λ _. (λ _. refl, λ _. (λ _. refl, λ _. (λ _. refl, λ _. (λ _. refl, λ _. (λ _. refl, λ _. (λ _. refl, λ _. (λ _. refl, λ _. (λ _. refl, λ _. (λ _. refl, λ _. (λ _. refl, λ _. (λ _. refl, λ _. refl))))))))))))))
 
   pub inner-other : (t .kind ≡ 10000 → ⊥) → (t .kind ≡ 10010 → ⊥) → judged (innerRules o t) ≡ Fine
-  unfolding kindOf lineOf
+  unfolding kindOf listingOf
   inner-other a b =
-      by-rules (λ (q : Kind). judged (innerBy (lineOf q .shape) o t) ≡ Fine) (kindRules (t .kind)) Unlisted
+      by-rules (λ (q : Kind). judged (innerBy (listingOf q .shape) o t) ≡ Fine) (kindRules (t .kind)) Unlisted
       (λ _. refl, λ _. (λ _. refl, λ _. (λ _. refl, λ _. (λ _. refl, λ _. (λ _. refl, λ _. (λ _. refl, λ _. (λ _. refl, λ _. (λ _. refl, λ _. (λ _. refl, λ _. (λ e. absurd (a (eqb-true (t .kind) 10000 e)), λ _. (λ e. absurd (b (eqb-true (t .kind) 10010 e)), λ _. (λ _. refl, λ _. (λ _. refl, λ _. (λ _. refl, λ _. refl))))))))))))))
 
   -- codes that name no other tuple

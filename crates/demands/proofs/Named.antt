@@ -16,7 +16,7 @@ use Rattle.layout.specs.declared.Counts.{Counts}
 use Rattle.layout.specs.declared.Answer.the-variants.{Accepted}
 use Rattle.layout.specs.declared.SoftwareChannel.{SoftwareChannel}
 use Rattle.layout.specs.declared.DocumentId.{DocumentId}
-use Rattle.layout.specs.Types.{classes, inClass, kindOf, lineOf, shapeOf}
+use Rattle.layout.specs.Types.{classes, inClass, kindOf, listingOf, shapeOf}
 use Rattle.frame.specs.Frames.{Tup, lengthOf, frame, frames, tupAt}
 use Rattle.frame.specs.Files.{mark, isMsb}
 use Rattle.frame.specs.Tuples.{tuplesOf}
@@ -36,14 +36,14 @@ use Rattle.intake.specs.Check.{Course, begin, go, past, onward, after, turn, ch
 use Rattle.intake.specs.Asking.{noChannel, courseTo, parentsIn, askItem, askCourse, askAccepted, askChecked, askAt}
 use Rattle.intake.proofs.Turns.{parts-judged}
 use Rattle.demands.specs.Families.{Among, Family, channelIn, Listed, placeAfter, gives, Answered}
-use Rattle.demands.proofs.Declared.{earlier, lines, spots, line-at, spot-at}
+use Rattle.demands.proofs.Declared.{earlier, declaredBy, spots, declared-at, spot-at}
 use Rattle.intake.proofs.Accepted.{AllSound, digests, whole-turn, Divided, divided}
 use Rattle.demands.proofs.Families.{linked-on, some-left, upto-sounders, upto-channels, channel-new, sounder-new, family-of}
 
 -- ---- a listed ping
 -- it has a ping's content
 pub listed-ping : (o : Bool) (t : Tup) → Listed t → (q : Ping) × (itemOf o t ≡ some (ping q))
-unfolding itemOf lineOf kindOf inClass classes
+unfolding itemOf listingOf kindOf inClass classes
 listed-ping o t (inl e) = (contentU o (t .body), ap (λ (k : ℕ). itemBy (shapeOf k) o t) e)
 listed-ping o t (inr e) = (contentC o (t .body), ap (λ (k : ℕ). itemBy (shapeOf k) o t) e)
 
@@ -139,13 +139,13 @@ module _ (o : Bool) (all : List Tup) (linked : Linked true start (digests o all)
   so = g .sounder .is .it
 
   lists : parentsIn (courseAfter o begin (a .before)) c n
-      ≡ given (idOf ch) (lines newChannels o (a .before)) (spots channelPlace o 4 (a .before)) (lines newSounders o (a .before)) (spots sounderPlace o 4 (a .before)) c n
+      ≡ given (idOf ch) (declaredBy newChannels o (a .before)) (spots channelPlace o 4 (a .before)) (declaredBy newSounders o (a .before)) (spots sounderPlace o 4 (a .before)) c n
   unfolding ch
   lists =
       let xs = a .before in
       (λ i. given (c .0) ((ap (λ (s : Links). s .channels) (after-links o begin xs) ∙ upto-channels o start xs) i) (after-channels o begin xs i)
       ((ap (λ (s : Links). s .sounders) (after-links o begin xs) ∙ upto-sounders o start xs) i) (after-sounders o begin xs i) c n)
-      ∙ ap (λ (x : SoftwareChannel). given (x .0) (lines newChannels o xs) (spots channelPlace o 4 xs) (lines newSounders o xs) (spots sounderPlace o 4 xs) c n) (sym (g .channel .is .named))
+      ∙ ap (λ (x : SoftwareChannel). given (x .0) (declaredBy newChannels o xs) (spots channelPlace o 4 xs) (declaredBy newSounders o xs) (spots sounderPlace o 4 xs) c n) (sym (g .channel .is .named))
 
   given-parents : parentsIn (courseAfter o begin (a .before)) c n ≡ gives g n
   unfolding ofChannel ofSounder ch so
@@ -158,11 +158,11 @@ module _ (o : Bool) (all : List Tup) (linked : Linked true start (digests o all)
       let cp : (i : ℕ) → channelPlace (digest o (ofChannel .it) .link) i ≡ i ∷ [] = λ i. ap (λ (l : Link). channelPlace l i) cl in
       let sn : newSounders (digest o (ofSounder .it) .link) ≡ so ∷ [] = ap newSounders sl in
       let sp : (i : ℕ) → sounderPlace (digest o (ofSounder .it) .link) i ≡ i ∷ [] = λ i. ap (λ (l : Link). sounderPlace l i) sl in
-      let line = line-at idOf newChannels channelPlace even-channels o 4 ofChannel ch cn cp cf noChannel in
+      let it = declared-at idOf newChannels channelPlace even-channels o 4 ofChannel ch cn cp cf noChannel in
       let spot = spot-at idOf newChannels channelPlace even-channels o 4 ofChannel ch cn cp cf in
-      let under : DocumentId → ℕ = λ d. getD (spots sounderPlace o 4 (a .before)) (placeOf docOf (d .0) (lines newSounders o (a .before))) 0 in
+      let under : DocumentId → ℕ = λ d. getD (spots sounderPlace o 4 (a .before)) (placeOf docOf (d .0) (declaredBy newSounders o (a .before))) 0 in
       lists
-      ∙ (λ i. Asked.Parents c (spot i) (line i .rate) (line i .samples) (line i .parent) (under (line i .parent)) n)
+      ∙ (λ i. Asked.Parents c (spot i) (it i .rate) (it i .samples) (it i .parent) (under (it i .parent)) n)
       ∙ ap (λ (q : ℕ). Asked.Parents c (placeAfter o (ofChannel .before)) (ch .rate) (ch .samples) (ch .parent) q n)
       (ap under (sym (g .sounder .is .named)) ∙ spot-at docOf newSounders sounderPlace even-sounders o 4 ofSounder so sn sp sf)
 

@@ -11,13 +11,13 @@ use Rattle.layout.specs.declared.Answer.the-variants.{Accepted}
 use Rattle.links.specs.Links.{mostChannels}
 use Rattle.intake.specs.declared.Asked.the-variants.{Parents}
 use Rattle.intake.specs.Check.{Checked}
-use Rattle.intake.specs.Compared.{comparedIn}
+use Rattle.intake.specs.Compared.{comparisonsOf}
 use Rattle.intake.specs.Asking.{AskedFor}
 use Rattle.normal.specs.Normaliser.{Normalised}
 
 -- what an acceptance counts of the file handed in
 pub record Compared (f : List ℕ) (n : Counts) : Type 0 where
-  pub is : n .compared ≡ comparedIn f
+  pub is : n .compared ≡ comparisonsOf f
   pub most : n .compared ≤ mostChannels * n .tuples
 
 pub record Comparisons : Type 0 where

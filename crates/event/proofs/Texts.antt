@@ -10,7 +10,7 @@ use lib.ListN.{length}
 use Rattle.rules.proofs.Bools.{and-false}
 use Rattle.order.specs.Order.{bytesOf, patternOf}
 use Rattle.order.proofs.Laws.{length-bytesOf}
-use Rattle.layout.specs.Types.{classes, inClass, kindOf, lineOf, lengthsOf, fitting}
+use Rattle.layout.specs.Types.{classes, inClass, kindOf, listingOf, lengthsOf, fitting}
 use Rattle.frame.specs.Frames.{lengthOf}
 use Rattle.content.specs.Forms.{plainTuple}
 use Rattle.tuples.proofs.Storing.{length-four}
@@ -22,7 +22,7 @@ module _ (o : Bool) (r : Event) (t : List ℕ) where
   whole = lengthOf (plainTuple o 10110 (eventValues r t))
 
   pub text-length : lengthOf (plainTuple o 10110 (eventValues r t)) ≡ 20 + length t
-  unfolding kindOf inClass classes lineOf
+  unfolding kindOf inClass classes listingOf
   text-length =
       let a = bytesOf o 4 (patternOf 4 (r .«tuple_attribute»)) in
       let four = ap length (append-nil a) ∙ length-bytesOf o 4 (patternOf 4 (r .«tuple_attribute»)) in
@@ -30,7 +30,7 @@ module _ (o : Bool) (r : Event) (t : List ℕ) where
       ap (λ (n : ℕ). n + 10) all ∙ omega arith
 
   fits-by : fitting (lengthsOf 10110) (lengthOf (plainTuple o 10110 (eventValues r t))) ≡ leb 24 (20 + length t) && eqb ((20 + length t - 24) % 4) 0
-  unfolding kindOf inClass classes lineOf
+  unfolding kindOf inClass classes listingOf
   fits-by = ap (λ (n : ℕ). leb 24 n && eqb ((n - 24) % 4) 0) text-length
 
   -- 9: under four characters, or no multiple of four

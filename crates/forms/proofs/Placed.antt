@@ -12,7 +12,7 @@ use Rattle.order.specs.Order.{numOf}
 use Rattle.rules.specs.Rules.{Rule, firstOf}
 use Rattle.layout.specs.declared.Kind.{Kind}
 use Rattle.layout.specs.declared.Kind.the-variants.{Index, Unlisted}
-use Rattle.layout.specs.Types.{Shape, indexed, row, pairs, words, unlisted, classes, inClass, index, kindRules, kindOf, lineOf, shapeOf}
+use Rattle.layout.specs.Types.{Shape, indexed, row, pairs, words, unlisted, classes, inClass, index, kindRules, kindOf, listingOf, shapeOf}
 use Rattle.layout.proofs.Verdicts.{both-left}
 use Rattle.turning.proofs.Contents.{within-take}
 use Rattle.frame.specs.Frames.{Tup, lengthOf, sizeAt, kindAt, tupAt}
@@ -36,8 +36,8 @@ abbrev passed : ℕ → List (Rule Kind)
 passed k = drop 1 (kindRules k)
 
 index-shape : (k : ℕ) → inClass index k ≡ true → shapeOf k ≡ indexed
-unfolding kindOf lineOf
-index-shape k e = ap (λ (b : Bool). lineOf (cond b Index (firstOf (passed k) Unlisted)) .shape) e
+unfolding kindOf listingOf
+index-shape k e = ap (λ (b : Bool). listingOf (cond b Index (firstOf (passed k) Unlisted)) .shape) e
 
 module _ {o : Bool} {f : List ℕ} {at n k : ℕ} (s : SoundHere o f at n k) where
   abbrev t : Tup
@@ -79,7 +79,7 @@ module _ {o : Bool} {f : List ℕ} {at n k : ℕ} (s : SoundHere o f at n k) whe
 
   -- a U-32 ping
   pub pairs-shape : k ≡ 10000 → shapeOf (kindAt o (drop at f)) ≡ pairs
-  unfolding kindOf inClass classes lineOf
+  unfolding kindOf inClass classes listingOf
   pairs-shape e = shape-of ∙ ap shapeOf e
 
   pub long-pairs : k ≡ 10000 → 40 ≤ n
@@ -88,7 +88,7 @@ module _ {o : Bool} {f : List ℕ} {at n k : ℕ} (s : SoundHere o f at n k) whe
   -- a C-32 ping, by its number of samples c
   module _ (e : k ≡ 10010) where
     pub words-shape : shapeOf (kindAt o (drop at f)) ≡ words
-    unfolding kindOf inClass classes lineOf
+    unfolding kindOf inClass classes listingOf
     words-shape = shape-of ∙ ap shapeOf e
 
     pub long-words : 40 ≤ n

@@ -25,7 +25,7 @@ use Rattle.content.specs.Pings.{wordsIn, attributeIn, contentC}
 use Rattle.content.specs.Forms.{formBytes}
 use Rattle.content.proofs.Places.{fieldAt, length-body}
 use Rattle.forms.specs.inner.Sound.{SoundHere}
-use Rattle.forms.specs.inner.Parts.{frontBytes, openingBytes, closingBytes, silence, lineFields}
+use Rattle.forms.specs.inner.Parts.{frontBytes, openingBytes, closingBytes, silence, listedFields}
 use Rattle.forms.proofs.Formed.{last-four, form-raw, least-row, parts-row, parts-U, parts-C, parts-silent}
 use Rattle.forms.proofs.Placed.{there, shape-of, size-of, pairs-shape, long-pairs, words-shape, long-words, count-of}
 use Rattle.forms.proofs.Texts.{ping-fields}
@@ -144,7 +144,7 @@ module _ {o : Bool} {f : List ℕ} {at n k : ℕ} (s : SoundHere o f at n k) whe
       ping-written : (j e : ℕ) (m : List ℕ) (q : ℕ) → q ≡ to + 24 + length m
           → formBytes o t ≡ openingBytes j e (turned o pingRow (t .body)) ++ (m ++ closingBytes j (attributeIn o (t .body)))
           → left
-          ≡ sets (sets (sets out to (openingBytes j e (turned o (lineFields (placeIn PingU)) (drop (at + 6) f)))) (to + 24) m) q
+          ≡ sets (sets (sets out to (openingBytes j e (turned o (listedFields (placeIn PingU)) (drop (at + 6) f)))) (to + 24) m) q
           (closingBytes j (numOf o (take 4 (drop (at + (n - 8)) f))))
           → left ≡ sets out to (formBytes o (tupAt o (drop at f)))
       ping-written j e m q z b w =
@@ -158,7 +158,7 @@ module _ {o : Bool} {f : List ℕ} {at n k : ℕ} (s : SoundHere o f at n k) whe
     pub pairs-written : k ≡ 10000
         → left
         ≡ sets
-        (sets (sets out to (openingBytes n 10000 (turned o (lineFields (placeIn PingU)) (drop (at + 6) f)))) (to + 24)
+        (sets (sets out to (openingBytes n 10000 (turned o (listedFields (placeIn PingU)) (drop (at + 6) f)))) (to + 24)
         (unwords 4 false (allWords 4 o (take (at + (n - 8) - (at + 24)) (drop (at + 24) f))))) (to + (n - 8)) (closingBytes n (numOf o (take 4 (drop (at + (n - 8)) f))))
         → left ≡ sets out to (formBytes o (tupAt o (drop at f)))
     pairs-written e w =
@@ -177,7 +177,7 @@ module _ {o : Bool} {f : List ℕ} {at n k : ℕ} (s : SoundHere o f at n k) whe
     pub words-written : (e : k ≡ 10010) (j : ℕ) → j ≡ 24 + 8 * fieldAt o f at 4 24 + 8 → 0 < fieldAt o f at 4 24
         → left
         ≡ sets
-        (sets (sets out to (openingBytes j 10000 (turned o (lineFields (placeIn PingU)) (drop (at + 6) f)))) (to + 24)
+        (sets (sets out to (openingBytes j 10000 (turned o (listedFields (placeIn PingU)) (drop (at + 6) f)))) (to + 24)
         (unwords 4 false (unpair (decode radix (allWords 4 o (take (at + (n - 8) - (at + 28)) (drop (at + 28) f))))))) (to + (j - 8)) (closingBytes j (numOf o (take 4 (drop (at + (n - 8)) f))))
         → left ≡ sets out to (formBytes o (tupAt o (drop at f)))
     words-written e j z any w =
@@ -193,7 +193,7 @@ module _ {o : Bool} {f : List ℕ} {at n k : ℕ} (s : SoundHere o f at n k) whe
     -- one without samples
     pub silent-written : k ≡ 10010 → fieldAt o f at 4 24 ≡ 0
         → left
-        ≡ sets (sets (sets out to (openingBytes 40 10010 (turned o (lineFields (placeIn PingU)) (drop (at + 6) f)))) (to + 24) silence) (to + 32)
+        ≡ sets (sets (sets out to (openingBytes 40 10010 (turned o (listedFields (placeIn PingU)) (drop (at + 6) f)))) (to + 24) silence) (to + 32)
         (closingBytes 40 (numOf o (take 4 (drop (at + (n - 8)) f))))
         → left ≡ sets out to (formBytes o (tupAt o (drop at f)))
     silent-written e zero w =

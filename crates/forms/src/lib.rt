@@ -14,7 +14,7 @@ ghost use Rattle.frame.specs.Frames.{tupAt};
 ghost use Rattle.content.specs.Forms.{formBytes};
 ghost use Rattle.intake.specs.inner.Tallies.{Fits};
 ghost use Rattle.forms.specs.inner.Sound.{SoundHere};
-ghost use Rattle.forms.specs.inner.Parts.{frontBytes, openingBytes, closingBytes, silence, lineFields, Rowed};
+ghost use Rattle.forms.specs.inner.Parts.{frontBytes, openingBytes, closingBytes, silence, listedFields, Rowed};
 
 // The places of a tuple's type and of its data; those of an event's characters and of an end of file's data bytes.
 const TYPE: usize = 4;
@@ -65,50 +65,50 @@ fn write_front(out: &mut [u8], to: usize, bytes: usize, code: u16)
     order::store2(out, to + TYPE, false, code);
 }
 
-// Writes the fields of a line of the tables. Each line names its row by a constant, and how many fields it has before its dots: so that
-// the compiler makes plain loads and stores of the loop over it.
-fn turn_line(file: &[u8], at: usize, msb: bool, line: usize, out: &mut [u8], to: usize)
-    requires { ⌜ line < 13 ⌝ }
-    requires { ⌜ at + size (lineFields line) ≤ length (now file) ⌝ }
-    requires { ⌜ to + size (lineFields line) ≤ length (now out) ⌝ }
-    ensures { λ _. ⌜ now (out .exit) ≡ sets (now (out .entry)) to (turned msb (lineFields line) (drop at (now (file .entry)))) ⌝ }
+// Writes the fields of a tuple of a listed type, by its listing. Each arm names its row by a constant, and how many fields it has before
+// its dots: so that the compiler makes plain loads and stores of the loop over it.
+fn turn_listed(file: &[u8], at: usize, msb: bool, listing: usize, out: &mut [u8], to: usize)
+    requires { ⌜ listing < 13 ⌝ }
+    requires { ⌜ at + size (listedFields listing) ≤ length (now file) ⌝ }
+    requires { ⌜ to + size (listedFields listing) ≤ length (now out) ⌝ }
+    ensures { λ _. ⌜ now (out .exit) ≡ sets (now (out .entry)) to (turned msb (listedFields listing) (drop at (now (file .entry)))) ⌝ }
 {
-    match line {
-        0 => turning::turn(file, at, msb, &layout::row(0)[0..FIELDS[0]], out, to),
-        1 => turning::turn(file, at, msb, &layout::row(1)[0..FIELDS[1]], out, to),
-        2 => turning::turn(file, at, msb, &layout::row(2)[0..FIELDS[2]], out, to),
-        3 => turning::turn(file, at, msb, &layout::row(3)[0..FIELDS[3]], out, to),
-        4 => turning::turn(file, at, msb, &layout::row(4)[0..FIELDS[4]], out, to),
-        5 => turning::turn(file, at, msb, &layout::row(5)[0..FIELDS[5]], out, to),
-        6 => turning::turn(file, at, msb, &layout::row(6)[0..FIELDS[6]], out, to),
-        7 => turning::turn(file, at, msb, &layout::row(7)[0..FIELDS[7]], out, to),
-        8 => turning::turn(file, at, msb, &layout::row(8)[0..FIELDS[8]], out, to),
-        9 => turning::turn(file, at, msb, &layout::row(9)[0..FIELDS[9]], out, to),
-        10 => turning::turn(file, at, msb, &layout::row(10)[0..FIELDS[10]], out, to),
-        11 => turning::turn(file, at, msb, &layout::row(11)[0..FIELDS[11]], out, to),
-        _ => turning::turn(file, at, msb, &layout::row(12)[0..FIELDS[12]], out, to),
+    match listing {
+        0 => turning::turn_row(file, at, msb, &layout::row(0)[0..FIELDS[0]], out, to),
+        1 => turning::turn_row(file, at, msb, &layout::row(1)[0..FIELDS[1]], out, to),
+        2 => turning::turn_row(file, at, msb, &layout::row(2)[0..FIELDS[2]], out, to),
+        3 => turning::turn_row(file, at, msb, &layout::row(3)[0..FIELDS[3]], out, to),
+        4 => turning::turn_row(file, at, msb, &layout::row(4)[0..FIELDS[4]], out, to),
+        5 => turning::turn_row(file, at, msb, &layout::row(5)[0..FIELDS[5]], out, to),
+        6 => turning::turn_row(file, at, msb, &layout::row(6)[0..FIELDS[6]], out, to),
+        7 => turning::turn_row(file, at, msb, &layout::row(7)[0..FIELDS[7]], out, to),
+        8 => turning::turn_row(file, at, msb, &layout::row(8)[0..FIELDS[8]], out, to),
+        9 => turning::turn_row(file, at, msb, &layout::row(9)[0..FIELDS[9]], out, to),
+        10 => turning::turn_row(file, at, msb, &layout::row(10)[0..FIELDS[10]], out, to),
+        11 => turning::turn_row(file, at, msb, &layout::row(11)[0..FIELDS[11]], out, to),
+        _ => turning::turn_row(file, at, msb, &layout::row(12)[0..FIELDS[12]], out, to),
     }
 }
 
-// Writes what stands before a form's characters or samples: size, type and the fields of a line of the tables.
+// Writes what stands before a form's characters or samples: size, type and the fields of a listing.
 fn open_form(
     file: &[u8],
     at: usize,
     msb: bool,
-    line: usize,
+    listing: usize,
     out: &mut [u8],
     to: usize,
     bytes: usize,
     code: u16,
 )
-    requires { ⌜ line < 13 ⌝ }
-    requires { ⌜ at + 6 + size (lineFields line) ≤ length (now file) ⌝ }
-    requires { ⌜ to + 6 + size (lineFields line) ≤ length (now out) ⌝ }
+    requires { ⌜ listing < 13 ⌝ }
+    requires { ⌜ at + 6 + size (listedFields listing) ≤ length (now file) ⌝ }
+    requires { ⌜ to + 6 + size (listedFields listing) ≤ length (now out) ⌝ }
     requires { ⌜ (10 ≤ bytes) × (bytes < 2 ^ 32) ⌝ }
-    ensures { λ _. ⌜ now (out .exit) ≡ sets (now (out .entry)) to (openingBytes bytes code (turned msb (lineFields line) (drop (at + 6) (now (file .entry))))) ⌝ }
+    ensures { λ _. ⌜ now (out .exit) ≡ sets (now (out .entry)) to (openingBytes bytes code (turned msb (listedFields listing) (drop (at + 6) (now (file .entry))))) ⌝ }
 {
     write_front(out, to, bytes, code);
-    turn_line(file, at + DATA, msb, line, out, to + DATA);
+    turn_listed(file, at + DATA, msb, listing, out, to + DATA);
 }
 
 // Writes what stands behind them: the attribute, from its place in the file, and the backlink.
@@ -126,7 +126,7 @@ fn close_form(file: &[u8], from: usize, msb: bool, out: &mut [u8], to: usize, by
 fn text_place(whole: usize, code: u16) -> usize
     requires { ⌜ Rowed code ⌝ }
     requires { ⌜ Fits whole code ⌝ }
-    ensures { λ r. ⌜ r ≡ 6 + size (lineFields (placeIn (kindOf code))) ⌝ }
+    ensures { λ r. ⌜ r ≡ 6 + size (listedFields (placeIn (kindOf code))) ⌝ }
     ensures { λ r. ⌜ r + 8 ≤ whole ⌝ }
 {
     match code {
@@ -143,19 +143,19 @@ fn write_row(
     msb: bool,
     whole: usize,
     code: u16,
-    line: usize,
+    listing: usize,
     out: &mut [u8],
     to: usize,
 )
     requires { ⌜ SoundHere msb (now file) at whole code ⌝ }
     requires { ⌜ Rowed code ⌝ }
-    requires { ⌜ line ≡ placeIn (kindOf code) ⌝ }
+    requires { ⌜ listing ≡ placeIn (kindOf code) ⌝ }
     requires { ⌜ to + whole ≤ length (now out) ⌝ }
     ensures { λ _. ⌜ now (out .exit) ≡ sets (now (out .entry)) to (formBytes msb (tupAt msb (drop at (now (file .entry))))) ⌝ }
 {
     let text = text_place(whole, code);
     let tail = whole - intake::TAIL;
-    open_form(file, at, msb, line, out, to, whole, code);
+    open_form(file, at, msb, listing, out, to, whole, code);
     turning::copy(file, at + text, tail - text, out, to + text);
     close_form(file, at + tail, msb, out, to + tail, whole);
 }
@@ -179,9 +179,9 @@ fn write_u(file: &[u8], at: usize, msb: bool, whole: usize, out: &mut [u8], to: 
     ensures { λ _. ⌜ now (out .exit) ≡ sets (now (out .entry)) to (formBytes msb (tupAt msb (drop at (now (file .entry))))) ⌝ }
 {
     let tail = whole - intake::TAIL;
-    let line = Kind::PingU.line();
-    open_form(file, at, msb, line, out, to, whole, types::PING_U);
-    samples::turn::turn_words(
+    let listing = Kind::PingU.listing();
+    open_form(file, at, msb, listing, out, to, whole, types::PING_U);
+    samples::lsb::turn_words(
         &file[at + samples::PAIRS..at + tail],
         msb,
         out,
@@ -207,8 +207,8 @@ fn write_silent(file: &[u8], at: usize, msb: bool, whole: usize, out: &mut [u8],
     ensures { λ _. ⌜ now (out .exit) ≡ sets (now (out .entry)) to (formBytes msb (tupAt msb (drop at (now (file .entry))))) ⌝ }
 {
     let tail = whole - intake::TAIL;
-    let line = Kind::PingU.line();
-    open_form(file, at, msb, line, out, to, SILENT, types::PING_C);
+    let listing = Kind::PingU.listing();
+    open_form(file, at, msb, listing, out, to, SILENT, types::PING_C);
     write_silence(out, to + samples::COUNT);
     close_form(
         file,
@@ -238,9 +238,9 @@ fn write_sampled(
 {
     let tail = whole - intake::TAIL;
     let end = to + (bytes - intake::TAIL);
-    let line = Kind::PingU.line();
-    open_form(file, at, msb, line, out, to, bytes, types::PING_U);
-    samples::turn::spread_words(
+    let listing = Kind::PingU.listing();
+    open_form(file, at, msb, listing, out, to, bytes, types::PING_U);
+    samples::lsb::spread_words(
         &file[at + samples::WORDS..at + tail],
         msb,
         out,
@@ -292,11 +292,11 @@ pub fn write_form(
         write_u(file, at, msb, whole, out, to);
         return whole;
     }
-    let line = layout::kind_of(code).line();
-    if line == layout::LISTED {
+    let listing = layout::kind_of(code).listing();
+    if listing == layout::LISTED {
         write_raw(file, at, msb, whole, code, out, to);
         return whole;
     }
-    write_row(file, at, msb, whole, code, line, out, to);
+    write_row(file, at, msb, whole, code, listing, out, to);
     whole
 }

@@ -15,7 +15,7 @@ use Rattle.layout.specs.declared.Verdict.{Verdict}
 use Rattle.layout.specs.declared.Verdict.the-variants.{Fine, Fault}
 use Rattle.layout.specs.Answers.{both, judged, Breach, _byte_}
 use Rattle.layout.specs.Fields.{known}
-use Rattle.layout.specs.Types.{classes, inClass, kindOf, lineOf, shapeOf, fitting}
+use Rattle.layout.specs.Types.{classes, inClass, kindOf, listingOf, shapeOf, fitting}
 use Rattle.layout.proofs.Verdicts.{passes, judged-append}
 use Rattle.frame.specs.Frames.{Tup, kindAt, tupAt, framing}
 use Rattle.rules.proofs.Bools.{both-true}
@@ -50,7 +50,7 @@ Names k = (k ≡ 10000) ⊎ ((k ≡ 10010) ⊎ (k ≡ 10100))
 abbrev pub headBy : Bool → List ℕ → ℕ → ℕ → ℕ → Bool → List (Rule Breach)
 headBy o f at n k first =
     (not (Bool·beq (eqb k 65535) first) ⇒ 7 byte 0)
-    ∷ (not (fitting (lineOf (kindOf k) .length) n) ⇒ 9 byte 0)
+    ∷ (not (fitting (listingOf (kindOf k) .length) n) ⇒ 9 byte 0)
     ∷ (not (identifiedIn o f at) ⇒ 8 byte 0)
     ∷ []
 
@@ -77,7 +77,7 @@ module _ {o : Bool} {f : List ℕ} {at n k : ℕ} (h : Here o f at n k) where
   unfolding headVerdict
   head-place first =
       let signs = by-code o t .signs ∙ ap (λ (j : ℕ). eqb j 65535) (h .kind) in
-      let fits = fits-place o f at n whole ∙ ap (λ (j : ℕ). fitting (lineOf (kindOf j) .length) n) (h .kind) in
+      let fits = fits-place o f at n whole ∙ ap (λ (j : ℕ). fitting (listingOf (kindOf j) .length) n) (h .kind) in
       sym (judged-append (signRules first (digest o t)) (headRules o t))
       ∙ ap₂ (λ (a b : Bool). judged ((a ⇒ 7 byte 0) ∷ (not b ⇒ 9 byte 0) ∷ (not (identifiedIn o f at) ⇒ 8 byte 0) ∷ []))
       (ap (λ (a : Bool). cond first (not a) a) signs ∙ odd (eqb k 65535) first) fits
@@ -121,41 +121,41 @@ module _ {o : Bool} {f : List ℕ} {at n k : ℕ} (h : Here o f at n k) where
     kind-of : {j : ℕ} → k ≡ j → kindOf (kindAt o (drop at f)) ≡ kindOf j
     kind-of e = ap kindOf (h .kind ∙ e)
 
-    length-of : {j : ℕ} → k ≡ j → fitting (lineOf (kindOf j) .length) n ≡ true
+    length-of : {j : ℕ} → k ≡ j → fitting (listingOf (kindOf j) .length) n ≡ true
     length-of e = subst (Fits n) e g
 
     pub long-U : k ≡ 10000 → 40 ≤ n
-    unfolding kindOf inClass classes lineOf
+    unfolding kindOf inClass classes listingOf
     long-U e = leb-true 40 n (both-true (leb 40 n) _ (length-of e) .0)
 
     pub long-C : k ≡ 10010 → 40 ≤ n
-    unfolding kindOf inClass classes lineOf
+    unfolding kindOf inClass classes listingOf
     long-C e = leb-true 40 n (both-true (leb 40 n) _ (length-of e) .0)
 
     pub identifier-read : k ≡ 65535 → identifiedIn o f at ≡ known (fieldAt o f at 2 6)
-    unfolding kindOf inClass classes lineOf
+    unfolding kindOf inClass classes listingOf
     identifier-read e = identifier-place o f at n whole (kind-of e) (eqb-true n 24 (length-of e))
 
     -- what it declares
     pub sounder-link : k ≡ 100 → digest o (tupIn o f at) .link ≡ Links.sounder (sounderAt o f at)
-    unfolding kindOf inClass classes lineOf
+    unfolding kindOf inClass classes listingOf
     sounder-link e = link-sounder o f at n whole (kind-of e) (eqb-true n 72 (length-of e))
 
     pub channel-whole : k ≡ 1000 → at + 18 ≤ length f
-    unfolding kindOf inClass classes lineOf
+    unfolding kindOf inClass classes listingOf
     channel-whole e = omega (arith, eqb-true n 108 (length-of e), whole .fits)
 
     pub channel-link : k ≡ 1000 → digest o (tupIn o f at) .link ≡ Links.channel (channelAt o f at)
-    unfolding kindOf inClass classes lineOf
+    unfolding kindOf inClass classes listingOf
     channel-link e = link-channel o f at n whole (kind-of e) (eqb-true n 108 (length-of e))
 
     -- an attitude of all channels, and of one
     attitude : {b : Bool} → k ≡ 40 → eqb (namedAt o f at .0) 65535 ≡ b → digest o (tupIn o f at) .link ≡ unless b (Links.names (namedAt o f at))
-    unfolding kindOf inClass classes lineOf
+    unfolding kindOf inClass classes listingOf
     attitude e d = link-attitude o f at n whole (kind-of e) (eqb-true n 36 (length-of e)) ∙ ap (λ (b : Bool). unless b (Links.names (namedAt o f at))) d
 
     names-link : Names k → digest o (tupIn o f at) .link ≡ Links.names (namedAt o f at)
-    unfolding kindOf inClass classes lineOf
+    unfolding kindOf inClass classes listingOf
     names-link =
         ⊎-elim (λ e. link-ping-U o f at n whole (kind-of e) (long-U e))
         (⊎-elim (λ e. link-ping-C o f at n whole (kind-of e) (long-C e)) (λ e. link-threshold o f at n whole (kind-of e) (eqb-true n 44 (length-of e))))

@@ -13,5 +13,5 @@ unfoldable pub comparisons : Bool → Links → List Tup → ℕ
 comparisons o k [] = 0
 comparisons o k (t ∷ ts) = compares k (digest o t .link) + comparisons o (note k (digest o t)) ts
 
-abbrev pub comparedIn : List ℕ → ℕ
-comparedIn f = comparisons (isMsb f) start (tuplesOf f)
+abbrev pub comparisonsOf : List ℕ → ℕ
+comparisonsOf f = comparisons (isMsb f) start (tuplesOf f)

@@ -63,7 +63,7 @@ pub enum Asked {
     },
 }
 
-// Where the check stands: its place, the tuples counted, the identifiers compared, the sounders and the channels declared, the line
+// Where the check stands: its place, the tuples counted, the identifiers compared, the sounders and the channels declared, the row
 // where the next channel is looked for first, the classes seen.
 struct Tally {
     at: usize,
@@ -251,7 +251,7 @@ fn either(a: bool, b: bool) -> bool
     if a { true } else { b }
 }
 
-// The line behind the last channel found; a tuple that links nothing leaves it. No promise rests on it: it says only where to look
+// The row behind the last channel found; a tuple that links nothing leaves it. No promise rests on it: it says only where to look
 // first.
 fn nearer(near: usize, compared: usize) -> usize {
     if compared == 0 {
@@ -372,7 +372,7 @@ fn turn(
             if code == types::CHANNEL {
                 let it = channel_at(file, at, msb);
                 links::put_channel(channels, w.channels, it, at);
-                links::note_line(notes, it.id, w.channels);
+                links::note_row(notes, it.id, w.channels);
                 next.channels = w.channels + 1;
                 return Turned::On(next);
             }
@@ -471,17 +471,17 @@ fn ask_here(
         };
     }
     let channel = named_at(file, at, msb);
-    let entry = links::find_channel(channels, w.channels, channel);
-    let row = channels[entry];
+    let found = links::find_channel(channels, w.channels, channel);
+    let row = channels[found];
     let sounder = DocumentId(row[links::PARENT]);
-    let line = links::find_sounder(sounders, w.sounders, sounder);
+    let over = links::find_sounder(sounders, w.sounders, sounder);
     Asked::Parents {
         channel,
         channel_place: links::wide(row[links::PLACE]),
         sampling_rate: row[links::RATE],
         sample_type: links::narrow(row[links::SAMPLES]),
         sounder,
-        sounder_place: links::wide(sounders[line][links::PLACE]),
+        sounder_place: links::wide(sounders[over][links::PLACE]),
         counts,
     }
 }

@@ -12,7 +12,7 @@ use lib.ListN.{getD, List·getD-map}
 use Rattle.layout.specs.declared.Kind.{Kind}
 use Rattle.layout.specs.declared.Kind.the-variants.{Signature, Sounder, Channel, Position, Navigation, Attitude, Threshold, Event, PingU, PingC, RunStart, RunEnd, FileEnd, Index, Unlisted}
 use Rattle.layout.specs.Fields.{Field, u, size}
-use Rattle.layout.specs.Types.{Shape, indexed, row, pairs, words, unlisted, Length, exactly, upward, free, fitting, pingRow, lineOf, listed, placeIn, lengthFrom}
+use Rattle.layout.specs.Types.{Shape, indexed, row, pairs, words, unlisted, Length, exactly, upward, free, fitting, pingRow, listingOf, listed, placeIn, lengthFrom}
 use Rattle.layout.specs.inner.Codes.{fieldOf, fieldsOf, rowCodes, leasts, steps, measures, measured, lengthBy}
 
 -- the fields that a shape begins with
@@ -39,7 +39,7 @@ coded q =
 
 abbrev pub printed : Kind → Said
 printed q =
-    let l = lineOf q in
+    let l = listingOf q in
     record {
       fields = fieldsIn (l .shape);
       lengths = l .length;
@@ -49,7 +49,7 @@ printed q =
     }
 
 test : map coded listed ≡ map printed listed
-unfolding listed fieldOf fieldsOf rowCodes leasts steps measures lineOf
+unfolding listed fieldOf fieldsOf rowCodes leasts steps measures listingOf
 test = refl
 
 -- what holds of the listed kinds and of the two others holds of all
@@ -117,15 +117,15 @@ long least zero n e h = absurd (e refl)
 long least (suc step) n e h = rw (le-leb least n h)
 
 -- any length fits a kind that is not listed
-pub any : (q : Kind) → 13 ≤ placeIn q → (n : ℕ) → true ≡ fitting (lineOf q .length) n
-unfolding lineOf
-any = by-kind (λ (q : Kind). 13 ≤ placeIn q → (n : ℕ) → true ≡ fitting (lineOf q .length) n) (λ q h k n. absurd (omega arith)) (λ k n. refl) (λ k n. refl)
+pub any : (q : Kind) → 13 ≤ placeIn q → (n : ℕ) → true ≡ fitting (listingOf q .length) n
+unfolding listingOf
+any = by-kind (λ (q : Kind). 13 ≤ placeIn q → (n : ℕ) → true ≡ fitting (listingOf q .length) n) (λ q h k n. absurd (omega arith)) (λ k n. refl) (λ k n. refl)
 
 -- a kind's lengths are those of its row
-pub lengths-from : (q : Kind) → lineOf q .length ≡ lengthFrom (lineOf q .shape)
-unfolding lineOf
+pub lengths-from : (q : Kind) → listingOf q .length ≡ lengthFrom (listingOf q .shape)
+unfolding listingOf
 lengths-from =
-    by-kind (λ (q : Kind). lineOf q .length ≡ lengthFrom (lineOf q .shape))
+    by-kind (λ (q : Kind). listingOf q .length ≡ lengthFrom (listingOf q .shape))
     (λ q h. sym (ap (λ (x : Said). x .lengths) (tabled q h)) ∙ ap (λ (x : Said). x .byRow) (tabled q h))
     refl
     refl

@@ -78,45 +78,46 @@ pub data Shape : Type 0 where
   words : Shape
   unlisted : Shape
 
-pub record Line : Type 0 where
+-- what is listed of a kind: its lengths and its shape
+pub record Listing : Type 0 where
   pub length : Length
   pub shape : Shape
 
-abbrev pub line : Length → Shape → Line
-line n h = record { length = n; shape = h }
+abbrev pub listing : Length → Shape → Listing
+listing n h = record { length = n; shape = h }
 
 -- the header of both pings
 abbrev pub pingRow : List Field
 pingRow = u 2 ∷ u 4 ∷ u 2 ∷ u 2 ∷ u 4 ∷ s 4 ∷ []
 
 -- one row for each type, each row the widths in order
-unfoldable pub lineOf : Kind → Line
-lineOf Signature = line (exactly 24) (row (ident ∷ u 2 ∷ u 2 ∷ u 4 ∷ []) none)
-lineOf Sounder = line (exactly 72) (row (u 2 ∷ u 4 ∷ u 2 ∷ u 2 ∷ s 2 ∷ u 2 ∷ s 2 ∷ u 2 ∷ u 2 ∷ s 2 ∷ u 2 ∷ u 2 ∷ c 30 ∷ z 2 ∷ []) none)
-lineOf Channel =
-    line (exactly 108)
+unfoldable pub listingOf : Kind → Listing
+listingOf Signature = listing (exactly 24) (row (ident ∷ u 2 ∷ u 2 ∷ u 4 ∷ []) none)
+listingOf Sounder = listing (exactly 72) (row (u 2 ∷ u 4 ∷ u 2 ∷ u 2 ∷ s 2 ∷ u 2 ∷ s 2 ∷ u 2 ∷ u 2 ∷ s 2 ∷ u 2 ∷ u 2 ∷ c 30 ∷ z 2 ∷ []) none)
+listingOf Channel =
+    listing (exactly 108)
     (row
     (u 2 ∷ u 4 ∷ u 4 ∷ u 2 ∷ u 2 ∷ u 2 ∷ z 2 ∷ u 4 ∷ u 4 ∷ s 2 ∷ s 2 ∷ s 2 ∷ s 2 ∷ u 2 ∷ u 2 ∷ u 2 ∷ u 2 ∷ u 2 ∷ u 2 ∷ u 2 ∷ s 2 ∷ s 2 ∷ s 2 ∷ u 4 ∷ u 4 ∷ c 30 ∷ z 2 ∷ [])
     none)
-lineOf Position = line (exactly 36) (row (s 2 ∷ u 4 ∷ u 4 ∷ u 2 ∷ z 2 ∷ s 4 ∷ s 4 ∷ []) none)
-lineOf Navigation = line (exactly 28) (row (u 2 ∷ u 4 ∷ u 2 ∷ s 2 ∷ u 2 ∷ z 2 ∷ []) none)
-lineOf Attitude = line (exactly 36) (row (u 2 ∷ u 4 ∷ u 2 ∷ u 2 ∷ s 2 ∷ s 2 ∷ s 2 ∷ s 2 ∷ s 2 ∷ z 2 ∷ []) none)
-lineOf Threshold = line (exactly 44) (row (u 2 ∷ u 4 ∷ u 2 ∷ u 2 ∷ u 2 ∷ u 2 ∷ u 2 ∷ u 2 ∷ u 4 ∷ u 4 ∷ u 4 ∷ []) none)
-lineOf Event = line (upward 24 4) (row (u 2 ∷ u 4 ∷ []) (some 4))
-lineOf PingU = line (upward 40 8) pairs
-lineOf PingC = line (upward 40 4) words
-lineOf RunStart = line (exactly 20) (row (u 2 ∷ u 4 ∷ []) none)
-lineOf RunEnd = line (exactly 20) (row (u 2 ∷ u 4 ∷ []) none)
-lineOf FileEnd = line (upward 24 4) (row (u 2 ∷ u 4 ∷ u 2 ∷ []) (some 2))
-lineOf Index = line free indexed
-lineOf Unlisted = line free unlisted
+listingOf Position = listing (exactly 36) (row (s 2 ∷ u 4 ∷ u 4 ∷ u 2 ∷ z 2 ∷ s 4 ∷ s 4 ∷ []) none)
+listingOf Navigation = listing (exactly 28) (row (u 2 ∷ u 4 ∷ u 2 ∷ s 2 ∷ u 2 ∷ z 2 ∷ []) none)
+listingOf Attitude = listing (exactly 36) (row (u 2 ∷ u 4 ∷ u 2 ∷ u 2 ∷ s 2 ∷ s 2 ∷ s 2 ∷ s 2 ∷ s 2 ∷ z 2 ∷ []) none)
+listingOf Threshold = listing (exactly 44) (row (u 2 ∷ u 4 ∷ u 2 ∷ u 2 ∷ u 2 ∷ u 2 ∷ u 2 ∷ u 2 ∷ u 4 ∷ u 4 ∷ u 4 ∷ []) none)
+listingOf Event = listing (upward 24 4) (row (u 2 ∷ u 4 ∷ []) (some 4))
+listingOf PingU = listing (upward 40 8) pairs
+listingOf PingC = listing (upward 40 4) words
+listingOf RunStart = listing (exactly 20) (row (u 2 ∷ u 4 ∷ []) none)
+listingOf RunEnd = listing (exactly 20) (row (u 2 ∷ u 4 ∷ []) none)
+listingOf FileEnd = listing (upward 24 4) (row (u 2 ∷ u 4 ∷ u 2 ∷ []) (some 2))
+listingOf Index = listing free indexed
+listingOf Unlisted = listing free unlisted
 
 -- a type code's own
 abbrev pub shapeOf : ℕ → Shape
-shapeOf k = lineOf (kindOf k) .shape
+shapeOf k = listingOf (kindOf k) .shape
 
 abbrev pub lengthsOf : ℕ → Length
-lengthsOf k = lineOf (kindOf k) .length
+lengthsOf k = listingOf (kindOf k) .length
 
 -- ---- the code's tables
 -- the listed kinds in the tables' order, and the place of each there

@@ -9,7 +9,7 @@ ghost use mathlib.Core.List.{[]};
 ghost use lib.ListN.{getD};
 ghost use Rattle.layout.specs.Answers.{accepting};
 ghost use Rattle.layout.specs.Fields.{known};
-ghost use Rattle.layout.specs.Types.{inClass, kindOf, placeIn, lineOf, fitting};
+ghost use Rattle.layout.specs.Types.{inClass, kindOf, placeIn, listingOf, fitting};
 ghost use Rattle.layout.specs.inner.Codes.{leasts, steps, rowCodes, measures};
 
 // What an acceptance counts: the tuples of what was handed in, the bytes or samples written, the identifiers compared while linking
@@ -221,12 +221,12 @@ pub fn kind_of(code: u16) -> Kind
     }
 }
 
-// What the tables say of a line, by a constant place each, as in `row`: its least length,
-fn least(line: usize) -> usize
-    requires { ⌜ line < 13 ⌝ }
-    ensures { λ r. ⌜ r ≡ getD leasts line 0 ⌝ }
+// What the tables say of a listing, by a constant place each, as in `row`: its least length,
+fn least(listing: usize) -> usize
+    requires { ⌜ listing < 13 ⌝ }
+    ensures { λ r. ⌜ r ≡ getD leasts listing 0 ⌝ }
 {
-    match line {
+    match listing {
         0 => LEASTS[0],
         1 => LEASTS[1],
         2 => LEASTS[2],
@@ -244,11 +244,11 @@ fn least(line: usize) -> usize
 }
 
 // and its step.
-fn step(line: usize) -> usize
-    requires { ⌜ line < 13 ⌝ }
-    ensures { λ r. ⌜ r ≡ getD steps line 0 ⌝ }
+fn step(listing: usize) -> usize
+    requires { ⌜ listing < 13 ⌝ }
+    ensures { λ r. ⌜ r ≡ getD steps listing 0 ⌝ }
 {
-    match line {
+    match listing {
         0 => STEPS[0],
         1 => STEPS[1],
         2 => STEPS[2],
@@ -266,8 +266,8 @@ fn step(line: usize) -> usize
 }
 
 impl Kind {
-    // The line of a listed kind in the tables; LISTED for the others.
-    pub fn line(self) -> usize
+    // The listing of a listed kind, by its place in the tables; LISTED for the others.
+    pub fn listing(self) -> usize
         ensures { λ r. ⌜ r ≡ placeIn self ⌝ }
     {
         match self {
@@ -291,14 +291,14 @@ impl Kind {
 
     // Whether a tuple of this kind may be so long: any length will do for the kinds that are not listed.
     pub fn fits(self, length: usize) -> bool
-        ensures { λ r. ⌜ r ≡ fitting (lineOf self .length) length ⌝ }
+        ensures { λ r. ⌜ r ≡ fitting (listingOf self .length) length ⌝ }
     {
-        let line = self.line();
-        if LISTED <= line {
+        let listing = self.listing();
+        if LISTED <= listing {
             return true;
         }
-        let least = least(line);
-        let step = step(line);
+        let least = least(listing);
+        let step = step(listing);
         if step == 0 {
             return length == least;
         }
@@ -309,13 +309,13 @@ impl Kind {
     }
 }
 
-// The row of a line of the tables.
-pub fn row(line: usize) -> [u8; ROW]
-    requires { ⌜ line < 13 ⌝ }
-    ensures { λ r. ⌜ r ≡ getD rowCodes line [] ⌝ }
+// The row of a listing.
+pub fn row(listing: usize) -> [u8; ROW]
+    requires { ⌜ listing < 13 ⌝ }
+    ensures { λ r. ⌜ r ≡ getD rowCodes listing [] ⌝ }
 {
-    // by a constant place each: the compiler keeps no table, and ROWS[line] would build all of it at each call
-    match line {
+    // by a constant place each: the compiler keeps no table, and ROWS[listing] would build all of it at each call
+    match listing {
         0 => ROWS[0],
         1 => ROWS[1],
         2 => ROWS[2],
@@ -332,12 +332,12 @@ pub fn row(line: usize) -> [u8; ROW]
     }
 }
 
-// What the row of a line measures.
-pub fn measure(line: usize) -> [usize; 4]
-    requires { ⌜ line < 13 ⌝ }
-    ensures { λ r. ⌜ r ≡ getD measures line [] ⌝ }
+// What the row of a listing measures.
+pub fn measure(listing: usize) -> [usize; 4]
+    requires { ⌜ listing < 13 ⌝ }
+    ensures { λ r. ⌜ r ≡ getD measures listing [] ⌝ }
 {
-    match line {
+    match listing {
         0 => MEASURES[0],
         1 => MEASURES[1],
         2 => MEASURES[2],

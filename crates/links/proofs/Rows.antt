@@ -148,7 +148,7 @@ module _ {A : Type 0} (key : A → ℕ) (d : A) where
       ne-eqb (key (getD l i d)) (key a) (λ e. true≢false (sym (has-at l i (omega arith)) ∙ ap (λ (x : ℕ). has key x l) e ∙ p .0)) in
       rw ne (ap suc (place-at l i (p .1) (omega arith)))
 
--- so a row that has a channel's identifier is its line
+-- so a row that has a channel's identifier is the one that a search finds
 pub guessed : (rows : List (List ℕ)) (n x i : ℕ) → n ≤ length rows → Apart idOf (channelsIn n rows) → i < n → keyOf (getD rows i []) ≡ x → i ≡ placeOf idOf x (channelsIn n rows)
 guessed rows n x i fits p h e =
     place-at idOf (channelOf []) (channelsIn n rows) i p (omega (arith, rows-length channelOf rows n fits))

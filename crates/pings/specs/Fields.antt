@@ -2,19 +2,20 @@
 use mathlib.Core.Path.{_≡_, sym, _∙_}
 use Prim.Native.Nat.{ℕ}
 use mathlib.Core.Bool.{cond}
-use mathlib.Core.List.{List, []}
+use mathlib.Core.List.{List, [], _∷_, _++_}
 use mathlib.Core.Option.{Option, some, none}
 use lib.Dec.{eqb}
 use lib.ListN.{length}
-use Rattle.order.specs.Order.{signedOf}
+use Rattle.order.specs.Order.{signedOf, patternOf}
 use Rattle.layout.specs.declared.Answer.{Answer}
 use Rattle.layout.specs.declared.Answer.the-variants.{Accepted}
 use Rattle.layout.specs.declared.Answer.the-variants as answer
-use Rattle.layout.specs.Answers.{numbers, Tells, accepting}
-use Rattle.turning.specs.Rows.{Value}
+use Rattle.layout.specs.Answers.{Numbers, numbers, Tells, accepting}
+use Rattle.turning.specs.Rows.{Value, numbersIn}
 use Rattle.content.specs.Pings.{Ping}
 use Rattle.content.specs.Items.{Item, plain, ping, raw, numberAt}
 use Rattle.tuples.specs.Readers.{isPing, tupleThere, readAnswer, readItem}
+use Rattle.pings.specs.Headers.{headOf}
 use Rattle.pings.specs.declared.PingHeader.{PingHeader}
 use Rattle.pings.specs.declared.PingKind.{PingKind}
 use Rattle.pings.specs.declared.PingKind.the-variants.{U32, C32}
@@ -54,6 +55,18 @@ pingFields f p = fieldsBy (pingBy (readItem f p)) (tupleThere f p .kind)
 abbrev pub answerOf : PingRead → Answer
 answerOf (Read h a k n) = accepting 1 0
 answerOf (Refused c p) = answer.Refused c p
+
+abbrev pub pingNumbers : PingRead → Numbers
+pingNumbers r = numbers (answerOf r)
+
+-- what it hands over, as numbers: the header's fields, the attribute, the kind, the number of values
+abbrev pub kindNumber : PingKind → ℕ
+kindNumber U32 = 0
+kindNumber C32 = 1
+
+abbrev pub readFields : PingRead → List ℕ
+readFields (Read h a k n) = numbersIn (headOf h) ++ (patternOf 4 a ∷ kindNumber k ∷ []) ++ (n ∷ [])
+readFields (Refused c p) = []
 
 abbrev pub answered : Answer → PingRead → PingRead
 answered (Accepted n) r = r

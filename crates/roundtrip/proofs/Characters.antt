@@ -5,7 +5,7 @@ use Prim.Native.Nat.{ℕ, _+_, _-_, _≤_}
 use native.Mathlib.Omega.{arith}
 use lib.ListN.{length, take, drop}
 use Rattle.layout.specs.declared.Answer.{Answer}
-use Rattle.layout.specs.Types.{classes, inClass, kindOf, lineOf}
+use Rattle.layout.specs.Types.{classes, inClass, kindOf, listingOf}
 use Rattle.turning.specs.Rows.{Value}
 use Rattle.tuples.specs.declared.Part.{Part}
 use Rattle.tuples.specs.Readers.{only, readValues, textAt}
@@ -33,7 +33,7 @@ taken f p m h e = ap (λ (n : ℕ). take n (drop p f)) (ap length e ∙ length-p
 module _ (f : List ℕ) (p : ℕ) where
   -- ---- remarks, thirty characters
   of-sounder : {r : _} {t : Part} → SounderAt f p («sounder».Read r t) → charactersAt f t ≡ textAt (readValues f p) 12
-  unfolding kindOf inClass classes lineOf
+  unfolding kindOf inClass classes listingOf
   of-sounder {r} {t} a =
       let q : Part = record { place = p + 32; length = 30 } in
       let s = opens (only 100) (a .answer .is) in
@@ -42,7 +42,7 @@ module _ (f : List ℕ) (p : ℕ) where
       ap (charactersAt f) e ∙ sym (ap (λ (vs : List Value). textAt vs 12) (values-placed 100 (s .readable) tt))
 
   of-channel : {r : _} {t : Part} → ChannelAt f p («channel».Read r t) → charactersAt f t ≡ textAt (readValues f p) 24
-  unfolding kindOf inClass classes lineOf
+  unfolding kindOf inClass classes listingOf
   of-channel {r} {t} a =
       let q : Part = record { place = p + 68; length = 30 } in
       let s = opens (only 1000) (a .answer .is) in
@@ -52,7 +52,7 @@ module _ (f : List ℕ) (p : ℕ) where
 
   -- ---- a text and data bytes, as many as the tuple has
   of-event : {r : _} {t : Part} → EventAt f p («event».Read r t) → charactersAt f t ≡ textAt (readValues f p) 2
-  unfolding kindOf inClass classes lineOf
+  unfolding kindOf inClass classes listingOf
   of-event {r} {t} a =
       let q : Part = record { place = p + 12; length = length (textAt (readValues f p) 2) } in
       let s = opens (only 10110) (a .answer .is) in
@@ -63,7 +63,7 @@ module _ (f : List ℕ) (p : ℕ) where
       (ap (λ (vs : List Value). textAt vs 2) (values-placed 10110 (s .readable) tt))
 
   of-end : {r : _} {t : Part} → FileEndAt f p («file_end».Read r t) → charactersAt f t ≡ textAt (readValues f p) 3
-  unfolding kindOf inClass classes lineOf
+  unfolding kindOf inClass classes listingOf
   of-end {r} {t} a =
       let q : Part = record { place = p + 14; length = length (textAt (readValues f p) 3) } in
       let s = opens (only 65534) (a .answer .is) in

@@ -12,7 +12,7 @@ use Rattle.order.specs.Order.{Bytes}
 use Rattle.layout.specs.declared.Counts.{Counts}
 use Rattle.layout.specs.declared.Answer.{Answer}
 use Rattle.layout.specs.declared.Answer.the-variants.{Accepted}
-use Rattle.layout.specs.Types.{classes, inClass, kindOf, lineOf, upward, fitting}
+use Rattle.layout.specs.Types.{classes, inClass, kindOf, listingOf, upward, fitting}
 use Rattle.frame.specs.Frames.{allowed}
 use Rattle.frame.proofs.Frames.{allowed-of}
 use Rattle.turning.specs.Rows.{Value, fit-end, fit-num, fit-txt}
@@ -53,7 +53,7 @@ module _ (r : Event) (g : EventTyped r) (t : List ℕ) (b : Bytes t) (l : TextFi
   text-long = omega arith
 
   pub event-row : Filled 10110 (eventValues r t)
-  unfolding classes inClass kindOf lineOf
+  unfolding classes inClass kindOf listingOf
   event-row =
       let n = length t + 10 + 10 in
       let fits : fitting (upward 24 4) n ≡ true = rw (le-leb 24 n (omega (arith, l .0)), eq-eqb ((n - 24) % 4) 0 (omega (arith, l .0, l .1))) in
@@ -68,7 +68,7 @@ module _ (r : Event) (g : EventTyped r) (t : List ℕ) (b : Bytes t) (l : TextFi
         (λ i. (event-back i, record { place = p + 12; length = length t })) (a .outcome)
 
     pub event-text : charactersAt f (record { place = p + 12; length = length t }) ≡ t
-    unfolding event-row classes inClass kindOf lineOf
+    unfolding event-row classes inClass kindOf listingOf
     event-text = ap (λ (n : ℕ). take n (drop (p + 12) f)) text-long ∙ ap (λ (vs : List Value). textAt vs 2) (row-places event-row h)
 
 -- what the writer wrote, the reader reads, and the characters stand at the part that it answers
@@ -86,7 +86,7 @@ module _ (r : RunStart) (g : RunStartTyped r) where
   run-start-back = rw (signed-pattern 3 (r .«tuple_attribute») (g .2))
 
   pub run-start-row : Filled 65516 (runStartValues r)
-  unfolding classes inClass kindOf lineOf allowed
+  unfolding classes inClass kindOf listingOf allowed
   run-start-row =
       filled 65516 10 (lit< tt) refl refl refl
       (fit-num (g .0) (fit-num (g .1) (fit-num (pattern-below 3 (r .«tuple_attribute») (g .2)) fit-end))) tt
@@ -106,7 +106,7 @@ module _ (r : RunEnd) (g : RunEndTyped r) where
   run-end-back = rw (signed-pattern 3 (r .«tuple_attribute») (g .2))
 
   pub run-end-row : Filled 65517 (runEndValues r)
-  unfolding classes inClass kindOf lineOf allowed
+  unfolding classes inClass kindOf listingOf allowed
   run-end-row =
       filled 65517 10 (lit< tt) refl refl refl
       (fit-num (g .0) (fit-num (g .1) (fit-num (pattern-below 3 (r .«tuple_attribute») (g .2)) fit-end))) tt
@@ -126,7 +126,7 @@ module _ (r : FileEnd) (g : FileEndTyped r) where
   file-end-back = rw (signed-pattern 3 (r .«tuple_attribute») (g .3))
 
   pub file-end-row : Filled 65534 (fileEndValues r)
-  unfolding classes inClass kindOf lineOf allowed
+  unfolding classes inClass kindOf listingOf allowed
   file-end-row =
       filled 65534 14 (lit< tt) refl refl refl
       (fit-num (g .0) (fit-num (g .1) (fit-num (g .2) (fit-txt refl (fit-num (pattern-below 3 (r .«tuple_attribute») (g .3)) fit-end))))) ((lit< tt, (lit< tt, tt)), tt)
@@ -139,7 +139,7 @@ module _ (r : FileEnd) (g : FileEndTyped r) where
         (λ i. (file-end-back i, record { place = p + 14; length = 2 })) (a .outcome)
 
     pub file-end-data : charactersAt f (record { place = p + 14; length = 2 }) ≡ 0 ∷ 0 ∷ []
-    unfolding file-end-row classes inClass kindOf lineOf
+    unfolding file-end-row classes inClass kindOf listingOf
     file-end-data = ap (λ (vs : List Value). textAt vs 3) (row-places file-end-row h)
 
   -- what the writer wrote, the reader reads

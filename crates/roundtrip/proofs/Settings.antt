@@ -10,7 +10,7 @@ use Rattle.order.specs.Order.{Bytes}
 use Rattle.layout.specs.declared.Counts.{Counts}
 use Rattle.layout.specs.declared.Answer.{Answer}
 use Rattle.layout.specs.declared.Answer.the-variants.{Accepted}
-use Rattle.layout.specs.Types.{classes, inClass, kindOf, lineOf}
+use Rattle.layout.specs.Types.{classes, inClass, kindOf, listingOf}
 use Rattle.frame.specs.Frames.{allowed}
 use Rattle.turning.specs.Rows.{Value, fit-end, fit-num, fit-gap, fit-ident, fit-txt}
 use Rattle.tuples.specs.declared.Part.{Part}
@@ -47,7 +47,7 @@ module _ (r : Signature) (g : SignatureTyped r) where
   signature-back = rw (signed-pattern 3 (r .«tuple_attribute») (g .3))
 
   pub signature-row : Filled 65535 (signatureValues r)
-  unfolding classes inClass kindOf lineOf allowed
+  unfolding classes inClass kindOf listingOf allowed
   signature-row =
       filled 65535 14 (lit< tt) refl refl refl
       (fit-ident (fit-num (g .0) (fit-num (g .1) (fit-num (g .2) (fit-num (pattern-below 3 (r .«tuple_attribute») (g .3)) fit-end))))) tt
@@ -73,7 +73,7 @@ module _ (r : Sounder) (g : SounderTyped r) (t : List ℕ) (b : Bytes t) (l : le
       )
 
   pub sounder-row : Filled 100 (sounderValues r t)
-  unfolding classes inClass kindOf lineOf allowed
+  unfolding classes inClass kindOf listingOf allowed
   sounder-row =
       filled 100 62 (lit< tt) refl refl refl
       (fit-num (g .0) (fit-num (g .1) (fit-num (g .2) (fit-num (g .3)
@@ -90,7 +90,7 @@ module _ (r : Sounder) (g : SounderTyped r) (t : List ℕ) (b : Bytes t) (l : le
         (λ i. (sounder-back i, record { place = p + 32; length = 30 })) (a .outcome)
 
     pub sounder-remarks : charactersAt f (record { place = p + 32; length = 30 }) ≡ t
-    unfolding sounder-row classes inClass kindOf lineOf
+    unfolding sounder-row classes inClass kindOf listingOf
     sounder-remarks = ap (λ (vs : List Value). textAt vs 12) (row-places sounder-row h)
 
 -- what the writer wrote, the reader reads, and the characters stand at the part that it answers
@@ -118,7 +118,7 @@ module _ (r : Channel) (g : ChannelTyped r) (t : List ℕ) (b : Bytes t) (l : le
       )
 
   pub channel-row : Filled 1000 (channelValues r t)
-  unfolding classes inClass kindOf lineOf allowed
+  unfolding classes inClass kindOf listingOf allowed
   channel-row =
       filled 1000 98 (lit< tt) refl refl refl
       (fit-num (g .0) (fit-num (g .1) (fit-num (g .2) (fit-num (g .3) (fit-num (g .4) (fit-num (g .5) (fit-gap (fit-num (g .6)
@@ -139,7 +139,7 @@ module _ (r : Channel) (g : ChannelTyped r) (t : List ℕ) (b : Bytes t) (l : le
         (λ i. (channel-back i, record { place = p + 68; length = 30 })) (a .outcome)
 
     pub channel-remarks : charactersAt f (record { place = p + 68; length = 30 }) ≡ t
-    unfolding channel-row classes inClass kindOf lineOf
+    unfolding channel-row classes inClass kindOf listingOf
     channel-remarks = ap (λ (vs : List Value). textAt vs 24) (row-places channel-row h)
 
 -- what the writer wrote, the reader reads, and the characters stand at the part that it answers
@@ -157,7 +157,7 @@ module _ (r : Threshold) (g : ThresholdTyped r) where
   threshold-back = rw (signed-pattern 3 (r .«tuple_attribute») (g .11))
 
   pub threshold-row : Filled 10100 (thresholdValues r)
-  unfolding classes inClass kindOf lineOf allowed
+  unfolding classes inClass kindOf listingOf allowed
   threshold-row =
       filled 10100 34 (lit< tt) refl refl refl
       (fit-num (g .0) (fit-num (g .1) (fit-num (g .2) (fit-num (g .3) (fit-num (g .4) (fit-num (g .5) (fit-num (g .6) (fit-num (g .7)

@@ -8,7 +8,7 @@ use lib.Dec.{lit<}
 use lib.ListN.{take}
 use Rattle.layout.specs.declared.Counts.{Counts}
 use Rattle.layout.specs.declared.Answer.the-variants.{Accepted}
-use Rattle.layout.specs.Types.{classes, inClass, kindOf, lineOf}
+use Rattle.layout.specs.Types.{classes, inClass, kindOf, listingOf}
 use Rattle.frame.specs.Frames.{allowed}
 use Rattle.turning.specs.Rows.{fit-end, fit-num, fit-gap}
 use Rattle.tuples.specs.Writers.{plainBytes}
@@ -44,7 +44,7 @@ module _ (r : Position) (g : PositionTyped r) where
       )
 
   pub position-row : Filled 20 (positionValues r)
-  unfolding classes inClass kindOf lineOf allowed
+  unfolding classes inClass kindOf listingOf allowed
   position-row =
       filled 20 26 (lit< tt) refl refl refl
       (fit-num (pattern-below 1 (r .«time_fraction») (g .0)) (fit-num (g .1) (fit-num (g .2) (fit-num (g .3) (fit-gap
@@ -66,7 +66,7 @@ module _ (r : Navigation) (g : NavigationTyped r) where
   navigation-back = rw (signed-pattern 1 (r .heading) (g .3), signed-pattern 3 (r .«tuple_attribute») (g .5))
 
   pub navigation-row : Filled 30 (navigationValues r)
-  unfolding classes inClass kindOf lineOf allowed
+  unfolding classes inClass kindOf listingOf allowed
   navigation-row =
       filled 30 18 (lit< tt) refl refl refl
       (fit-num (g .0) (fit-num (g .1) (fit-num (g .2) (fit-num (pattern-below 1 (r .heading) (g .3)) (fit-num (g .4) (fit-gap
@@ -95,7 +95,7 @@ module _ (r : Attitude) (g : AttitudeTyped r) where
       )
 
   pub attitude-row : Filled 40 (attitudeValues r)
-  unfolding classes inClass kindOf lineOf allowed
+  unfolding classes inClass kindOf listingOf allowed
   attitude-row =
       filled 40 26 (lit< tt) refl refl refl
       (fit-num (g .0) (fit-num (g .1) (fit-num (g .2) (fit-num (g .3) (fit-num (pattern-below 1 (r .«alongship_offset») (g .4))

@@ -15,7 +15,7 @@ use Rattle.layout.specs.declared.Counts.{Counts}
 use Rattle.layout.specs.declared.Answer.{Answer}
 use Rattle.layout.specs.declared.Answer.the-variants.{Accepted, Refused}
 use Rattle.layout.specs.Answers.{leftBy, accepting, isAccepted}
-use Rattle.layout.specs.Types.{classes, inClass, kindOf, lineOf}
+use Rattle.layout.specs.Types.{classes, inClass, kindOf, listingOf}
 use Rattle.frame.specs.Frames.{lengthOf}
 use Rattle.rules.proofs.Bools.{both-true}
 use Rattle.content.specs.Forms.{plainTuple}
@@ -50,7 +50,7 @@ pub remark-long : (t : List ℕ) {bytes out left : List ℕ} {n : Counts} → Wr
 remark-long t w = eqb-true (length t) 30 (not-false _ (written-kept (refl, (refl, tt)) w .0))
 
 pub text-fits : (o : Bool) (r : Event) (t : List ℕ) {out left : List ℕ} {n : Counts} → EventWritten o r t out (Accepted n) left → TextFits t
-unfolding classes inClass kindOf lineOf
+unfolding classes inClass kindOf listingOf
 text-fits o r t w =
     let k = written-kept (refl, (refl, (refl, tt))) w in
     let n = lengthOf (plainTuple o 10110 (eventValues r t)) in

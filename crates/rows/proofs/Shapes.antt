@@ -12,7 +12,7 @@ use Rattle.rules.proofs.Bools.{both-true}
 use Rattle.layout.specs.declared.Kind.{Kind}
 use Rattle.layout.specs.declared.Kind.the-variants.{Signature, Sounder, Channel, Position, Navigation, Attitude, Threshold, Event, PingU, PingC, RunStart, RunEnd, FileEnd, Index, Unlisted}
 use Rattle.layout.specs.Fields.{Field, num, txt, gap, ident, s, size, many, bareSize, beforeText}
-use Rattle.layout.specs.Types.{Shape, indexed, row, pairs, words, unlisted, kindOf, shapeOf, lineOf, placeIn, fitting, lengthFrom}
+use Rattle.layout.specs.Types.{Shape, indexed, row, pairs, words, unlisted, kindOf, shapeOf, listingOf, placeIn, fitting, lengthFrom}
 use Rattle.layout.specs.inner.Codes.{fieldsOf, rowCodes, measures, measured}
 use Rattle.layout.proofs.Tables.{Said, fieldsIn, tabled, by-kind}
 use Rattle.turning.specs.inner.Codes.{textFits}
@@ -29,9 +29,9 @@ is-row words e = let z : _≡_ {A = ℕ} 0 1 = cc in absurd (omega arith)
 is-row unlisted e = let z : _≡_ {A = ℕ} 0 1 = cc in absurd (omega arith)
 
 -- it is a listed kind's, and the code's row is its row
-listed-row : (q : Kind) → IsRow (lineOf q .shape) → placeIn q < 13
-unfolding lineOf
-listed-row = by-kind (λ (q : Kind). IsRow (lineOf q .shape) → placeIn q < 13) (λ q h z. h) (λ z. absurd z) (λ z. absurd z)
+listed-row : (q : Kind) → IsRow (listingOf q .shape) → placeIn q < 13
+unfolding listingOf
+listed-row = by-kind (λ (q : Kind). IsRow (listingOf q .shape) → placeIn q < 13) (λ q h z. h) (λ z. absurd z) (λ z. absurd z)
 
 in-fields : (q : Shape) → IsRow q → fieldsIn q ≡ fieldsBy q
 in-fields indexed z = absurd z
@@ -82,8 +82,8 @@ Textual pairs = Unit {0}
 Textual words = Unit {0}
 Textual unlisted = Unit {0}
 
-pub textual : (q : Kind) → Textual (lineOf q .shape)
-unfolding lineOf
+pub textual : (q : Kind) → Textual (listingOf q .shape)
+unfolding listingOf
 textual Signature = (refl, refl)
 textual Sounder = (refl, refl)
 textual Channel = (refl, refl)

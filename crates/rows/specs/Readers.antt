@@ -1,14 +1,14 @@
 -- What a reader of records answers, and what it leaves in the numbers lent. Assumes nothing.
 use mathlib.Core.Path.{_≡_, sym, _∙_}
 use mathlib.Core.Bool.{Bool, true, false}
-use mathlib.Core.List.{List, []}
+use mathlib.Core.List.{List, [], _∷_}
 use Prim.Native.Nat.{ℕ, _+_}
 use lib.Dec.{ltb}
 use lib.ListN.{length, take, drop}
 use Rattle.layout.specs.declared.Answer.{Answer}
 use Rattle.layout.specs.declared.Answer.the-variants.{Accepted}
 use Rattle.layout.specs.declared.Answer.the-variants as answer
-use Rattle.layout.specs.Answers.{numbers, Tells, accepting, leftBy}
+use Rattle.layout.specs.Answers.{Numbers, numbers, Tells, accepting, leftBy}
 use Rattle.layout.specs.Fields.{Field, many, beforeText}
 use Rattle.layout.specs.Types.{Shape, indexed, row, pairs, words, unlisted, shapeOf}
 use Rattle.turning.specs.Rows.{numbersIn, textIn}
@@ -54,6 +54,14 @@ charactersAt f t = take (t .length) (drop (t .place) f)
 abbrev pub answerOf : RowRead → Answer
 answerOf (Read t) = accepting 1 0
 answerOf (Refused c p) = answer.Refused c p
+
+abbrev pub answerNumbers : RowRead → Numbers
+answerNumbers r = numbers (answerOf r)
+
+-- what it hands over, as numbers: where the characters stand, and how many they are
+abbrev pub rowFields : RowRead → List ℕ
+rowFields (Read t) = t .place ∷ t .length ∷ []
+rowFields (Refused c p) = []
 
 abbrev pub answered : Answer → Part → RowRead
 answered (Accepted n) t = Read t

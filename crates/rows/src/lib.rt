@@ -32,8 +32,8 @@ fn take_row(
     requires { ⌜ Readable (recordsOf code) (now file) place msb whole code ⌝ }
     ensures { λ r. ⌜ RowAt code (now (file .entry)) place (now (numbers .entry)) r (now (numbers .exit)) ⌝ }
 {
-    let line = layout::kind_of(code).line();
-    let measure = layout::measure(line);
+    let listing = layout::kind_of(code).listing();
+    let measure = layout::measure(listing);
     let many = measure[layout::NUMBERS];
     if numbers.len() <= many {
         return RowRead::Refused {
@@ -41,7 +41,7 @@ fn take_row(
             place: 0,
         };
     }
-    let row = layout::row(line);
+    let row = layout::row(listing);
     turning::read_row(file, place + tuples::FIELDS, msb, &row, numbers);
     numbers[many] = order::read4(file, place + whole - tuples::TAIL, msb);
     RowRead::Read {
@@ -74,7 +74,7 @@ pub fn write_row(code: u16, numbers: &[u32], text: &[u8], msb: bool, out: &mut [
     if !tuples::is_record(kind) {
         return layout::refuse(codes::UNFIT, 0);
     }
-    let measure = layout::measure(kind.line());
+    let measure = layout::measure(kind.listing());
     let many = measure[layout::NUMBERS];
     if numbers.len() <= many {
         return layout::refuse(codes::UNFIT, 0);

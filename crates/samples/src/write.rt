@@ -1,6 +1,7 @@
 // Writing a ping's samples, numbers and values handed over apart: in the fewest C-32 words, and as U-32 pairs. What the writers ask of
 // them first.
 use crate::PAIR;
+use crate::RUN_SAMPLES;
 use crate::WORD;
 ghost use mathlib.Core.Path.{_≡_};
 ghost use Prim.Native.Nat.{_+_, _*_, _^_, _<_, _≤_};
@@ -13,9 +14,9 @@ ghost use Rattle.samples.specs.Runs.{radix, gap, fewest};
 ghost use Rattle.samples.specs.Judging.{firstDrop, firstWordless};
 
 // The samples of the longest run, and its word.
-const FULL: usize = 65_536;
+const FULL: usize = RUN_SAMPLES as usize;
 
-const FULL_RUN: u32 = 0xffff_ffff;
+const FULL_RUN_WORD: u32 = 0xffff_ffff;
 
 // The word of a run of 1: longer ones count on from it.
 const SHORTEST_RUN: u32 = 0xffff_0000;
@@ -91,7 +92,7 @@ fn write_gap(out: &mut [u8], at: usize, msb: bool, quiet: usize) -> usize
     let mut to = at;
     let mut left = quiet;
     while FULL <= left {
-        order::store4(out, to, msb, FULL_RUN);
+        order::store4(out, to, msb, FULL_RUN_WORD);
         to += WORD;
         left -= FULL;
     }

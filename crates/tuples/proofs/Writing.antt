@@ -18,7 +18,7 @@ use Rattle.layout.specs.declared.Answer.{Answer}
 use Rattle.layout.specs.declared.Answer.the-variants.{Refused}
 use Rattle.layout.specs.declared.Kind.{Kind}
 use Rattle.layout.specs.Fields.{Field, num, txt, gap, ident, s, size}
-use Rattle.layout.specs.Types.{Shape, indexed, row, pairs, words, unlisted, kindOf, shapeOf, lineOf, placeIn}
+use Rattle.layout.specs.Types.{Shape, indexed, row, pairs, words, unlisted, kindOf, shapeOf, listingOf, placeIn}
 use Rattle.layout.specs.inner.Codes.{fieldsOf, rowCodes}
 use Rattle.layout.proofs.Tables.{Said, fieldsIn, tabled, by-kind}
 use Rattle.frame.specs.Frames.{frame}
@@ -97,9 +97,9 @@ module _ (o : Bool) (ns t b : List ℕ) (n a : ℕ) where
   handed-sizes unlisted z = absurd z
 
   -- it is a listed type's, and the code's row is its row
-  handed-listed : (q : Kind) → Handable (lineOf q .shape) ns t b n → placeIn q < 13
-  unfolding lineOf
-  handed-listed = by-kind (λ (q : Kind). Handable (lineOf q .shape) ns t b n → placeIn q < 13) (λ q h z. h) (λ z. absurd z) (λ z. absurd z)
+  handed-listed : (q : Kind) → Handable (listingOf q .shape) ns t b n → placeIn q < 13
+  unfolding listingOf
+  handed-listed = by-kind (λ (q : Kind). Handable (listingOf q .shape) ns t b n → placeIn q < 13) (λ q h z. h) (λ z. absurd z) (λ z. absurd z)
 
   module _ (k : ℕ) (z : Handable (shapeOf k) ns t b n) where
     pub row-listed : placeIn (kindOf k) < 13

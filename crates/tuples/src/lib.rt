@@ -12,7 +12,7 @@ ghost use Prim.Native.Nat.{ℕ, _+_, _-_, _^_, _≤_, _<_};
 ghost use lib.ListN.{length, take, drop};
 ghost use lib.Seq.{sets};
 ghost use Rattle.order.specs.Order.{numOf, signedOf, patternOf};
-ghost use Rattle.layout.specs.Types.{lineOf, shapeOf};
+ghost use Rattle.layout.specs.Types.{listingOf, shapeOf};
 ghost use Rattle.tuples.specs.Readers.{isPing, isRow, recordsOf, only};
 ghost use Rattle.tuples.specs.inner.Opening.{FoundTuple, FoundAs, OpenedAs};
 ghost use Rattle.tuples.specs.Writers.{Written, plainBytes};
@@ -96,7 +96,7 @@ pub fn open_tuple(file: &[u8], place: usize, asked: u16) -> Opened
 
 // Whether a kind is a record's.
 pub fn is_record(kind: Kind) -> bool
-    ensures { λ r. ⌜ r ≡ isRow (lineOf kind .shape) ⌝ }
+    ensures { λ r. ⌜ r ≡ isRow (listingOf kind .shape) ⌝ }
 {
     match kind {
         Kind::Signature => true,
@@ -201,7 +201,7 @@ fn put_tuple(
     requires { ⌜ whole ≤ length (now out) ⌝ }
     ensures { λ _. ⌜ now (out .exit) ≡ sets (now (out .entry)) 0 (plainBytes msb code (handedValues (shapeOf code) (now (numbers .entry)) (now (remark .entry)) (now (behind .entry)) (patternOf 4 attribute))) ⌝ }
 {
-    let row = layout::row(layout::kind_of(code).line());
+    let row = layout::row(layout::kind_of(code).listing());
     open_frame(out, msb, whole, code);
     turning::write_row(&row, numbers, remark, msb, out, FIELDS);
     turning::copy(behind, 0, behind.len(), out, whole - TAIL - behind.len());

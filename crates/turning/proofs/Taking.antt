@@ -14,7 +14,7 @@ use Rattle.layout.specs.Fields.{Field, num, txt, gap, ident, widthOf, takes, ma
 use Rattle.layout.specs.inner.Codes.{fieldOf, fieldsFrom, fieldsOf}
 use Rattle.turning.specs.Rows.{Value, valuesOf, numbersIn}
 use Rattle.turning.specs.inner.Codes.{codeWidth, codeTakes, fieldNumbers, codeNumbers}
-use Rattle.turning.proofs.Turns.{two, four, left}
+use Rattle.turning.proofs.Turned.{two, four, left}
 
 -- ---- what each arm of the code reads: the number of its codes, or none
 abbrev pub Took : ℕ → Bool → List ℕ → List ℕ → ℕ → ℕ → List ℕ → Type 0

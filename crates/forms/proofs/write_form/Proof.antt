@@ -1,4 +1,4 @@
--- `forms::write_form` meets its contract: each type's writer, by its code and its line. Assumes nothing.
+-- `forms::write_form` meets its contract: each type's writer, by its code and its listing. Assumes nothing.
 use mathlib.Core.Path.{_≡_, sym, ap, subst, _∙_}
 use mathlib.Core.Bool.{false}
 use native.Mathlib.Omega.{arith}
@@ -46,9 +46,9 @@ returns-3 c =
     let w = c .before .before in
     (whole (w .before .before .before), w .write-u .ensures)
 
--- its line, as the code looked it up
-placed : (c : tie.After-line) → c .line .result ≡ placeIn (kindOf (c .before .before .before .before .before .before .before .before .args .code))
-placed c = c .line .ensures ∙ ap placeIn (c .before .kind-of .ensures)
+-- its listing, as the code looked it up
+placed : (c : tie.After-listing) → c .listing .result ≡ placeIn (kindOf (c .before .before .before .before .before .before .before .before .args .code))
+placed c = c .listing .ensures ∙ ap placeIn (c .before .kind-of .ensures)
 
 write-raw-requires : tie.Need-write-raw-requires
 write-raw-requires c κs =

@@ -6,7 +6,7 @@ use native.Mathlib.Omega.{arith}
 use borrow.Author.Needs.{needs}
 use lib.ListN.{length}
 use Rattle.layout.specs.Fields.{Field, size}
-use Rattle.forms.specs.inner.Parts.{lineFields}
+use Rattle.forms.specs.inner.Parts.{listedFields}
 use Rattle.forms.proofs.Placed.{most, fits-here}
 use Rattle.forms.proofs.Texts.{row-listed, row-fields}
 use Rattle.forms.proofs.Written.{row-written}
@@ -17,13 +17,13 @@ use Rattle.forms.proofs.write_row.Tie as tie
 abbrev Room : tie.After-text-place → Type 0
 Room c =
     let a = c .before .before .before .args in
-    (16 ≤ a .whole) × (a .whole ≤ 262144) × (a .at + a .whole ≤ length (a .file .now)) × (c .text-place .result ≡ 6 + size (lineFields (a .line)))
+    (16 ≤ a .whole) × (a .whole ≤ 262144) × (a .at + a .whole ≤ length (a .file .now)) × (c .text-place .result ≡ 6 + size (listedFields (a .listing)))
 
 room : (c : tie.After-text-place) → Room c
 room c =
     let p = c .before .before .before .pre in
     let r = most (p .0) in
-    (r .0, r .1, r .2, c .text-place .ensures .0 ∙ ap (λ (i : ℕ). 6 + size (lineFields i)) (sym (p .1 .1 .0)))
+    (r .0, r .1, r .2, c .text-place .ensures .0 ∙ ap (λ (i : ℕ). 6 + size (listedFields i)) (sym (p .1 .1 .0)))
 
 open-form-requires : tie.Need-open-form-requires
 open-form-requires c κs =
@@ -51,7 +51,7 @@ returns c =
     let d = fields .before .before in
     let p = d .before .before .before .pre in
     let a = d .before .before .before .args in
-    row-written (p .0) (a .out .now) _ (a .to) (p .1 .0 .fields) (p .1 .0 .text) (p .1 .0 .shape) (lineFields (a .line)) (row-fields (p .1 .0) (p .1 .1 .0))
+    row-written (p .0) (a .out .now) _ (a .to) (p .1 .0 .fields) (p .1 .0 .text) (p .1 .0 .shape) (listedFields (a .listing)) (row-fields (p .1 .0) (p .1 .1 .0))
     (d .text-place .result) (room d .3 ∙ ap (λ (fs : List Field). 6 + size fs) (row-fields (p .1 .0) (p .1 .1 .0)))
     (rw (back .close-form .ensures, text .copy .ensures, fields .open-form .ensures))
 

@@ -5,7 +5,7 @@ use native.Mathlib.Omega.{arith}
 use borrow.Author.Needs.{needs}
 use lib.ListN.{length}
 use Rattle.forms.proofs.Placed.{most, long-words, measured-words}
-use Rattle.forms.proofs.Texts.{ping-line}
+use Rattle.forms.proofs.Texts.{ping-listed}
 use Rattle.forms.proofs.Written.{spread-count, spread-few, words-written}
 use Rattle.forms.proofs.write_sampled.Statement.{statement}
 use Rattle.forms.proofs.write_sampled.Tie as tie
@@ -24,7 +24,7 @@ room s =
 open-form-requires : tie.Need-open-form-requires
 open-form-requires c κs =
     let r = room (c .before .before .before .before) in
-    let l = ping-line (c .before .line .ensures) in
+    let l = ping-listed (c .before .listing .ensures) in
     (l .0, (omega arith, (omega arith, (omega arith, omega arith))))
 
 spread-words-requires : tie.Need-spread-words-requires
@@ -43,10 +43,10 @@ returns c =
     let back = c .before .before in
     let pairs = back .before .before .before .before in
     let header = pairs .before .before .before .before .before in
-    let line = header .before .before in
-    let s = line .before .before .before in
+    let listing = header .before .before in
+    let s = listing .before .before .before in
     words-written (s .pre .0) (s .args .out .now) _ (s .args .to) refl (s .args .bytes) (s .pre .1 .1 .0) (s .pre .1 .0)
-    (rw (back .close-form .ensures, pairs .spread-words .ensures, header .open-form .ensures, line .line .ensures))
+    (rw (back .close-form .ensures, pairs .spread-words .ensures, header .open-form .ensures, listing .listing .ensures))
 
 pub write-sampled-spec : {M : Type 1} → statement M
 write-sampled-spec =

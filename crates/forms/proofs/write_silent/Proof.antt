@@ -5,7 +5,7 @@ use native.Mathlib.Omega.{arith}
 use borrow.Author.Needs.{needs}
 use lib.ListN.{length}
 use Rattle.forms.proofs.Placed.{most, long-words}
-use Rattle.forms.proofs.Texts.{ping-line}
+use Rattle.forms.proofs.Texts.{ping-listed}
 use Rattle.forms.proofs.Written.{silent-written}
 use Rattle.forms.proofs.write_silent.Statement.{statement}
 use Rattle.forms.proofs.write_silent.Tie as tie
@@ -20,7 +20,7 @@ room s = (long-words (s .pre .0) refl, most (s .pre .0) .2)
 open-form-requires : tie.Need-open-form-requires
 open-form-requires c κs =
     let r = room (c .before .before .before .before) in
-    let l = ping-line (c .before .line .ensures) in
+    let l = ping-listed (c .before .listing .ensures) in
     (l .0, (omega arith, (omega arith, (omega arith, omega arith))))
 
 close-form-requires : tie.Need-close-form-requires
@@ -33,9 +33,9 @@ returns c =
     let back = c .before .before in
     let silence = back .before .before .before .before in
     let header = silence .before .before .before .before in
-    let line = header .before .before in
-    let s = line .before .before .before in
-    silent-written (s .pre .0) (s .args .out .now) _ (s .args .to) refl (s .pre .1 .0) (rw (back .close-form .ensures, silence .write-silence .ensures, header .open-form .ensures, line .line .ensures))
+    let listing = header .before .before in
+    let s = listing .before .before .before in
+    silent-written (s .pre .0) (s .args .out .now) _ (s .args .to) refl (s .pre .1 .0) (rw (back .close-form .ensures, silence .write-silence .ensures, header .open-form .ensures, listing .listing .ensures))
 
 pub write-silent-spec : {M : Type 1} → statement M
 write-silent-spec =

@@ -6,7 +6,7 @@ use borrow.Author.Needs.{needs}
 use lib.ListN.{length, drop, length-drop}
 use lib.Seq.{length-take-le}
 use Rattle.forms.proofs.Placed.{most, long-pairs}
-use Rattle.forms.proofs.Texts.{ping-line}
+use Rattle.forms.proofs.Texts.{ping-listed}
 use Rattle.forms.proofs.Written.{pairs-written}
 use Rattle.forms.proofs.write_u.Statement.{statement}
 use Rattle.forms.proofs.write_u.Tie as tie
@@ -21,7 +21,7 @@ room s = let r = most (s .pre .0) in (long-pairs (s .pre .0) refl, r .1, r .2)
 open-form-requires : tie.Need-open-form-requires
 open-form-requires c κs =
     let r = room (c .before .before .before .before) in
-    let l = ping-line (c .before .line .ensures) in
+    let l = ping-listed (c .before .listing .ensures) in
     (l .0, (omega arith, (omega arith, (omega arith, omega arith))))
 
 turn-words-requires : tie.Need-turn-words-requires
@@ -41,9 +41,9 @@ returns c =
     let back = c .before .before in
     let pairs = back .before .before .before .before in
     let header = pairs .before .before .before .before .before in
-    let line = header .before .before in
-    let s = line .before .before .before in
-    pairs-written (s .pre .0) (s .args .out .now) _ (s .args .to) refl (rw (back .close-form .ensures, pairs .turn-words .ensures, header .open-form .ensures, line .line .ensures))
+    let listing = header .before .before in
+    let s = listing .before .before .before in
+    pairs-written (s .pre .0) (s .args .out .now) _ (s .args .to) refl (rw (back .close-form .ensures, pairs .turn-words .ensures, header .open-form .ensures, listing .listing .ensures))
 
 pub write-u-spec : {M : Type 1} → statement M
 write-u-spec =

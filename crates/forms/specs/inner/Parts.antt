@@ -25,9 +25,9 @@ closingBytes n attribute = bytesOf false 4 attribute ++ bytesOf false 4 n
 unfoldable pub silence : List ℕ
 silence = bytesOf false 4 0 ++ bytesOf false 4 0xffff0000
 
--- the fields of a line of the tables
-abbrev pub lineFields : ℕ → List Field
-lineFields line = fieldsOf (getD rowCodes line [])
+-- the fields of a listing
+abbrev pub listedFields : ℕ → List Field
+listedFields listing = fieldsOf (getD rowCodes listing [])
 
 -- a type that a row reads
 pub record Rowed (k : ℕ) : Type 0 where

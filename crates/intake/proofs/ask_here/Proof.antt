@@ -7,7 +7,7 @@ use borrow.Author.Tests.{not-true, not-false}
 use lib.Dec.{eqb}
 use lib.ListN.{length}
 use Rattle.intake.specs.inner.Tallies.{Tables, tables, pingAt}
-use Rattle.intake.proofs.Lines.{ask-other, channel-below, sounder-below, ask-ping}
+use Rattle.intake.proofs.Rows.{ask-other, channel-below, sounder-below, ask-ping}
 use Rattle.intake.proofs.ask_here.Statement.{statement}
 use Rattle.intake.proofs.ask_here.Tie as tie
 
@@ -24,7 +24,7 @@ returns c = let s = c .before .before .before .before in ask-other _ _ (s .args 
 pings : (c : tie.Else1) → let a = c .before .before .before .before .args in pingAt (a .msb) (a .file .now) (a .w .at) ≡ true
 pings c = sym (tested (c .before)) ∙ not-false _ (c .if1 .left)
 
--- the lookups' lines are declared
+-- the lookups' rows are declared
 below-channel : (c : tie.After-find-channel) → c .find-channel .result < length (c .before .before .before .before .before .before .args .channels .now)
 below-channel c = let s = c .before .before .before .before .before .before in channel-below _ _ _ (s .args .counts) (held s) (s .pre) (pings (c .before .before)) _ _ (c .before .named-at .ensures) (c .find-channel .ensures)
 

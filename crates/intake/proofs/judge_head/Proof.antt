@@ -10,7 +10,7 @@ use Rattle.rules.specs.Rules.{_⇒_}
 use Rattle.layout.specs.declared.Kind.{Kind}
 use Rattle.layout.specs.Answers.{judged, _byte_}
 use Rattle.layout.specs.Fields.{known}
-use Rattle.layout.specs.Types.{kindOf, lineOf, fitting}
+use Rattle.layout.specs.Types.{kindOf, listingOf, fitting}
 use Rattle.intake.specs.inner.Tallies.{Fits, headVerdict}
 use Rattle.intake.proofs.Judges.{tupIn, identifiedIn, room, head-place, identifier-read, no-identifier}
 use Rattle.intake.proofs.judge_head.Statement.{statement}
@@ -26,8 +26,8 @@ placed : (c : tie.Else1) → let a = c .before .before .args in not (Bool·beq (
 placed c = c .if1 .left
 
 -- the test of the length, as the code made it
-tested : (c : tie.After-fits2) → let a = c .before .before .before .before .args in fitting (lineOf (kindOf (a .code)) .length) (a .whole) ≡ c .fits2 .result
-tested c = sym (c .fits2 .ensures ∙ ap (λ (q : Kind). fitting (lineOf q .length) (c .before .before .before .before .args .whole)) (c .before .kind-of .ensures))
+tested : (c : tie.After-fits2) → let a = c .before .before .before .before .args in fitting (listingOf (kindOf (a .code)) .length) (a .whole) ≡ c .fits2 .result
+tested c = sym (c .fits2 .ensures ∙ ap (λ (q : Kind). fitting (listingOf q .length) (c .before .before .before .before .args .whole)) (c .before .kind-of .ensures))
 
 returns-2 : tie.Need-returns-2
 returns-2 c =

@@ -13,7 +13,7 @@ use Rattle.links.specs.inner.Tables.{channelOf, channelRow}
 use Rattle.intake.specs.inner.Tallies.{Tables, tables, Here, said, comparesAt}
 use Rattle.intake.proofs.Said.{fault-near, fine-parts}
 use Rattle.intake.proofs.Judges.{room, whole, channel-whole, turn-fine, turn-fault}
-use Rattle.intake.proofs.Tallies.{compares-few, fine-fits, holds, room-sounder, room-channel, turned-fault, turned-sounder, turned-channel, turned-end, turned-other}
+use Rattle.intake.proofs.Tallies.{compares-few, fine-fits, holds, room-sounder, room-channel, turns-fault, turns-sounder, turns-channel, turns-end, turns-other}
 use Rattle.intake.proofs.turn.Statement.{statement}
 use Rattle.intake.proofs.turn.Tie as tie
 
@@ -88,7 +88,7 @@ returns c =
     let p = t .before in
     let k = p .before in
     let s = from k in
-    rw (p .past .ensures, d .put-sounder .ensures, d .before .sounder-at .ensures) (turned-sounder _ (s .pre .1 .1 .1) (s .pre .0) (s .pre .1 .0) _ (here k) (fine (k .before .before .before)) (cost (k .before .before .before)) (t .if1 .taken))
+    rw (p .past .ensures, d .put-sounder .ensures, d .before .sounder-at .ensures) (turns-sounder _ (s .pre .1 .1 .1) (s .pre .0) (s .pre .1 .0) _ (here k) (fine (k .before .before .before)) (cost (k .before .before .before)) (t .if1 .taken))
 
 -- ---- a channel
 channel-at-requires : tie.Need-channel-at-requires
@@ -121,7 +121,7 @@ returns-2 c =
     let p = t .before .before in
     let k = p .before in
     let s = from k in
-    rw (p .past .ensures, d .put-channel .ensures .0, n .channel-at .ensures) (turned-channel _ (s .pre .1 .1 .1) (s .pre .0) (s .pre .1 .0) _ (here k) (fine (k .before .before .before)) (cost (k .before .before .before)) (t .if2 .taken) (subst (λ (x : Channel). channelOf (channelRow x (s .args .w .at)) ≡ x) (n .channel-at .ensures) (d .put-channel .ensures .1)))
+    rw (p .past .ensures, d .put-channel .ensures .0, n .channel-at .ensures) (turns-channel _ (s .pre .1 .1 .1) (s .pre .0) (s .pre .1 .0) _ (here k) (fine (k .before .before .before)) (cost (k .before .before .before)) (t .if2 .taken) (subst (λ (x : Channel). channelOf (channelRow x (s .args .w .at)) ≡ x) (n .channel-at .ensures) (d .put-channel .ensures .1)))
 
 -- ---- the end of file
 abbrev ended : tie.After-end-arg4 → tie.Then3
@@ -139,20 +139,20 @@ returns-3 c =
     let p = t .before .before .before in
     let k = p .before in
     let s = from k in
-    rw (c .end .ensures, p .past .ensures) (turned-end _ (s .pre .1 .1 .1) (s .pre .0) (s .pre .1 .0) (p .past .result .near) (here k) (fine (k .before .before .before)) (cost (k .before .before .before)) (t .if3 .taken))
+    rw (c .end .ensures, p .past .ensures) (turns-end _ (s .pre .1 .1 .1) (s .pre .0) (s .pre .1 .0) (p .past .result .near) (here k) (fine (k .before .before .before)) (cost (k .before .before .before)) (t .if3 .taken))
 
 -- ---- a fault, and any other tuple
 returns-4 : tie.Need-returns-4
 returns-4 c =
     let s = start (c .before .before .before .before) in
-    rw (c .refuse .ensures) (turned-fault _ (s .pre .1 .1 .1) (s .pre .0) (s .pre .1 .0) _ _ (faulty (c .before .before)))
+    rw (c .refuse .ensures) (turns-fault _ (s .pre .1 .1 .1) (s .pre .0) (s .pre .1 .0) _ _ (faulty (c .before .before)))
 
 returns-5 : tie.Need-returns-5
 returns-5 c =
     let p = c .before .before .before in
     let k = p .before in
     let s = from k in
-    rw (p .past .ensures) (turned-other _ (s .pre .1 .1 .1) (s .pre .0) (s .pre .1 .0) _ (here k) (fine (k .before .before .before)) (cost (k .before .before .before)) (c .before .before .if1 .left) (c .before .if2 .left) (c .if3 .left))
+    rw (p .past .ensures) (turns-other _ (s .pre .1 .1 .1) (s .pre .0) (s .pre .1 .0) _ (here k) (fine (k .before .before .before)) (cost (k .before .before .before)) (c .before .before .if1 .left) (c .before .if2 .left) (c .if3 .left))
 
 pub turn-spec : {M : Type 1} → statement M
 turn-spec =

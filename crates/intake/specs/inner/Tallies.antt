@@ -15,7 +15,7 @@ use Rattle.layout.specs.declared.Answer.{Answer}
 use Rattle.layout.specs.declared.Verdict.{Verdict}
 use Rattle.layout.specs.declared.Verdict.the-variants.{Fine}
 use Rattle.layout.specs.Answers.{both, judged, _byte_}
-use Rattle.layout.specs.Types.{kindOf, lineOf, fitting, inClass}
+use Rattle.layout.specs.Types.{kindOf, listingOf, fitting, inClass}
 use Rattle.layout.specs.Types
 use Rattle.frame.specs.Frames.{Tup, lenAt, kindAt, tupAt, framing}
 use Rattle.links.specs.declared.LinkVerdict.{LinkVerdict}
@@ -30,7 +30,7 @@ use Rattle.intake.specs.declared.Tally.{Tally}
 use Rattle.intake.specs.declared.Turned.{Turned}
 use Rattle.intake.specs.declared.Turned.the-variants.{On, Done}
 use Rattle.intake.specs.Check.{Course, begin, Turn, stop, go, turn, checkFrom}
-use Rattle.intake.specs.Asking.{courseTo, channelLine, channelFor, sounderLine, parentsIn}
+use Rattle.intake.specs.Asking.{courseTo, channelNth, channelFor, sounderNth, parentsIn}
 
 -- the tables: a row for each sounder, and for each channel
 pub record Tables : Type 0 where
@@ -106,7 +106,7 @@ pub record Here (o : Bool) (f : List ℕ) (at n k : ℕ) : Type 0 where
 
 -- its length fits its type
 abbrev pub Fits : ℕ → ℕ → Type 0
-Fits n k = fitting (lineOf (kindOf k) .length) n ≡ true
+Fits n k = fitting (listingOf (kindOf k) .length) n ≡ true
 
 -- what a sounder tuple and a channel tuple declare, and the channel that another names, by their bytes
 abbrev pub sounderAt : Bool → List ℕ → ℕ → Sounder
@@ -162,7 +162,7 @@ unfoldable pub turnTold : Bool → List ℕ → Tally → Tables → LinkVerdict
 turnTold o f w c = comparing (said o f w c) (comparesAt o f w c)
 
 -- ---- the tally behind the mark, and past a tuple of n bytes and of a type code that compares m identifiers, before what it declares;
--- the next channel is looked for first on any line
+-- the next channel is looked for first on any row
 abbrev pub tallyBegin : Tally
 tallyBegin = record { at = 4; count = 0; compared = 0; sounders = 0; channels = 0; near = 0; position = false; sounder = false; channel = false; ping = false }
 
@@ -242,9 +242,9 @@ pingAt o f at = eqb (kindAt o (drop at f)) 10000 || eqb (kindAt o (drop at f)) 1
 unfoldable pub askWhere : Bool → List ℕ → Counts → Course → Asked
 askWhere o f n w = cond (pingAt o f (w .at)) (parentsIn w (namedAt o f (w .at)) n) (Refused 9 (w .at))
 
--- what asking there rests on: a frame's bytes are left, and a ping's lines are declared
+-- what asking there rests on: a frame's bytes are left, and a ping's rows are declared
 pub record AskIn (o : Bool) (f : List ℕ) (w : Tally) (c : Tables) : Type 0 where
   pub left : w .at + 16 ≤ length f
   pub sounderRoom : w .sounders ≤ length (c .sounders)
   pub channelRoom : w .channels ≤ length (c .channels)
-  pub declared : pingAt o f (w .at) ≡ true → (channelLine (courseOf w c) (namedAt o f (w .at)) < w .channels) × (sounderLine (courseOf w c) (channelFor (courseOf w c) (namedAt o f (w .at)) .parent) < w .sounders)
+  pub declared : pingAt o f (w .at) ≡ true → (channelNth (courseOf w c) (namedAt o f (w .at)) < w .channels) × (sounderNth (courseOf w c) (channelFor (courseOf w c) (namedAt o f (w .at)) .parent) < w .sounders)

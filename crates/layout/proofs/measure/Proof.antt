@@ -4,16 +4,16 @@ use mathlib.Core.List.{[]}
 use native.Mathlib.Omega.{arith}
 use borrow.Author.Needs.{needs}
 use Rattle.layout.specs.inner.Codes.{measures}
-use Rattle.layout.proofs.Lines.{arm, at-least}
+use Rattle.layout.proofs.Arms.{arm, at-least}
 use Rattle.layout.proofs.measure.Statement.{statement}
 use Rattle.layout.proofs.measure.Tie as tie
 
--- behind the twelve arms one line is left
+-- behind the twelve arms one listing is left
 returns-13 : tie.Need-returns-13
 unfolding measures
 returns-13 c =
     let s = c .before .before in
-    let e : s .args .line ≡ 12 = omega (arith, s .pre, at-least 12 (s .args .line) (c .before .match .rest)) in
+    let e : s .args .listing ≡ 12 = omega (arith, s .pre, at-least 12 (s .args .listing) (c .before .match .rest)) in
     arm measures [] e refl
 
 pub measure-spec : {M : Type 1} → statement M

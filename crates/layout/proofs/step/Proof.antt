@@ -3,16 +3,16 @@ use mathlib.Core.Path.{_≡_, refl}
 use native.Mathlib.Omega.{arith}
 use borrow.Author.Needs.{needs}
 use Rattle.layout.specs.inner.Codes.{steps}
-use Rattle.layout.proofs.Lines.{arm, at-least}
+use Rattle.layout.proofs.Arms.{arm, at-least}
 use Rattle.layout.proofs.step.Statement.{statement}
 use Rattle.layout.proofs.step.Tie as tie
 
--- behind the twelve arms one line is left
+-- behind the twelve arms one listing is left
 returns-13 : tie.Need-returns-13
 unfolding steps
 returns-13 c =
     let s = c .before in
-    let e : s .args .line ≡ 12 = omega (arith, s .pre, at-least 12 (s .args .line) (c .match .rest)) in
+    let e : s .args .listing ≡ 12 = omega (arith, s .pre, at-least 12 (s .args .listing) (c .match .rest)) in
     arm steps 0 e refl
 
 pub step-spec : {M : Type 1} → statement M

@@ -6,10 +6,10 @@ use Rattle.links.proofs.find.Statement.{statement}
 use Rattle.links.proofs.find.Tie as tie
 
 abbrev Inv-loop : tie.InvT-loop
-Inv-loop rows used key line₀ line = Looking key rows used line
+Inv-loop rows used key row₀ row = Looking key rows used row
 
 abbrev μ-loop : tie.MeasureT-loop
-μ-loop rows used key line₀ line = used - line
+μ-loop rows used key row₀ row = used - row
 
 returns : tie.Need-returns Inv-loop μ-loop
 returns c = hit (c .before .before .before .loop .inv) (c .before .before .loop-test .taken) (c .if1 .taken)

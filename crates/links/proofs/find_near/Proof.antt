@@ -1,4 +1,4 @@
--- `links::find_near` meets its contract: a guess that has the identifier is the one line. Assumes nothing.
+-- `links::find_near` meets its contract: a guess that has the identifier is the one row. Assumes nothing.
 use native.Mathlib.Omega.{arith}
 use mir.Facts.{fits-widen}
 use borrow.Author.Needs.{needs}

@@ -18,7 +18,7 @@ use Rattle.rows.proofs.take_row.Statement.{statement}
 use Rattle.rows.proofs.take_row.Tie as tie
 
 -- ---- places: the function's start, and where the row is measured
-abbrev start : tie.After-line → tie.Start
+abbrev start : tie.After-listing → tie.Start
 start l = l .before .before .before .before
 
 abbrev measuring : tie.After-read4 → tie.After-measure
@@ -28,21 +28,21 @@ abbrev attribute : tie.After-slice-known2 → tie.Start
 attribute c = start (c .before .before .before .before .before .before .before .before)
 
 -- the fields of the row
-abbrev fields : tie.After-line → List Field
+abbrev fields : tie.After-listing → List Field
 fields l = fieldsBy (shapeOf (start l .args .code))
 
--- ---- the line is that of the type asked for
-at-line : (l : tie.After-line) → l .line .result ≡ placeIn (kindOf (start l .args .code))
-at-line l = l .line .ensures ∙ ap placeIn (l .before .kind-of .ensures)
+-- ---- the listing is that of the type asked for
+at-listing : (l : tie.After-listing) → l .listing .result ≡ placeIn (kindOf (start l .args .code))
+at-listing l = l .listing .ensures ∙ ap placeIn (l .before .kind-of .ensures)
 
-listed : (l : tie.After-line) → l .line .result < 13
-listed l = let d = start l in rw (at-line l) (row-listed (d .args .code) (opened-row (d .pre)))
+listed : (l : tie.After-listing) → l .listing .result < 13
+listed l = let d = start l in rw (at-listing l) (row-listed (d .args .code) (opened-row (d .pre)))
 
 -- what the tables say of it
 told : (m : tie.After-measure) → m .measure .result ≡ measured (fields (m .before))
 told m =
     let d = start (m .before) in
-    m .measure .ensures ∙ ap (λ (i : ℕ). getD measures i []) (at-line (m .before)) ∙ row-measure (d .args .code) (opened-row (d .pre))
+    m .measure .ensures ∙ ap (λ (i : ℕ). getD measures i []) (at-listing (m .before)) ∙ row-measure (d .args .code) (opened-row (d .pre))
 
 many-told : (m : tie.After-measure) → getD (m .measure .result) 0 0 ≡ many (fields (m .before))
 many-told m = ap (λ (l : List ℕ). getD l 0 0) (told m)
@@ -57,7 +57,7 @@ rowed : (c : tie.After-row) → fieldsOf (c .row .result) ≡ fields (c .before 
 rowed c =
     let l = c .before .before .before in
     let d = start l in
-    ap fieldsOf (c .row .ensures ∙ ap (λ (i : ℕ). getD rowCodes i []) (at-line l)) ∙ row-fields (d .args .code) (opened-row (d .pre))
+    ap fieldsOf (c .row .ensures ∙ ap (λ (i : ℕ). getD rowCodes i []) (at-listing l)) ∙ row-fields (d .args .code) (opened-row (d .pre))
 
 -- ---- the places of the tuple are the file's
 inside : (d : tie.Start) → (d .args .place + d .args .whole ≤ length (d .args .file .now)) × (size (fieldsBy (shapeOf (d .args .code))) + 14 ≤ d .args .whole)

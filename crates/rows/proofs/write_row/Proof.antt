@@ -14,7 +14,7 @@ use Rattle.order.specs.Order.{patternOf}
 use Rattle.order.proofs.Signed.{pattern-signed}
 use Rattle.layout.specs.declared.Kind.{Kind}
 use Rattle.layout.specs.Fields.{Field, size, many, bareSize}
-use Rattle.layout.specs.Types.{kindOf, shapeOf, lineOf, placeIn, fitting}
+use Rattle.layout.specs.Types.{kindOf, shapeOf, listingOf, placeIn, fitting}
 use Rattle.layout.specs.inner.Codes.{measures, measured}
 use Rattle.tuples.specs.Readers.{isRow, isRecord}
 use Rattle.rows.specs.Readers.{fieldsBy}
@@ -43,7 +43,7 @@ typed-at m = m .before .before .before
 
 -- ---- whether it is a record's type
 recorded : (r : tie.After-is-record) → r .is-record .result ≡ isRecord (start r .args .code)
-recorded r = r .is-record .ensures ∙ ap (λ (q : Kind). isRow (lineOf q .shape)) (r .before .kind-of .ensures)
+recorded r = r .is-record .ensures ∙ ap (λ (q : Kind). isRow (listingOf q .shape)) (r .before .kind-of .ensures)
 
 is : (e : tie.Else1) → isRecord (start (e .before) .args .code) ≡ true
 is e = sym (recorded (e .before)) ∙ not-false _ (e .if1 .left)
@@ -54,17 +54,17 @@ returns c =
     let a = start r .args in
     rw (c .refuse .ensures) (no-record (a .code) (a .numbers .now) (a .text .now) (a .msb) (a .out .now) (sym (recorded r) ∙ not-true _ (c .before .if1 .taken)))
 
--- ---- its line, and what the tables say of it
-at-line : (l : tie.After-line) → l .line .result ≡ placeIn (kindOf (start (l .before .before) .args .code))
-at-line l = l .line .ensures ∙ ap placeIn (l .before .before .before .kind-of .ensures)
+-- ---- its listing, and what the tables say of it
+at-listing : (l : tie.After-listing) → l .listing .result ≡ placeIn (kindOf (start (l .before .before) .args .code))
+at-listing l = l .listing .ensures ∙ ap placeIn (l .before .before .before .kind-of .ensures)
 
 measure-requires : tie.Need-measure-requires
-measure-requires c κs = let k = start (c .before .before) .args .code in rw (at-line c) (row-listed k (is-row (shapeOf k) (is (c .before))))
+measure-requires c κs = let k = start (c .before .before) .args .code in rw (at-listing c) (row-listed k (is-row (shapeOf k) (is (c .before))))
 
 told : (m : tie.After-measure) → m .measure .result ≡ measured (fields (typed-at m))
 told m =
     let k = start (typed-at m) .args .code in
-    m .measure .ensures ∙ ap (λ (i : ℕ). getD measures i []) (at-line (m .before)) ∙ row-measure k (is-row (shapeOf k) (is (m .before .before)))
+    m .measure .ensures ∙ ap (λ (i : ℕ). getD measures i []) (at-listing (m .before)) ∙ row-measure k (is-row (shapeOf k) (is (m .before .before)))
 
 many-told : (m : tie.After-measure) → getD (m .measure .result) 0 0 ≡ many (fields (typed-at m))
 many-told m = ap (λ (l : List ℕ). getD l 0 0) (told m)
@@ -90,10 +90,10 @@ as-length : (m : tie.After-measure) → lengthAt m ≡ rowLength (start (typed-a
 as-length m = ap (λ (b : ℕ). b + length (start (typed-at m) .args .text .now) + 14) (bare-told m)
 
 fitted : (f : tie.After-fits2)
-    → let m = f .before .before in f .fits2 .result ≡ fitting (lineOf (kindOf (start (typed-at m) .args .code)) .length) (lengthAt m)
+    → let m = f .before .before in f .fits2 .result ≡ fitting (listingOf (kindOf (start (typed-at m) .args .code)) .length) (lengthAt m)
 fitted f =
     let m = f .before .before in
-    f .fits2 .ensures ∙ ap (λ (q : Kind). fitting (lineOf q .length) (lengthAt m)) (typed-at m .before .kind-of .ensures)
+    f .fits2 .ensures ∙ ap (λ (q : Kind). fitting (listingOf q .length) (lengthAt m)) (typed-at m .before .kind-of .ensures)
 
 returns-3 : tie.Need-returns-3
 returns-3 c =

@@ -1,11 +1,11 @@
--- `tuples::is_record` meets its contract: each kind's line says its shape. Assumes nothing.
+-- `tuples::is_record` meets its contract: each kind's listing says its shape. Assumes nothing.
 use borrow.Author.Needs.{needs}
-use Rattle.layout.specs.Types.{lineOf}
+use Rattle.layout.specs.Types.{listingOf}
 use Rattle.tuples.proofs.is_record.Statement.{statement}
 use Rattle.tuples.proofs.is_record.Tie as tie
 
 pub is-record-spec : {M : Type 1} → statement M
-unfolding lineOf
+unfolding listingOf
 is-record-spec =
     tie.close
     (tie.spec

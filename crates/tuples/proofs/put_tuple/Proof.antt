@@ -23,7 +23,7 @@ use Rattle.tuples.proofs.put_tuple.Tie as tie
 rowed : (c : tie.After-row) → fieldsOf (c .row .result) ≡ fieldsIn (shapeOf (c .before .before .before .before .before .before .before .args .code))
 rowed c =
     let a = c .before .before .before .before .before .before .before .args in
-    ap fieldsOf (c .row .ensures ∙ ap (λ (i : ℕ). getD rowCodes i []) (c .before .line .ensures ∙ ap placeIn (c .before .before .kind-of .ensures)))
+    ap fieldsOf (c .row .ensures ∙ ap (λ (i : ℕ). getD rowCodes i []) (c .before .listing .ensures ∙ ap placeIn (c .before .before .kind-of .ensures)))
     ∙ row-there (a .msb) (a .numbers .now) (a .remark .now) (a .behind .now) (a .whole) (patternOf 4 (a .attribute)) (a .code) (c .before .before .before .before .before .before .before .pre .0)
 
 -- how many bytes it has
@@ -34,7 +34,7 @@ row-requires : tie.Need-row-requires
 row-requires c κs =
     let d = c .before .before .before .before .before .before in
     let a = d .args in
-    rw (c .line .ensures, c .before .kind-of .ensures) (row-listed (a .msb) (a .numbers .now) (a .remark .now) (a .behind .now) (a .whole) (patternOf 4 (a .attribute)) (a .code) (d .pre .0))
+    rw (c .listing .ensures, c .before .kind-of .ensures) (row-listed (a .msb) (a .numbers .now) (a .remark .now) (a .behind .now) (a .whole) (patternOf 4 (a .attribute)) (a .code) (d .pre .0))
 
 open-frame-requires : tie.Need-open-frame-requires
 open-frame-requires c κs = let z = small (c .before .before .before .before .before .before .before .before) in (omega (arith, z .0), (omega (arith, z .0), omega (arith, z .1)))

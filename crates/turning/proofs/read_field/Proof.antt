@@ -3,7 +3,7 @@ use mathlib.Core.Path.{refl, ap, _∙_}
 use native.Mathlib.Omega.{arith}
 use borrow.Author.Needs.{needs}
 use Rattle.turning.specs.inner.Codes.{codeWidth, codeTakes}
-use Rattle.turning.proofs.Turns.{two, four, no-field}
+use Rattle.turning.proofs.Turned.{two, four, no-field}
 use Rattle.turning.proofs.Taking.{took2, took4, took-text, took-space, took-ident}
 use Rattle.turning.proofs.read_field.Statement.{statement}
 use Rattle.turning.proofs.read_field.Tie as tie

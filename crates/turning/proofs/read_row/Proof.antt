@@ -9,7 +9,7 @@ use Rattle.layout.specs.Fields.{size, many}
 use Rattle.layout.specs.inner.Codes.{fieldOf, fieldsOf}
 use Rattle.turning.specs.Rows.{valuesOf, numbersIn}
 use Rattle.turning.specs.inner.Codes.{codeWidth}
-use Rattle.turning.proofs.Turns.{field-room, field-none, size-step, row-end}
+use Rattle.turning.proofs.Turned.{field-room, field-none, size-step, row-end}
 use Rattle.turning.proofs.Taking.{takes-room, many-step, read-step, nothing-read}
 use Rattle.turning.proofs.read_row.Statement.{statement}
 use Rattle.turning.proofs.read_row.Tie as tie

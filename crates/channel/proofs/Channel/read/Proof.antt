@@ -6,7 +6,7 @@ use native.Mathlib.Omega.{arith}
 use borrow.Author.Needs.{needs}
 use Rattle.layout.specs.Answers.{tells}
 use Rattle.layout.specs.declared.Answer.{Answer}
-use Rattle.layout.specs.Types.{classes, inClass, kindOf, lineOf}
+use Rattle.layout.specs.Types.{classes, inClass, kindOf, listingOf}
 use Rattle.tuples.specs.Readers.{readValues}
 use Rattle.tuples.proofs.Fields.{in-file, exact, values-there}
 use Rattle.channel.specs.declared.ChannelRead.the-variants.{Read}
@@ -15,7 +15,7 @@ use Rattle.channel.proofs.Channel.read.Statement.{statement}
 use Rattle.channel.proofs.Channel.read.Tie as tie
 
 at-requires : tie.Need-at-requires
-unfolding kindOf inClass classes lineOf
+unfolding kindOf inClass classes listingOf
 at-requires c κs =
     let r = rw (c .before .msb .given .1) at (c .before .before .before .open-tuple .ensures) in
     omega (arith, in-file 1000 r, exact 1000 r 108 refl)
@@ -27,7 +27,7 @@ returns c =
     record { answer = tells e; outcome = ap (λ (x : Answer). answered x (channelOf (readValues (a .file .now) (a .place))) (record { place = a .place + 68; length = 30 })) e }
 
 returns-2 : tie.Need-returns-2
-unfolding kindOf inClass classes lineOf
+unfolding kindOf inClass classes listingOf
 returns-2 c =
     let a = c .before .before .before .before .before .before .args in
     let r = rw (c .before .before .msb .given .1) at (c .before .before .before .before .open-tuple .ensures) in
@@ -38,7 +38,7 @@ returns-2 c =
 
 -- the remarks stand in the file
 add-t9 : tie.Need-add-t9
-unfolding kindOf inClass classes lineOf
+unfolding kindOf inClass classes listingOf
 add-t9 c =
     let r = rw (c .before .before .msb .given .1) at (c .before .before .before .before .open-tuple .ensures) in
     omega (arith, in-file 1000 r, exact 1000 r 108 refl)

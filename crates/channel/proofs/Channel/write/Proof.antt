@@ -13,7 +13,7 @@ use lib.Dec.{eqb}
 use lib.ListN.{length}
 use Rattle.order.specs.Order.{patternOf}
 use Rattle.layout.specs.declared.Answer.the-variants.{Refused}
-use Rattle.layout.specs.Types.{classes, inClass, kindOf, lineOf, shapeOf}
+use Rattle.layout.specs.Types.{classes, inClass, kindOf, listingOf, shapeOf}
 use Rattle.tuples.specs.Writers.{plainBytes}
 use Rattle.tuples.specs.inner.Framing.{handedValues}
 use Rattle.tuples.proofs.Writing.{as-values, refused-first, written-past}
@@ -31,11 +31,11 @@ returns c =
     rw (c .refuse .ensures) (refused-first (not (eqb (length (a .remarks .now)) 30)) 9 0 [] (bytes d) (a .out .now) (ap not (ne-eqb (length (a .remarks .now)) 30 (c .before .if1 .taken))))
 
 write-tuple-requires : tie.Need-write-tuple-requires
-unfolding kindOf inClass classes lineOf
+unfolding kindOf inClass classes listingOf
 write-tuple-requires c κs = (ap (λ (b : Bool). b && true) (eq-eqb (length (c .before .before .before .before .before .before .before .before .args .remarks .now)) 30 (c .before .before .before .before .before .if1 .left)), refl, refl, omega arith)
 
 returns-2 : tie.Need-returns-2
-unfolding kindOf inClass classes lineOf
+unfolding kindOf inClass classes listingOf
 returns-2 c =
     let d = c .before .before .before .before .before .before .before .before .before .before .before in
     let a = d .args in

@@ -7,7 +7,7 @@ use Rattle.order.specs.Order.{numOf, signedOf}
 use borrow.Author.Needs.{needs}
 use mir.Syntax.{w32}
 use mir.Facts.{toZ-ofZ}
-use Rattle.layout.specs.Types.{classes, inClass, kindOf, lineOf}
+use Rattle.layout.specs.Types.{classes, inClass, kindOf, listingOf}
 use Rattle.turning.proofs.Contents.{valuesAt, values-at}
 use Rattle.tuples.specs.Readers.{rowOf}
 use Rattle.event.specs.Event.{eventOf}
@@ -15,7 +15,7 @@ use Rattle.event.proofs.Event.at.Statement.{statement}
 use Rattle.event.proofs.Event.at.Tie as tie
 
 returns : tie.Need-returns
-unfolding kindOf inClass classes lineOf
+unfolding kindOf inClass classes listingOf
 returns c =
     let a = c .before .before .before .before .args in
     let last : a .place + a .whole - 8 ≡ a .place + (12 + (a .whole - 10 - 10)) = omega (arith, c .before .before .before .before .pre .0) in

@@ -8,7 +8,7 @@ use borrow.Author.Needs.{needs}
 use lib.ListN.{length}
 use Rattle.layout.specs.Answers.{tells}
 use Rattle.layout.specs.declared.Answer.{Answer}
-use Rattle.layout.specs.Types.{classes, inClass, kindOf, lineOf}
+use Rattle.layout.specs.Types.{classes, inClass, kindOf, listingOf}
 use Rattle.turning.specs.Rows.{Value}
 use Rattle.tuples.specs.Readers.{readValues, textAt}
 use Rattle.tuples.proofs.Fields.{in-file, at-least, values-there, values-placed, length-part}
@@ -18,7 +18,7 @@ use Rattle.event.proofs.Event.read.Statement.{statement}
 use Rattle.event.proofs.Event.read.Tie as tie
 
 at-requires : tie.Need-at-requires
-unfolding kindOf inClass classes lineOf
+unfolding kindOf inClass classes listingOf
 at-requires c κs =
     let r = rw (c .before .msb .given .1) at (c .before .before .before .open-tuple .ensures) in
     (at-least 10110 r 24 4 refl, in-file 10110 r)
@@ -30,7 +30,7 @@ returns c =
     record { answer = tells e; outcome = ap (λ (x : Answer). answered x (eventOf (readValues (a .file .now) (a .place))) (record { place = a .place + 12; length = length (textAt (readValues (a .file .now) (a .place)) 2) })) e }
 
 returns-2 : tie.Need-returns-2
-unfolding kindOf inClass classes lineOf
+unfolding kindOf inClass classes listingOf
 returns-2 c =
     let a = c .before .before .before .before .before .before .args in
     let r = rw (c .before .before .msb .given .1) at (c .before .before .before .before .open-tuple .ensures) in
@@ -45,19 +45,19 @@ returns-2 c =
 
 -- the text stands in the file
 add-t10 : tie.Need-add-t10
-unfolding kindOf inClass classes lineOf
+unfolding kindOf inClass classes listingOf
 add-t10 c =
     let r = rw (c .before .before .msb .given .1) at (c .before .before .before .before .open-tuple .ensures) in
     omega (arith, in-file 10110 r, at-least 10110 r 24 4 refl)
 
 sub-t11 : tie.Need-sub-t11
-unfolding kindOf inClass classes lineOf
+unfolding kindOf inClass classes listingOf
 sub-t11 c =
     let r = rw (c .before .before .msb .given .1) at (c .before .before .before .before .open-tuple .ensures) in
     omega (arith, in-file 10110 r, at-least 10110 r 24 4 refl)
 
 sub-t12 : tie.Need-sub-t12
-unfolding kindOf inClass classes lineOf
+unfolding kindOf inClass classes listingOf
 sub-t12 c =
     let r = rw (c .before .before .msb .given .1) at (c .before .before .before .before .open-tuple .ensures) in
     omega (arith, in-file 10110 r, at-least 10110 r 24 4 refl)

@@ -10,7 +10,7 @@ use mir.Facts.{toZ-ofZ}
 use lib.Dec.{ltb}
 use Rattle.order.specs.Order.{patternOf}
 use Rattle.layout.specs.declared.Answer.the-variants.{Refused}
-use Rattle.layout.specs.Types.{classes, inClass, kindOf, lineOf, shapeOf, lengthsOf, fitting}
+use Rattle.layout.specs.Types.{classes, inClass, kindOf, listingOf, shapeOf, lengthsOf, fitting}
 use Rattle.frame.specs.Frames.{Tup, lengthOf}
 use Rattle.content.specs.Forms.{plainTuple}
 use Rattle.tuples.specs.Writers.{plainBytes, tooLong}
@@ -48,11 +48,11 @@ returns-3 c =
     (refused-first _ 11 0 [] (bytes d) (a .out .now) (over (a .msb) (a .self) (a .text .now) (c .before .if3 .taken))))
 
 write-tuple-requires : tie.Need-write-tuple-requires
-unfolding kindOf inClass classes lineOf
+unfolding kindOf inClass classes listingOf
 write-tuple-requires c κs = (refl, omega arith, omega arith)
 
 returns-4 : tie.Need-returns-4
-unfolding kindOf inClass classes lineOf
+unfolding kindOf inClass classes listingOf
 returns-4 c =
     let d = c .before .before .before .before .before .before .before .before .before .before .before .before .before in
     let a = d .args in

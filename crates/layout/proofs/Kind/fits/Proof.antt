@@ -1,23 +1,23 @@
--- `layout::Kind::fits` meets its contract: the least length and the step of the kind's line say its lengths (`tabled`). Assumes nothing.
+-- `layout::Kind::fits` meets its contract: the least length and the step of the kind's listing say its lengths (`tabled`). Assumes nothing.
 use mathlib.Core.Path.{_≡_, ap, _∙_}
 use Prim.Native.Nat.{ℕ, _<_}
 use native.Mathlib.Omega.{arith}
 use borrow.Author.Needs.{needs}
 use lib.ListN.{getD}
-use Rattle.layout.specs.Types.{Length, fitting, lineOf, placeIn}
+use Rattle.layout.specs.Types.{Length, fitting, listingOf, placeIn}
 use Rattle.layout.specs.inner.Codes.{leasts, steps, lengthBy}
 use Rattle.layout.proofs.Tables.{Said, tabled, fixed, short, long, any}
 use Rattle.layout.proofs.Kind.fits.Statement.{statement}
 use Rattle.layout.proofs.Kind.fits.Tie as tie
 
 returns : tie.Need-returns
-returns c = any (c .before .before .args .self) (omega (arith, c .before .line .ensures)) (c .before .before .args .length)
+returns c = any (c .before .before .args .self) (omega (arith, c .before .listing .ensures)) (c .before .before .args .length)
 
 -- the lengths that were looked up are the kind's
-looked : (c : tie.After-step) → lengthBy (c .before .least .result) (c .step .result) ≡ lineOf (c .before .before .before .before .args .self) .length
+looked : (c : tie.After-step) → lengthBy (c .before .least .result) (c .step .result) ≡ listingOf (c .before .before .before .before .args .self) .length
 looked c =
     let k = c .before .before .before .before .args .self in
-    let e = c .before .before .before .line .ensures in
+    let e = c .before .before .before .listing .ensures in
     let h : placeIn k < 13 = omega (arith, c .before .before .if1 .left) in
     let l : c .before .least .result ≡ getD leasts (placeIn k) 0 = c .before .least .ensures ∙ ap (λ (i : ℕ). getD leasts i 0) e in
     let s : c .step .result ≡ getD steps (placeIn k) 0 = c .step .ensures ∙ ap (λ (i : ℕ). getD steps i 0) e in

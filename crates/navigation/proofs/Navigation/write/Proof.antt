@@ -6,18 +6,18 @@ use borrow.Author.Needs.{needs}
 use mir.Syntax.{w32}
 use mir.Facts.{toZ-ofZ}
 use Rattle.order.specs.Order.{patternOf}
-use Rattle.layout.specs.Types.{classes, inClass, kindOf, lineOf, shapeOf}
+use Rattle.layout.specs.Types.{classes, inClass, kindOf, listingOf, shapeOf}
 use Rattle.tuples.specs.inner.Framing.{handedValues}
 use Rattle.tuples.proofs.Writing.{as-values}
 use Rattle.navigation.proofs.Navigation.write.Statement.{statement}
 use Rattle.navigation.proofs.Navigation.write.Tie as tie
 
 write-tuple-requires : tie.Need-write-tuple-requires
-unfolding kindOf inClass classes lineOf
+unfolding kindOf inClass classes listingOf
 write-tuple-requires c κs = (refl, refl, refl, omega arith)
 
 returns : tie.Need-returns
-unfolding kindOf inClass classes lineOf
+unfolding kindOf inClass classes listingOf
 returns c =
     let a = c .before .before .before .before .before .before .before .before .before .before .args in
     let n = c .before .before .before .before .before .before .before .before .numbers .ensures in

@@ -3,7 +3,7 @@ use mathlib.Core.Path.{sym, ap, _∙_}
 use borrow.Author.Needs.{needs}
 use mir.Syntax.{w32}
 use mir.Facts.{toZ-ofZ}
-use Rattle.layout.specs.Types.{classes, inClass, kindOf, lineOf}
+use Rattle.layout.specs.Types.{classes, inClass, kindOf, listingOf}
 use Rattle.turning.proofs.Contents.{valuesAt, values-at}
 use Rattle.tuples.specs.Readers.{rowOf}
 use Rattle.run_start.specs.RunStart.{runStartOf}
@@ -11,7 +11,7 @@ use Rattle.run_start.proofs.RunStart.at.Statement.{statement}
 use Rattle.run_start.proofs.RunStart.at.Tie as tie
 
 returns : tie.Need-returns
-unfolding kindOf inClass classes lineOf
+unfolding kindOf inClass classes listingOf
 returns c =
     let a = c .before .before .before .before .args in
     _∙_ {b = runStartOf (valuesAt (a .msb) (rowOf 65516 20) (a .file .now) (a .place) 6)}

@@ -4,7 +4,7 @@ use native.Mathlib.Omega.{arith}
 use borrow.Author.Needs.{needs}
 use Rattle.layout.specs.Answers.{tells}
 use Rattle.layout.specs.declared.Answer.{Answer}
-use Rattle.layout.specs.Types.{classes, inClass, kindOf, lineOf}
+use Rattle.layout.specs.Types.{classes, inClass, kindOf, listingOf}
 use Rattle.tuples.specs.Readers.{readValues}
 use Rattle.tuples.proofs.Fields.{in-file, exact, values-there}
 use Rattle.signature.specs.declared.SignatureRead.the-variants.{Read}
@@ -13,7 +13,7 @@ use Rattle.signature.proofs.Signature.read.Statement.{statement}
 use Rattle.signature.proofs.Signature.read.Tie as tie
 
 at-requires : tie.Need-at-requires
-unfolding kindOf inClass classes lineOf
+unfolding kindOf inClass classes listingOf
 at-requires c κs =
     let r = rw (c .before .msb .given .1) at (c .before .before .before .open-tuple .ensures) in
     omega (arith, in-file 65535 r, exact 65535 r 24 refl)
@@ -25,7 +25,7 @@ returns c =
     record { answer = tells e; outcome = ap (λ (x : Answer). answered x (signatureOf (readValues (a .file .now) (a .place)))) e }
 
 returns-2 : tie.Need-returns-2
-unfolding kindOf inClass classes lineOf
+unfolding kindOf inClass classes listingOf
 returns-2 c =
     let a = c .before .before .before .before .before .before .args in
     let r = rw (c .before .before .msb .given .1) at (c .before .before .before .before .open-tuple .ensures) in

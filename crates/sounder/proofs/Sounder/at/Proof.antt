@@ -2,7 +2,7 @@
 use mathlib.Core.Path.{refl, sym, ap, _∙_}
 use mir.Syntax.{w16, w32}
 use mir.Facts.{toZ-ofZ}
-use Rattle.layout.specs.Types.{classes, inClass, kindOf, lineOf}
+use Rattle.layout.specs.Types.{classes, inClass, kindOf, listingOf}
 use Rattle.turning.proofs.Contents.{valuesAt, values-at}
 use Rattle.tuples.specs.Readers.{rowOf}
 use Rattle.sounder.specs.Sounder.{sounderOf}
@@ -11,7 +11,7 @@ use Rattle.sounder.proofs.Sounder.at.Statement.{statement}
 use Rattle.sounder.proofs.Sounder.at.Tie as tie
 
 returns : tie.Need-returns
-unfolding kindOf inClass classes lineOf
+unfolding kindOf inClass classes listingOf
 returns c =
     let a = c .before .before .before .before .before .before .before .before .before .before .before .before .before .before .args in
     _∙_ {b = sounderOf (valuesAt (a .msb) (rowOf 100 72) (a .file .now) (a .place) 6)}

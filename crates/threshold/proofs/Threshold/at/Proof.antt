@@ -2,7 +2,7 @@
 use mathlib.Core.Path.{refl, sym, ap, _∙_}
 use mir.Syntax.{w32}
 use mir.Facts.{toZ-ofZ}
-use Rattle.layout.specs.Types.{classes, inClass, kindOf, lineOf}
+use Rattle.layout.specs.Types.{classes, inClass, kindOf, listingOf}
 use Rattle.turning.proofs.Contents.{valuesAt, values-at}
 use Rattle.tuples.specs.Readers.{rowOf}
 use Rattle.threshold.specs.Threshold.{thresholdOf}
@@ -11,7 +11,7 @@ use Rattle.threshold.proofs.Threshold.at.Statement.{statement}
 use Rattle.threshold.proofs.Threshold.at.Tie as tie
 
 returns : tie.Need-returns
-unfolding kindOf inClass classes lineOf
+unfolding kindOf inClass classes listingOf
 returns c =
     let a = c .before .before .before .before .before .before .before .before .before .before .before .before .before .args in
     _∙_ {b = thresholdOf (valuesAt (a .msb) (rowOf 10100 44) (a .file .now) (a .place) 6)}

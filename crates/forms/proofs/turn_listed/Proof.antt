@@ -1,4 +1,4 @@
--- `forms::turn_line` meets its contract: in each arm the line is the arm's, and a row without the dots behind its codes has the same
+-- `forms::turn_listed` meets its contract: in each arm the listing is the arm's, and a row without the dots behind its codes has the same
 -- fields. Assumes nothing.
 use mathlib.Core.Path.{_≡_, refl, sym, ap, _∙_}
 use mathlib.Core.List.{List, []}
@@ -9,39 +9,39 @@ use lib.ListN.{length, take, drop, getD}
 use lib.Seq.{sets}
 use Rattle.layout.specs.Fields.{Field, size}
 use Rattle.layout.specs.inner.Codes.{fieldOf, fieldsOf, rowCodes}
-use Rattle.layout.proofs.Lines.{at-least}
+use Rattle.layout.proofs.Arms.{at-least}
 use Rattle.layout.proofs.Rows.{cut}
 use Rattle.turning.specs.Rows.{turned}
-use Rattle.forms.specs.inner.Parts.{lineFields}
-use Rattle.forms.proofs.turn_line.Statement.{statement}
-use Rattle.forms.proofs.turn_line.Tie as tie
+use Rattle.forms.specs.inner.Parts.{listedFields}
+use Rattle.forms.proofs.turn_listed.Statement.{statement}
+use Rattle.forms.proofs.turn_listed.Tie as tie
 
--- in an arm for line k, whose row is r and has n fields
-module _ (s : tie.Start) {k n : ℕ} {r : List ℕ} (e : s .args .line ≡ k) (h : r ≡ getD rowCodes k []) (c : n ≡ length (lineFields k)) where
-  of-line : fieldsOf (take n r) ≡ lineFields (s .args .line)
-  of-line =
+-- in an arm for listing k, whose row is r and has n fields
+module _ (s : tie.Start) {k n : ℕ} {r : List ℕ} (e : s .args .listing ≡ k) (h : r ≡ getD rowCodes k []) (c : n ≡ length (listedFields k)) where
+  of-listing : fieldsOf (take n r) ≡ listedFields (s .args .listing)
+  of-listing =
       ap (λ (l : List ℕ). fieldsOf (take n l)) h
       ∙ ap (λ (i : ℕ). fieldsOf (take i (getD rowCodes k []))) c
       ∙ cut (getD rowCodes k [])
-      ∙ sym (ap (λ (i : ℕ). lineFields i) e)
+      ∙ sym (ap (λ (i : ℕ). listedFields i) e)
 
   -- what its call asks
   asked : let a = s .args in (a .at + size (fieldsOf (take n r)) ≤ length (a .file .now)) × (a .to + size (fieldsOf (take n r)) ≤ length (a .out .now))
-  asked = let z = ap (λ (fs : List Field). size fs) of-line in (omega (arith, s .pre .1 .0), omega (arith, s .pre .1 .1))
+  asked = let z = ap (λ (fs : List Field). size fs) of-listing in (omega (arith, s .pre .1 .0), omega (arith, s .pre .1 .1))
 
   -- and what it leaves
   left : {out : List ℕ} → let a = s .args in
       out ≡ sets (a .out .now) (a .to) (turned (a .msb) (fieldsOf (take n r)) (drop (a .at) (a .file .now)))
-      → out ≡ sets (a .out .now) (a .to) (turned (a .msb) (lineFields (a .line)) (drop (a .at) (a .file .now)))
-  left g = let a = s .args in g ∙ ap (λ (fs : List Field). sets (a .out .now) (a .to) (turned (a .msb) fs (drop (a .at) (a .file .now)))) of-line
+      → out ≡ sets (a .out .now) (a .to) (turned (a .msb) (listedFields (a .listing)) (drop (a .at) (a .file .now)))
+  left g = let a = s .args in g ∙ ap (λ (fs : List Field). sets (a .out .now) (a .to) (turned (a .msb) fs (drop (a .at) (a .file .now)))) of-listing
 
--- behind the twelve arms one line is left
-last : (m : tie.At-match-rest) → m .before .before .before .args .line ≡ 12
-last m = let s = m .before .before .before in omega (arith, s .pre .0, at-least 12 (s .args .line) (m .match .rest))
+-- behind the twelve arms one listing is left
+last : (m : tie.At-match-rest) → m .before .before .before .args .listing ≡ 12
+last m = let s = m .before .before .before in omega (arith, s .pre .0, at-least 12 (s .args .listing) (m .match .rest))
 
-pub turn-line-spec : {M : Type 1} → statement M
+pub turn-listed-spec : {M : Type 1} → statement M
 unfolding rowCodes fieldsOf fieldOf
-turn-line-spec =
+turn-listed-spec =
     tie.close
     (tie.spec
     (λ c κs. search needs)
@@ -123,28 +123,28 @@ turn-line-spec =
     (λ c. search needs)
     (λ c κs. let r = c .before .before .before in let m = r .before in asked (m .before .before .before) (last m) (r .row13 .ensures) refl)
     (λ c. search needs)
-    (λ c. let t = c .before .before in let r = t .before .before .before .before in let m = r .before in left (m .before .before .before) (m .match .keys1) (r .row .ensures) refl (t .turn .ensures))
+    (λ c. let t = c .before .before in let r = t .before .before .before .before in let m = r .before in left (m .before .before .before) (m .match .keys1) (r .row .ensures) refl (t .turn-row .ensures))
     (λ c. search needs)
-    (λ c. let t = c .before .before in let r = t .before .before .before .before in let m = r .before in left (m .before .before .before) (m .match .keys2) (r .row2 .ensures) refl (t .turn2 .ensures))
+    (λ c. let t = c .before .before in let r = t .before .before .before .before in let m = r .before in left (m .before .before .before) (m .match .keys2) (r .row2 .ensures) refl (t .turn-row2 .ensures))
     (λ c. search needs)
-    (λ c. let t = c .before .before in let r = t .before .before .before .before in let m = r .before in left (m .before .before .before) (m .match .keys3) (r .row3 .ensures) refl (t .turn3 .ensures))
+    (λ c. let t = c .before .before in let r = t .before .before .before .before in let m = r .before in left (m .before .before .before) (m .match .keys3) (r .row3 .ensures) refl (t .turn-row3 .ensures))
     (λ c. search needs)
-    (λ c. let t = c .before .before in let r = t .before .before .before .before in let m = r .before in left (m .before .before .before) (m .match .keys4) (r .row4 .ensures) refl (t .turn4 .ensures))
+    (λ c. let t = c .before .before in let r = t .before .before .before .before in let m = r .before in left (m .before .before .before) (m .match .keys4) (r .row4 .ensures) refl (t .turn-row4 .ensures))
     (λ c. search needs)
-    (λ c. let t = c .before .before in let r = t .before .before .before .before in let m = r .before in left (m .before .before .before) (m .match .keys5) (r .row5 .ensures) refl (t .turn5 .ensures))
+    (λ c. let t = c .before .before in let r = t .before .before .before .before in let m = r .before in left (m .before .before .before) (m .match .keys5) (r .row5 .ensures) refl (t .turn-row5 .ensures))
     (λ c. search needs)
-    (λ c. let t = c .before .before in let r = t .before .before .before .before in let m = r .before in left (m .before .before .before) (m .match .keys6) (r .row6 .ensures) refl (t .turn6 .ensures))
+    (λ c. let t = c .before .before in let r = t .before .before .before .before in let m = r .before in left (m .before .before .before) (m .match .keys6) (r .row6 .ensures) refl (t .turn-row6 .ensures))
     (λ c. search needs)
-    (λ c. let t = c .before .before in let r = t .before .before .before .before in let m = r .before in left (m .before .before .before) (m .match .keys7) (r .row7 .ensures) refl (t .turn7 .ensures))
+    (λ c. let t = c .before .before in let r = t .before .before .before .before in let m = r .before in left (m .before .before .before) (m .match .keys7) (r .row7 .ensures) refl (t .turn-row7 .ensures))
     (λ c. search needs)
-    (λ c. let t = c .before .before in let r = t .before .before .before .before in let m = r .before in left (m .before .before .before) (m .match .keys8) (r .row8 .ensures) refl (t .turn8 .ensures))
+    (λ c. let t = c .before .before in let r = t .before .before .before .before in let m = r .before in left (m .before .before .before) (m .match .keys8) (r .row8 .ensures) refl (t .turn-row8 .ensures))
     (λ c. search needs)
-    (λ c. let t = c .before .before in let r = t .before .before .before .before in let m = r .before in left (m .before .before .before) (m .match .keys9) (r .row9 .ensures) refl (t .turn9 .ensures))
+    (λ c. let t = c .before .before in let r = t .before .before .before .before in let m = r .before in left (m .before .before .before) (m .match .keys9) (r .row9 .ensures) refl (t .turn-row9 .ensures))
     (λ c. search needs)
-    (λ c. let t = c .before .before in let r = t .before .before .before .before in let m = r .before in left (m .before .before .before) (m .match .keys10) (r .row10 .ensures) refl (t .turn10 .ensures))
+    (λ c. let t = c .before .before in let r = t .before .before .before .before in let m = r .before in left (m .before .before .before) (m .match .keys10) (r .row10 .ensures) refl (t .turn-row10 .ensures))
     (λ c. search needs)
-    (λ c. let t = c .before .before in let r = t .before .before .before .before in let m = r .before in left (m .before .before .before) (m .match .keys11) (r .row11 .ensures) refl (t .turn11 .ensures))
+    (λ c. let t = c .before .before in let r = t .before .before .before .before in let m = r .before in left (m .before .before .before) (m .match .keys11) (r .row11 .ensures) refl (t .turn-row11 .ensures))
     (λ c. search needs)
-    (λ c. let t = c .before .before in let r = t .before .before .before .before in let m = r .before in left (m .before .before .before) (m .match .keys12) (r .row12 .ensures) refl (t .turn12 .ensures))
+    (λ c. let t = c .before .before in let r = t .before .before .before .before in let m = r .before in left (m .before .before .before) (m .match .keys12) (r .row12 .ensures) refl (t .turn-row12 .ensures))
     (λ c. search needs)
-    (λ c. let t = c .before .before in let r = t .before .before .before .before in let m = r .before in left (m .before .before .before) (last m) (r .row13 .ensures) refl (t .turn13 .ensures)))
+    (λ c. let t = c .before .before in let r = t .before .before .before .before in let m = r .before in left (m .before .before .before) (last m) (r .row13 .ensures) refl (t .turn-row13 .ensures)))

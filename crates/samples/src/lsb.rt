@@ -1,6 +1,6 @@
 // A ping's samples from bytes to bytes, in LSB order: U-32 pairs as they stand, C-32 words as pairs.
-use crate::FULL_RUN;
 use crate::PAIR;
+use crate::RUN_SAMPLES;
 use crate::WORD;
 ghost use mathlib.Core.Path.{_≡_};
 ghost use mathlib.Core.Bool.{false};
@@ -49,7 +49,7 @@ pub fn spread_words(part: &[u8], msb: bool, out: &mut [u8], to: usize, end: usiz
         let run = crate::is_run(word);
         put_pair(out, at, number, word);
         at += PAIR * (!run as usize);
-        number += (run as u32) * (word % FULL_RUN) + 1;
+        number += (run as u32) * (word % RUN_SAMPLES) + 1;
         p += WORD;
     }
 }

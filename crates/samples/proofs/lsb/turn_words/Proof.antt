@@ -1,4 +1,4 @@
--- `samples::turn::turn_words` meets its contract: the words from here on are still to be written (`Turning`). Assumes nothing.
+-- `samples::lsb::turn_words` meets its contract: the words from here on are still to be written (`Turning`). Assumes nothing.
 use mathlib.Core.Path.{_≡_, refl, _∙_}
 use mathlib.Core.Bool.{false}
 use Prim.Native.Nat.{_-_, _≤_}
@@ -6,8 +6,8 @@ use native.Mathlib.Omega.{arith}
 use borrow.Author.Needs.{needs}
 use lib.ListN.{length}
 use Rattle.samples.proofs.Turning.{Turning, turning-begin, turning-one, turning-end}
-use Rattle.samples.proofs.turn.turn_words.Statement.{statement}
-use Rattle.samples.proofs.turn.turn_words.Tie as tie
+use Rattle.samples.proofs.lsb.turn_words.Statement.{statement}
+use Rattle.samples.proofs.lsb.turn_words.Tie as tie
 
 abbrev Inv-loop : tie.InvT-loop
 Inv-loop part msb out₀ to p₀ out p = (p ≤ length part) × (length out ≡ length out₀) × Turning msb false part out₀ to out p

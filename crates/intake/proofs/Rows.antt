@@ -1,4 +1,4 @@
--- Asking where the tally stands at a tuple of an accepted file: a listed ping's lines are declared, and what their rows say is what
+-- Asking where the tally stands at a tuple of an accepted file: a listed ping's rows are declared, and what they say is what
 -- the course says. Assumes nothing.
 use mathlib.Core.Path.{_≡_, refl, sym, ap, subst, _∙_}
 use mathlib.Core.Bool.{Bool, true, false, cond, _||_, true≢false}
@@ -15,7 +15,7 @@ use Rattle.layout.specs.declared.SoftwareChannel.{SoftwareChannel}
 use Rattle.layout.specs.declared.Kind.{Kind}
 use Rattle.layout.specs.declared.Kind.the-variants.{PingU, PingC}
 use Rattle.layout.specs.Answers.{judged}
-use Rattle.layout.specs.Types.{Shape, indexed, row, pairs, words, unlisted, classes, inClass, kindOf, lineOf, shapeOf, fitting}
+use Rattle.layout.specs.Types.{Shape, indexed, row, pairs, words, unlisted, classes, inClass, kindOf, listingOf, shapeOf, fitting}
 use Rattle.layout.proofs.Verdicts.{passes}
 use Rattle.frame.specs.Frames.{kindAt, lenAt, tupAt}
 use Rattle.frame.proofs.Places.{Whole, framing-whole}
@@ -31,7 +31,7 @@ use Rattle.content.proofs.Places.{Shaped, shaped, fits-place, header}
 use Rattle.intake.specs.declared.Tally.{Tally}
 use Rattle.intake.specs.declared.Asked.{Asked}
 use Rattle.intake.specs.declared.Asked.the-variants
-use Rattle.intake.specs.Asking.{noChannel, channelLine, channelFor, sounderLine, parentsIn, askItem}
+use Rattle.intake.specs.Asking.{noChannel, channelNth, channelFor, sounderNth, parentsIn, askItem}
 use Rattle.intake.specs.inner.Tallies.{Tables, Sized, courseOf, Standing, pingAt, namedAt, askWhere, AskIn}
 use Rattle.intake.proofs.Asks.{Fair}
 
@@ -49,7 +49,7 @@ module _ (o : Bool) (f : List ℕ) (w : Tally) (c : Tables) (s : Standing f w) (
   unfolding n
   whole = framing-whole o f (w .at) (g .framed)
 
-  fits : fitting (lineOf (kindOf k) .length) n ≡ true
+  fits : fitting (listingOf (kindOf k) .length) n ≡ true
   unfolding n k
   fits = sym (fits-place o f (w .at) n whole) ∙ not-false _ (passes (headRules o (tupAt o (drop (w .at) f))) (g .judged .head) .0)
 
@@ -60,18 +60,18 @@ module _ (o : Bool) (f : List ℕ) (w : Tally) (c : Tables) (s : Standing f w) (
     pub named : numberAt (it .head) 2 ≡ namedAt o f (w .at) .0
 
   pinged-U : k ≡ 10000 → Pinged
-  unfolding itemOf contentU lineOf kindOf inClass classes k
+  unfolding itemOf contentU listingOf kindOf inClass classes k
   pinged-U e =
       let q : kindOf k ≡ PingU = ap kindOf e in
-      let long = upward-least 40 n _ (subst (λ (x : Kind). fitting (lineOf x .length) n ≡ true) q fits) in
-      record { it = contentU o (tupAt o (drop (w .at) f) .body); item = ap (λ (x : Kind). itemBy (lineOf x .shape) o (tupAt o (drop (w .at) f))) q; named = header o f (w .at) n whole long }
+      let long = upward-least 40 n _ (subst (λ (x : Kind). fitting (listingOf x .length) n ≡ true) q fits) in
+      record { it = contentU o (tupAt o (drop (w .at) f) .body); item = ap (λ (x : Kind). itemBy (listingOf x .shape) o (tupAt o (drop (w .at) f))) q; named = header o f (w .at) n whole long }
 
   pinged-C : k ≡ 10010 → Pinged
-  unfolding itemOf contentC lineOf kindOf inClass classes k
+  unfolding itemOf contentC listingOf kindOf inClass classes k
   pinged-C e =
       let q : kindOf k ≡ PingC = ap kindOf e in
-      let long = upward-least 40 n _ (subst (λ (x : Kind). fitting (lineOf x .length) n ≡ true) q fits) in
-      record { it = contentC o (tupAt o (drop (w .at) f) .body); item = ap (λ (x : Kind). itemBy (lineOf x .shape) o (tupAt o (drop (w .at) f))) q; named = header o f (w .at) n whole long }
+      let long = upward-least 40 n _ (subst (λ (x : Kind). fitting (listingOf x .length) n ≡ true) q fits) in
+      record { it = contentC o (tupAt o (drop (w .at) f) .body); item = ap (λ (x : Kind). itemBy (listingOf x .shape) o (tupAt o (drop (w .at) f))) q; named = header o f (w .at) n whole long }
 
   pinged : pingAt o f (w .at) ≡ true → Pinged
   unfolding k
@@ -81,7 +81,7 @@ module _ (o : Bool) (f : List ℕ) (w : Tally) (c : Tables) (s : Standing f w) (
       by-first true z q = pinged-U (eqb-true k 10000 z)
       by-first false z q = pinged-C (eqb-true k 10010 q)
 
-  -- ---- its lines
+  -- ---- its rows
   x : SoftwareChannel
   x = namedAt o f (w .at)
 
@@ -101,11 +101,11 @@ module _ (o : Bool) (f : List ℕ) (w : Tally) (c : Tables) (s : Standing f w) (
   channel-room : w .channels ≤ length (c .channels)
   channel-room = omega (arith, s .channels, l .channels)
 
-  below-c : Pinged → channelLine (courseOf w c) x < w .channels
+  below-c : Pinged → channelNth (courseOf w c) x < w .channels
   unfolding links
   below-c p = omega (arith, one-below (parents p .channel), rows-length channelOf (c .channels) (w .channels) channel-room)
 
-  below-s : Pinged → sounderLine (courseOf w c) (channelFor (courseOf w c) x .parent) < w .sounders
+  below-s : Pinged → sounderNth (courseOf w c) (channelFor (courseOf w c) x .parent) < w .sounders
   unfolding links
   below-s p =
       let e = ap (λ (y : Channel). placeOf docOf (y .parent .0) (courseOf w c .links .sounders)) (one-place (parents p .channel) noChannel) in
@@ -154,22 +154,22 @@ module _ (o : Bool) (f : List ℕ) (w : Tally) (m : Counts) (c : Tables) where
   unfolding askWhere
   ask-other e = rw e
 
-  -- the rows at the lines that the lookups found
+  -- the rows that the lookups found
   module _ (r : AskIn o f w c) (e : pingAt o f (w .at) ≡ true) (a : SoftwareChannel) (b : ℕ) (n : a ≡ namedAt o f (w .at)) (q : b ≡ placeOf idOf (a .0) (channelsIn (w .channels) (c .channels))) where
-    lined : b ≡ channelLine (courseOf w c) (namedAt o f (w .at))
-    lined = q ∙ ap (λ (y : SoftwareChannel). placeOf idOf (y .0) (channelsIn (w .channels) (c .channels))) n
+    row-named : b ≡ channelNth (courseOf w c) (namedAt o f (w .at))
+    row-named = q ∙ ap (λ (y : SoftwareChannel). placeOf idOf (y .0) (channelsIn (w .channels) (c .channels))) n
 
     pub channel-below : b < length (c .channels)
-    channel-below = omega (arith, lined, r .declared e .0, r .channelRoom)
+    channel-below = omega (arith, row-named, r .declared e .0, r .channelRoom)
 
-    lines : channelOf (getD (c .channels) b []) ≡ channelFor (courseOf w c) (namedAt o f (w .at))
-    lines =
-        sym (rows-at channelOf (c .channels) (w .channels) b [] (omega (arith, lined, r .declared e .0)))
-        ∙ ap (λ (y : ℕ). getD (channelsIn (w .channels) (c .channels)) y (channelOf [])) lined
+    row-says : channelOf (getD (c .channels) b []) ≡ channelFor (courseOf w c) (namedAt o f (w .at))
+    row-says =
+        sym (rows-at channelOf (c .channels) (w .channels) b [] (omega (arith, row-named, r .declared e .0)))
+        ∙ ap (λ (y : ℕ). getD (channelsIn (w .channels) (c .channels)) y (channelOf [])) row-named
 
     module _ (d : ℕ) (p : d ≡ placeOf docOf (getD (getD (c .channels) b []) 1 0) (soundersIn (w .sounders) (c .sounders))) where
-      under : d ≡ sounderLine (courseOf w c) (channelFor (courseOf w c) (namedAt o f (w .at)) .parent)
-      under = p ∙ ap (λ (y : Channel). placeOf docOf (y .parent .0) (soundersIn (w .sounders) (c .sounders))) lines
+      under : d ≡ sounderNth (courseOf w c) (channelFor (courseOf w c) (namedAt o f (w .at)) .parent)
+      under = p ∙ ap (λ (y : Channel). placeOf docOf (y .parent .0) (soundersIn (w .sounders) (c .sounders))) row-says
 
       pub sounder-below : d < length (c .sounders)
       sounder-below = omega (arith, under, r .declared e .1, r .sounderRoom)
@@ -178,7 +178,7 @@ module _ (o : Bool) (f : List ℕ) (w : Tally) (m : Counts) (c : Tables) where
           → Asked.Parents a x (getD (getD (c .channels) b []) 3 0) k (record { 0 = getD (getD (c .channels) b []) 1 0 }) y m ≡ askWhere o f m (courseOf w c)
       unfolding askWhere
       ask-ping x k y s j t =
-          let u = s ∙ sym (rows-at tupleOf (c .channels) (w .channels) b [] (omega (arith, lined, r .declared e .0))) ∙ ap (λ (z : ℕ). getD (tuplesIn (w .channels) (c .channels)) z 0) lined in
-          let h = j ∙ ap (λ (y : Channel). y .samples) lines in
+          let u = s ∙ sym (rows-at tupleOf (c .channels) (w .channels) b [] (omega (arith, row-named, r .declared e .0))) ∙ ap (λ (z : ℕ). getD (tuplesIn (w .channels) (c .channels)) z 0) row-named in
+          let h = j ∙ ap (λ (y : Channel). y .samples) row-says in
           let v = t ∙ sym (rows-at tupleOf (c .sounders) (w .sounders) d [] (omega (arith, under, r .declared e .1))) ∙ ap (λ (z : ℕ). getD (tuplesIn (w .sounders) (c .sounders)) z 0) under in
-          rw e (λ i. Asked.Parents (n i) (u i) (lines i .rate) (h i) (lines i .parent) (v i) m)
+          rw e (λ i. Asked.Parents (n i) (u i) (row-says i .rate) (h i) (row-says i .parent) (v i) m)

@@ -1,4 +1,4 @@
--- `samples::turn::spread_words` meets its contract: the samples of the words from here on are still to be written (`Spreading`).
+-- `samples::lsb::spread_words` meets its contract: the samples of the words from here on are still to be written (`Spreading`).
 -- Assumes nothing.
 use mathlib.Core.Path.{refl, sym, ap}
 use mathlib.Core.Bool.{false, not}
@@ -12,8 +12,8 @@ use Rattle.samples.specs.Runs.{radix, decodeFrom, decode}
 use Rattle.samples.proofs.Words.{wordsFrom, from-all}
 use Rattle.samples.proofs.Judging.{counts-one, next}
 use Rattle.samples.proofs.Turning.{Spreading, spreading-as, spreading-word, spreading-end, passes-few, word-left}
-use Rattle.samples.proofs.turn.spread_words.Statement.{statement}
-use Rattle.samples.proofs.turn.spread_words.Tie as tie
+use Rattle.samples.proofs.lsb.spread_words.Statement.{statement}
+use Rattle.samples.proofs.lsb.spread_words.Tie as tie
 
 -- a word passes at most 65,536 samples, so that the sample's number stays below 2^32
 abbrev Inv-loop : tie.InvT-loop

@@ -1,8 +1,8 @@
--- `samples::turn::put_pair` meets its contract: a number and a value, one behind the other. Assumes nothing.
+-- `samples::lsb::put_pair` meets its contract: a number and a value, one behind the other. Assumes nothing.
 use borrow.Author.Needs.{needs}
 use Rattle.samples.proofs.Turning.{pair-put}
-use Rattle.samples.proofs.turn.put_pair.Statement.{statement}
-use Rattle.samples.proofs.turn.put_pair.Tie as tie
+use Rattle.samples.proofs.lsb.put_pair.Statement.{statement}
+use Rattle.samples.proofs.lsb.put_pair.Tie as tie
 
 returns : tie.Need-returns
 returns c =
