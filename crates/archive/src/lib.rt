@@ -2,14 +2,11 @@
 // entries: code, place, tuples, length and identifiers compared, then, where it accepts, what it found; it hands the code back too.
 // Where fewer entries are lent than it may tell it does nothing and hands 19 back. include/hac.h says all this to those who call.
 mod of_files;
-mod of_marks;
 mod of_pings;
-mod of_settings;
-mod of_voyage;
+mod of_records;
 
 use layout::Answer;
 use layout::Counts;
-use tuples::Part;
 ghost use mathlib.Core.Path.{_≡_};
 ghost use mathlib.Core.List.{[], _∷_, _++_};
 ghost use Prim.Native.Nat.{_+_, _≤_};
@@ -18,47 +15,37 @@ ghost use lib.Seq.{sets};
 ghost use Rattle.layout.specs.Answers.{numbers};
 ghost use Rattle.layout.specs.declared.Answer.the-variants.{Refused};
 ghost use Rattle.archive.specs.Saying.{head};
-ghost use Rattle.archive.specs.Numbers.{five, recordTold, partTold};
+ghost use Rattle.archive.specs.Numbers.{five};
 
-// The last of an answer's own numbers, and how many they are; a call's fields stand behind them.
-const COMPARED: usize = 4;
+// The entries of an answer's own numbers; a call's fields stand behind them.
+const HEAD: usize = 5;
 
-const HEAD: usize = COMPARED + 1;
-
-// Tells four numbers from an entry on.
-fn tell_four(
-    answer: &mut [u64],
-    at: usize,
-    first: usize,
-    second: usize,
-    third: usize,
-    fourth: usize,
-)
-    requires { ⌜ at + 4 ≤ length (now answer) ⌝ }
-    ensures { λ _. ⌜ now (answer .exit) ≡ sets (now (answer .entry)) at (first ∷ second ∷ third ∷ fourth ∷ []) ⌝ }
+// Tells numbers from an entry on.
+fn tell(answer: &mut [u64], at: usize, numbers: &[u64])
+    requires { ⌜ at + length (now numbers) ≤ length (now answer) ⌝ }
+    ensures { λ _. ⌜ now (answer .exit) ≡ sets (now (answer .entry)) at (now (numbers .entry)) ⌝ }
 {
-    answer[at] = first as u64;
-    answer[at + 1] = second as u64;
-    answer[at + 2] = third as u64;
-    answer[at + 3] = fourth as u64;
-}
-
-// Tells two numbers from an entry on.
-fn tell_two(answer: &mut [u64], at: usize, first: usize, second: usize)
-    requires { ⌜ at + 2 ≤ length (now answer) ⌝ }
-    ensures { λ _. ⌜ now (answer .exit) ≡ sets (now (answer .entry)) at (first ∷ second ∷ []) ⌝ }
-{
-    answer[at] = first as u64;
-    answer[at + 1] = second as u64;
+    let mut i: usize = 0;
+    while i < numbers.len() {
+        answer[at + i] = numbers[i];
+        i += 1;
+    }
 }
 
 // Tells an answer's own numbers.
-fn tell_head(answer: &mut [u64], code: usize, place: usize, counts: Counts)
+fn tell_head(answer: &mut [u64], code: u64, place: usize, counts: Counts)
     requires { ⌜ head ≤ length (now answer) ⌝ }
-    ensures { λ _. ⌜ now (answer .exit) ≡ sets (now (answer .entry)) 0 (code ∷ place ∷ counts .tuples ∷ counts .written ∷ counts .compared ∷ []) ⌝ }
+    ensures { λ _. ⌜ now (answer .exit)
+        ≡ sets (now (answer .entry)) 0 (code ∷ place ∷ counts .tuples ∷ counts .written ∷ counts .compared ∷ []) ⌝ }
 {
-    tell_four(answer, 0, code, place, counts.tuples, counts.written);
-    answer[COMPARED] = counts.compared as u64;
+    let numbers = [
+        code,
+        place as u64,
+        counts.tuples as u64,
+        counts.written as u64,
+        counts.compared as u64,
+    ];
+    tell(answer, 0, &numbers);
 }
 
 // Tells a refusal, which counts nothing.
@@ -72,7 +59,7 @@ fn tell_refusal(answer: &mut [u64], code: u8, place: usize) -> u8
         written: 0,
         compared: 0,
     };
-    tell_head(answer, code as usize, place, nothing);
+    tell_head(answer, code as u64, place, nothing);
     code
 }
 
@@ -91,44 +78,13 @@ fn tell_answer(answer: &mut [u64], said: Answer) -> u8
     }
 }
 
-// A number as an entry holds it.
-fn wide(number: u32) -> u64
-    ensures { λ r. ⌜ r ≡ number ⌝ }
+// Tells an answer, and the fields of what was found.
+fn tell_found(answer: &mut [u64], said: Answer, fields: &[u64]) -> u8
+    requires { ⌜ head + length (now fields) ≤ length (now answer) ⌝ }
+    ensures { λ r. ⌜ r ≡ numbers said .code ⌝ }
+    ensures { λ _. ⌜ now (answer .exit) ≡ sets (now (answer .entry)) 0 (five said ++ now (fields .entry)) ⌝ }
 {
-    number as u64
-}
-
-// Tells numbers from an entry on.
-fn tell_numbers(answer: &mut [u64], at: usize, numbers: &[u32])
-    requires { ⌜ at + length (now numbers) ≤ length (now answer) ⌝ }
-    ensures { λ _. ⌜ now (answer .exit) ≡ sets (now (answer .entry)) at (now (numbers .entry)) ⌝ }
-{
-    let mut i: usize = 0;
-    while i < numbers.len() {
-        answer[at + i] = wide(numbers[i]);
-        i += 1;
-    }
-}
-
-// Tells a record that was read: one tuple, and the numbers of its row.
-fn tell_record(answer: &mut [u64], numbers: &[u32]) -> u8
-    requires { ⌜ head + length (now numbers) ≤ length (now answer) ⌝ }
-    ensures { λ r. ⌜ r ≡ 0 ⌝ }
-    ensures { λ _. ⌜ now (answer .exit) ≡ sets (now (answer .entry)) 0 (recordTold (now (numbers .entry))) ⌝ }
-{
-    let code = tell_answer(answer, layout::accept(1, 0));
-    tell_numbers(answer, HEAD, numbers);
-    code
-}
-
-// Tells a record with characters: behind its numbers where they stand in the file.
-fn tell_texted(answer: &mut [u64], numbers: &[u32], part: Part) -> u8
-    requires { ⌜ head + 2 + length (now numbers) ≤ length (now answer) ⌝ }
-    ensures { λ r. ⌜ r ≡ 0 ⌝ }
-    ensures { λ _. ⌜ now (answer .exit) ≡ sets (now (answer .entry)) 0 (recordTold (now (numbers .entry)) ++ partTold part) ⌝ }
-{
-    let behind = HEAD + numbers.len();
-    let code = tell_record(answer, numbers);
-    tell_two(answer, behind, part.place, part.length);
+    let code = tell_answer(answer, said);
+    tell(answer, HEAD, fields);
     code
 }

@@ -1,7 +1,7 @@
 // Pings: fields and samples read, and both kinds written.
 use super::HEAD;
 use super::tell_answer;
-use super::tell_record;
+use super::tell_found;
 use super::tell_refusal;
 use layout::SoftwareChannel;
 use layout::codes;
@@ -16,24 +16,22 @@ ghost use lib.ListN.{length};
 ghost use lib.Seq.{sets};
 ghost use Rattle.layout.specs.declared.Answer.{Answer};
 ghost use Rattle.pings.specs.declared.PingRead.the-variants.{Read};
-ghost use Rattle.pings.specs.Fields.{PingAt};
+ghost use Rattle.pings.specs.Fields.{pingNumbers, kindNumber, readFields, PingAt};
 ghost use Rattle.pings.specs.Readers.{SamplesRead};
 ghost use Rattle.pings.specs.Headers.{WrittenU, WrittenC};
 ghost use Rattle.archive.specs.Saying.{head, Said, SaidAlone};
-ghost use Rattle.archive.specs.Numbers.{five, kindTold, pingTold};
+ghost use Rattle.archive.specs.Numbers.{five, told, headerWith};
 
 // The kinds of ping as numbers.
-const U32: u32 = 0;
+const U32: u64 = 0;
 
-const C32: u32 = 1;
+const C32: u64 = 1;
 
-// The entries of a ping's fields; the last is the number of its values.
+// The entries of a ping's fields.
 const PING: usize = HEAD + 9;
 
-const VALUES: usize = HEAD + 8;
-
-fn kind_number(kind: PingKind) -> u32
-    ensures { λ r. ⌜ r ≡ kindTold kind ⌝ }
+fn kind_number(kind: PingKind) -> u64
+    ensures { λ r. ⌜ r ≡ kindNumber kind ⌝ }
 {
     match kind {
         PingKind::U32 => U32,
@@ -41,6 +39,7 @@ fn kind_number(kind: PingKind) -> u32
     }
 }
 
+// Tells the fields of a ping.
 fn tell_ping(
     answer: &mut [u64],
     header: PingHeader,
@@ -50,26 +49,27 @@ fn tell_ping(
 ) -> u8
     requires { ⌜ head + 9 ≤ length (now answer) ⌝ }
     ensures { λ r. ⌜ r ≡ 0 ⌝ }
-    ensures { λ _. ⌜ now (answer .exit) ≡ sets (now (answer .entry)) 0 (pingTold (Read header attribute kind values)) ⌝ }
+    ensures { λ _. ⌜ now (answer .exit)
+        ≡ sets (now (answer .entry)) 0 (told pingNumbers readFields (Read header attribute kind values)) ⌝ }
 {
-    let numbers = [
-        header.time_fraction as u32,
-        header.time_cpu,
-        header.software_channel_identifier.0 as u32,
-        header.transmitter_mode as u32,
-        header.ping_number,
-        order::pattern4(header.detected_bottom_range),
-        order::pattern4(attribute),
+    let fields = [
+        header.time_fraction as u64,
+        header.time_cpu as u64,
+        header.software_channel_identifier.0 as u64,
+        header.transmitter_mode as u64,
+        header.ping_number as u64,
+        order::pattern4(header.detected_bottom_range) as u64,
+        order::pattern4(attribute) as u64,
         kind_number(kind),
+        values as u64,
     ];
-    let code = tell_record(answer, &numbers);
-    answer[VALUES] = values as u64;
-    code
+    tell_found(answer, layout::accept(1, 0), &fields)
 }
 
 #[no_mangle]
 pub extern "C" fn hac_read_ping(file: &[u8], place: usize, answer: &mut [u64]) -> u8
-    ensures { λ r. ⌜ SaidAlone 9 pingTold (PingAt (now (file .entry)) place) (now (answer .entry)) r (now (answer .exit)) ⌝ }
+    ensures { λ r. ⌜ SaidAlone 9 (told pingNumbers readFields) (PingAt (now (file .entry)) place)
+        (now (answer .entry)) r (now (answer .exit)) ⌝ }
 {
     if answer.len() < PING {
         return codes::NO_ROOM;
@@ -93,7 +93,11 @@ pub extern "C" fn hac_read_samples(
     values: &mut [i32],
     answer: &mut [u64],
 ) -> u8
-    ensures { λ r. ⌜ Said 0 five (λ (a : Answer) (m : List ℕ × List ℤ). SamplesRead (now (file .entry)) place (now (numbers .entry)) (now (values .entry)) a (m .0) (m .1)) (now (answer .entry)) (now (numbers .entry), now (values .entry)) r (now (answer .exit)) (now (numbers .exit), now (values .exit)) ⌝ }
+    ensures { λ r. ⌜ Said 0 five
+        (λ (a : Answer) (m : List ℕ × List ℤ).
+        SamplesRead (now (file .entry)) place (now (numbers .entry)) (now (values .entry)) a (m .0) (m .1))
+        (now (answer .entry)) (now (numbers .entry), now (values .entry)) r
+        (now (answer .exit)) (now (numbers .exit), now (values .exit)) ⌝ }
 {
     if answer.len() < HEAD {
         return codes::NO_ROOM;
@@ -116,7 +120,11 @@ pub extern "C" fn hac_write_u32(
     out: &mut [u8],
     answer: &mut [u64],
 ) -> u8
-    ensures { λ r. ⌜ Said 0 five (WrittenU msb (record { «time_fraction» = «time_fraction»; «time_cpu» = «time_cpu»; «software_channel_identifier» = record { 0 = «software_channel_identifier» }; «transmitter_mode» = «transmitter_mode»; «ping_number» = «ping_number»; «detected_bottom_range» = «detected_bottom_range» }) «tuple_attribute» (now (numbers .entry)) (now (values .entry)) (now (out .entry))) (now (answer .entry)) (now (out .entry)) r (now (answer .exit)) (now (out .exit)) ⌝ }
+    ensures { λ r. ⌜ Said 0 five
+        (WrittenU msb
+        (headerWith «time_fraction» «time_cpu» «software_channel_identifier» «transmitter_mode» «ping_number» «detected_bottom_range»)
+        «tuple_attribute» (now (numbers .entry)) (now (values .entry)) (now (out .entry)))
+        (now (answer .entry)) (now (out .entry)) r (now (answer .exit)) (now (out .exit)) ⌝ }
 {
     if answer.len() < HEAD {
         return codes::NO_ROOM;
@@ -150,7 +158,11 @@ pub extern "C" fn hac_write_c32(
     out: &mut [u8],
     answer: &mut [u64],
 ) -> u8
-    ensures { λ r. ⌜ Said 0 five (WrittenC msb (record { «time_fraction» = «time_fraction»; «time_cpu» = «time_cpu»; «software_channel_identifier» = record { 0 = «software_channel_identifier» }; «transmitter_mode» = «transmitter_mode»; «ping_number» = «ping_number»; «detected_bottom_range» = «detected_bottom_range» }) «tuple_attribute» (now (numbers .entry)) (now (values .entry)) (now (out .entry))) (now (answer .entry)) (now (out .entry)) r (now (answer .exit)) (now (out .exit)) ⌝ }
+    ensures { λ r. ⌜ Said 0 five
+        (WrittenC msb
+        (headerWith «time_fraction» «time_cpu» «software_channel_identifier» «transmitter_mode» «ping_number» «detected_bottom_range»)
+        «tuple_attribute» (now (numbers .entry)) (now (values .entry)) (now (out .entry)))
+        (now (answer .entry)) (now (out .entry)) r (now (answer .exit)) (now (out .exit)) ⌝ }
 {
     if answer.len() < HEAD {
         return codes::NO_ROOM;

@@ -2,7 +2,7 @@
 -- the row's. Assumes nothing.
 use mathlib.Core.Bool.{Bool, true, false}
 use mathlib.Core.List.{List, [], _∷_}
-use Prim.Native.Nat.{ℕ, suc, _+_, _^_, _%_, _<_}
+use Prim.Native.Nat.{ℕ, zero, suc, _+_, _^_, _%_, _<_}
 use lib.IntN.{ℤ, pos, negsuc}
 use lib.ListN.{getD}
 use lib.Signed.{mag}
@@ -64,7 +64,8 @@ integersFrom (ident ∷ fs) ns i = integersFrom fs ns i
 abbrev pub InRange : Bool → ℕ → ℤ → Type 0
 InRange false w (pos n) = n < 256 ^ w
 InRange false w (negsuc n) = ⊥
-InRange true w z = mag z + mag z < 256 ^ w
+InRange true zero z = ⊥
+InRange true (suc w) z = mag z + mag z < 256 ^ suc w
 
 abbrev pub Typed : List Field → List ℤ → Type 0
 Typed [] [] = Unit {0}

@@ -1,0 +1,219 @@
+-- What the writer of rows wrote the reader of rows reads back, in both byte orders: once over the row, and for a view of it. Assumes
+-- nothing.
+use mathlib.Core.Path.{_≡_, refl, sym, ap, ap₂, subst, _∙_}
+use mathlib.Core.Bool.{Bool, true, false, not, _&&_}
+use mathlib.Core.List.{List, [], _∷_, _++_, map}
+use mathlib.Core.Option.{Option, some, none}
+use Prim.Native.Nat.{ℕ, zero, suc, _+_, _-_, _*_, _%_, _^_, _≤_, _<_}
+use native.Mathlib.Omega.{arith}
+use borrow.Author.Tests.{eqb-true, leb-true, ltb-false, le-ltb, not-false}
+use lib.Dec.{eqb, leb, ltb}
+use lib.IntN.{ℤ, pos, negsuc}
+use lib.ListN.{length, take, drop, getD}
+use lib.Seq.{length-take-le}
+use Rattle.rules.specs.Rules.{_⇒_}
+use Rattle.rules.proofs.Bools.{both-true}
+use Rattle.order.specs.Order.{Bytes}
+use Rattle.layout.specs.declared.Counts.{Counts}
+use Rattle.layout.specs.declared.Answer.{Answer}
+use Rattle.layout.specs.declared.Answer.the-variants.{Accepted}
+use Rattle.layout.specs.declared.Kind.{Kind}
+use Rattle.layout.specs.Answers.{accepting, leftBy}
+use Rattle.layout.specs.Fields.{Field, num, txt, gap, ident, s, size, many, bareSize}
+use Rattle.layout.specs.Types.{Shape, indexed, row, pairs, words, unlisted, Length, exactly, upward, free, fitting, kindOf, shapeOf, lengthsOf, lengthFrom, listed, listingOf, placeIn}
+use Rattle.layout.proofs.Tables.{at-listed}
+use Rattle.frame.specs.Frames.{allowed}
+use Rattle.frame.proofs.Frames.{allowed-of}
+use Rattle.turning.specs.Rows.{Value, number, text, woven, numbersIn, textIn, Fit, fit-end, fit-num, fit-txt, fit-gap, fit-ident, Lettered}
+use Rattle.turning.specs.inner.Codes.{textFits}
+use Rattle.content.specs.Items.{rowIn}
+use Rattle.tuples.specs.Readers.{isRecord, recordsOf, only, readAnswer, readValues, rowBy, rowOf}
+use Rattle.tuples.specs.Writers.{plainBytes}
+use Rattle.tuples.proofs.Fields.{IsRow}
+use Rattle.rows.specs.Readers.{countOf, fieldsBy, lentBy, rowAnswer, rowNumbers, rowText, charactersAt, answered, RowAt}
+use Rattle.rows.specs.Writers.{rowValues, rowLength, RowWritten}
+use Rattle.rows.specs.Integers.{integer, natural, pattern, integers, patterns, rowIntegers, InRange, Typed}
+use Rattle.rows.specs.declared.RowRead.{RowRead}
+use Rattle.rows.specs.declared.RowRead.the-variants.{Read}
+use Rattle.rows.proofs.Shapes.{is-row, row-listed, noText, Textual, textual, none-bare, fixed-length}
+use Rattle.rows.proofs.Writing.{lengths-row}
+use Rattle.rows.proofs.Reading.{as-only}
+use Rattle.rows.proofs.Views.{read-characters}
+use Rattle.roundtrip.specs.Held.{Holds, Filled}
+use Rattle.roundtrip.specs.Rows.{RowSound, RowBack}
+use Rattle.roundtrip.proofs.Rows.{signed-pattern, pattern-below, row-answer, row-values}
+use Rattle.roundtrip.proofs.Written.{written-kept, written-held}
+
+-- ---- the lengths of a record are multiples of four, sixteen at least: one test over the listed types
+abbrev byFours : Shape → Bool
+byFours indexed = true
+byFours (row fs none) = eqb ((size fs + 14) % 4) 0 && leb 16 (size fs + 14)
+byFours (row fs (some least)) = eqb ((size fs + 14 + least) % 4) 0 && leb 16 (size fs + 14 + least)
+byFours pairs = true
+byFours words = true
+byFours unlisted = true
+
+test : map (λ (q : Kind). byFours (listingOf q .shape)) listed ≡ map (λ (q : Kind). true) listed
+unfolding listed listingOf
+test = refl
+
+allowed-row : (fs : List Field) (x : Option ℕ) (n : ℕ) → byFours (row fs x) ≡ true → fitting (lengthFrom (row fs x)) n ≡ true → n ≤ 262144 → allowed n ≡ true
+allowed-row fs none n e f h =
+    let p = both-true (eqb ((size fs + 14) % 4) 0) _ e in
+    let is : n ≡ size fs + 14 = eqb-true n (size fs + 14) f in
+    let four : (size fs + 14) % 4 ≡ 0 = eqb-true ((size fs + 14) % 4) 0 (p .0) in
+    let long : 16 ≤ size fs + 14 = leb-true 16 (size fs + 14) (p .1) in
+    allowed-of n (ap (λ (m : ℕ). m % 4) is ∙ four) (omega arith) h
+allowed-row fs (some least) n e f h =
+    let p = both-true (eqb ((size fs + 14 + least) % 4) 0) _ e in
+    let q = both-true (leb (size fs + 14 + least) n) _ f in
+    let four : (size fs + 14 + least) % 4 ≡ 0 = eqb-true ((size fs + 14 + least) % 4) 0 (p .0) in
+    let long : 16 ≤ size fs + 14 + least = leb-true 16 (size fs + 14 + least) (p .1) in
+    let more : size fs + 14 + least ≤ n = leb-true (size fs + 14 + least) n (q .0) in
+    let steps : (n - (size fs + 14 + least)) % 4 ≡ 0 = eqb-true ((n - (size fs + 14 + least)) % 4) 0 (q .1) in
+    allowed-of n (omega arith) (omega arith) h
+
+-- ---- values woven from numbers and characters
+pub numbers-woven : (fs : List Field) (ns t : List ℕ) → many fs ≤ length ns → numbersIn (woven fs ns t) ≡ take (many fs) ns
+numbers-woven [] ns t h = refl
+numbers-woven (num g w ∷ fs) [] t h = absurd (omega (arith, h))
+numbers-woven (num g w ∷ fs) (n ∷ ns) t h = ap (λ (l : List ℕ). n ∷ l) (numbers-woven fs ns t (omega arith))
+numbers-woven (txt w ∷ fs) ns t h = numbers-woven fs ns t h
+numbers-woven (gap w ∷ fs) ns t h = numbers-woven fs ns t h
+numbers-woven (ident ∷ fs) ns t h = numbers-woven fs ns t h
+
+lettered-woven : (fs : List Field) (ns t : List ℕ) → Bytes t → Lettered (woven fs ns t)
+lettered-woven [] ns t b = tt
+lettered-woven (num g w ∷ fs) ns t b = lettered-woven fs (drop 1 ns) t b
+lettered-woven (txt w ∷ fs) ns t b = (b, lettered-woven fs ns t b)
+lettered-woven (gap w ∷ fs) ns t b = lettered-woven fs ns t b
+lettered-woven (ident ∷ fs) ns t b = lettered-woven fs ns t b
+
+-- the characters: those handed over where the row has any, before or behind the attribute's place
+text-woven : (fs : List Field) (ns t : List ℕ) → noText fs ≡ false → textIn (woven (fs ++ (s 4 ∷ [])) ns t) ≡ t
+text-woven [] ns t e = absurd (let z : _≡_ {A = ℕ} 0 1 = cc in omega arith)
+text-woven (num g w ∷ fs) ns t e = text-woven fs (drop 1 ns) t e
+text-woven (txt w ∷ fs) ns t e = refl
+text-woven (gap w ∷ fs) ns t e = text-woven fs ns t e
+text-woven (ident ∷ fs) ns t e = text-woven fs ns t e
+
+text-none : (fs : List Field) (ns t : List ℕ) → noText fs ≡ true → textIn (woven (fs ++ (s 4 ∷ [])) ns t) ≡ []
+text-none [] ns t e = refl
+text-none (num g w ∷ fs) ns t e = text-none fs (drop 1 ns) t e
+text-none (txt w ∷ fs) ns t e = absurd (let z : _≡_ {A = ℕ} 0 1 = cc in omega arith)
+text-none (gap w ∷ fs) ns t e = text-none fs ns t e
+text-none (ident ∷ fs) ns t e = text-none fs ns t e
+
+text-last : (fs gs : List Field) (m : ℕ) (ns t : List ℕ) → noText fs ≡ true → textIn (woven (fs ++ (txt m ∷ gs)) ns t) ≡ t
+text-last [] gs m ns t e = refl
+text-last (num g w ∷ fs) gs m ns t e = text-last fs gs m (drop 1 ns) t e
+text-last (txt w ∷ fs) gs m ns t e = absurd (let z : _≡_ {A = ℕ} 0 1 = cc in omega arith)
+text-last (gap w ∷ fs) gs m ns t e = text-last fs gs m ns t e
+text-last (ident ∷ fs) gs m ns t e = text-last fs gs m ns t e
+
+no-length : (t : List ℕ) → length t ≡ 0 → [] ≡ t
+no-length [] e = refl
+no-length (x ∷ t) e = absurd (omega (arith, e))
+
+text-fixed : (fs : List Field) (ns t : List ℕ) (n : ℕ) → fitting (lengthFrom (row fs none)) n ≡ true → n ≡ bareSize fs + length t + 14
+    → (b : Bool) → noText fs ≡ b → textIn (woven (fs ++ (s 4 ∷ [])) ns t) ≡ t
+text-fixed fs ns t n e l true b = text-none fs ns t b ∙ no-length t (omega (arith, fixed-length fs n e, none-bare fs b, l))
+text-fixed fs ns t n e l false b = text-woven fs ns t b
+
+text-back : (q : Shape) (ns t : List ℕ) (n : ℕ) → IsRow q → Textual q → fitting (lengthFrom q) n ≡ true → n ≡ bareSize (fieldsBy q) + length t + 14
+    → textIn (woven (rowBy q 0) ns t) ≡ t
+text-back indexed ns t n z x e l = absurd z
+text-back (row fs none) ns t n z x e l = text-fixed fs ns t n e l (noText fs) refl
+text-back (row fs (some least)) ns t n z x e l = text-last fs (s 4 ∷ []) (0 - (size fs + 4)) ns t x
+text-back pairs ns t n z x e l = absurd z
+text-back words ns t n z x e l = absurd z
+text-back unlisted ns t n z x e l = absurd z
+
+-- ---- what the writer takes: a record's type, numbers enough, a length that fits and isn't too long
+pub record Taken (k : ℕ) (ns t : List ℕ) : Type 0 where
+  pub type : isRecord k ≡ true
+  pub there : countOf k ≤ length ns
+  pub fits : fitting (lengthsOf k) (rowLength k t) ≡ true
+  pub most : rowLength k t ≤ 262144
+
+pub taken : {k : ℕ} {ns t : List ℕ} {o : Bool} {out left : List ℕ} {n : Counts} → RowWritten k ns t o out (Accepted n) left → Taken k ns t
+taken {k} {ns} {t} w =
+    let c = written-kept (refl, (refl, (refl, (refl, (refl, tt))))) w in
+    record {
+      type = not-false _ (c .0);
+      there = ltb-false (length ns) (countOf k) (c .1 .0);
+      fits = not-false _ (c .1 .1 .0);
+      most = ltb-false 262144 (rowLength k t) (c .1 .1 .1 .0);
+    }
+
+module _ {k : ℕ} {ns t : List ℕ} (w : Taken k ns t) (g : RowSound k ns t) where
+  is : IsRow (shapeOf k)
+  is = is-row (shapeOf k) (w .type)
+
+  fits-row : fitting (lengthFrom (shapeOf k)) (rowLength k t) ≡ true
+  fits-row = lengths-row k (rowLength k t) (w .fits)
+
+  even : byFours (shapeOf k) ≡ true
+  even = at-listed (λ (q : Kind). byFours (listingOf q .shape)) (λ (q : Kind). true) test (kindOf k) (row-listed k is)
+
+  fill : (q : Shape) → shapeOf k ≡ q → IsRow q → Filled k (rowValues k ns t)
+  fill indexed e z = absurd z
+  fill (row fs x) e z =
+      let n = rowLength k t in
+      let whole : rowLength k t - 10 + 10 ≡ rowLength k t = omega arith in
+      let f = ap (λ (q : Shape). fitting (lengthFrom q) (rowLength k t)) (sym e) ∙ fits-row in
+      record {
+        fields = fs;
+        characters = x;
+        size = rowLength k t - 10;
+        code = g .code;
+        shape = e;
+        fits = ap (fitting (lengthFrom (row fs x))) whole ∙ f;
+        whole = ap allowed whole ∙ allowed-row fs x n (ap byFours (sym e) ∙ even) f (w .most);
+        fit = subst (λ (q : Shape). Fit (rowBy q (rowLength k t - 10)) (rowValues k ns t)) e (g .values);
+        lettered = lettered-woven (rowOf k 0) ns t (g .characters);
+      }
+  fill pairs e z = absurd z
+  fill words e z = absurd z
+  fill unlisted e z = absurd z
+
+  filled-row : Filled k (rowValues k ns t)
+  filled-row = fill (shapeOf k) refl is
+
+  -- ---- a file that holds its tuple
+  module _ {f : List ℕ} {p : ℕ} {o : Bool} (h : Holds f p o (plainBytes o k (rowValues k ns t))) where
+    pub answer-back : readAnswer (only k) f p ≡ accepting 1 0
+    answer-back = row-answer filled-row h
+
+    pub values-back : readValues f p ≡ rowValues k ns t
+    values-back = row-values filled-row h
+
+    pub numbers-back : rowNumbers f p ≡ take (countOf k) ns
+    numbers-back = ap numbersIn values-back ∙ numbers-woven (rowOf k 0) ns t (w .there)
+
+    accepted : (lent : List ℕ) → countOf k ≤ length lent → rowAnswer k f p (length lent) ≡ accepting 1 0
+    unfolding rowAnswer
+    accepted lent m =
+        ap₂ lentBy (le-ltb (length lent) (countOf k) m) (ap (λ (asks : ℕ → Bool). readAnswer asks f p) (as-only k (w .type)) ∙ answer-back)
+
+    read-back : (lent left : List ℕ) (r : RowRead) → countOf k ≤ length lent → RowAt k f p lent r left
+        → (r ≡ Read (rowText k f p)) × (left ≡ take (countOf k) ns ++ drop (countOf k) lent)
+    read-back lent left r m a =
+        let e = accepted lent m in
+        let l : length (take (countOf k) ns) ≡ countOf k = length-take-le (countOf k) ns (w .there) in (
+          a .outcome ∙ ap (λ (x : Answer). answered x (rowText k f p)) e,
+          a .memory
+              ∙ ap₂ (λ (x : Answer) (xs : List ℕ). leftBy x xs lent) e numbers-back
+              ∙ ap (λ (i : ℕ). take (countOf k) ns ++ drop i lent) l,
+        )
+
+    pub characters-back : charactersAt f (rowText k f p) ≡ t
+    characters-back = ?
+
+    pub row-back : RowBack k ns t f p
+    row-back = record { numbers = numbers-back; read = read-back; characters = characters-back }
+
+-- what the writer of rows wrote, its reader reads back
+pub row-again : {k : ℕ} {ns t : List ℕ} {o : Bool} {out left f : List ℕ} {p : ℕ} {n : Counts} → RowSound k ns t → RowWritten k ns t o out (Accepted n) left
+    → Holds f p o (take (n .written) left) → RowBack k ns t f p
+row-again g w h = row-back (taken w) g (written-held (refl, (refl, (refl, (refl, (refl, tt))))) w h)
