@@ -9,10 +9,8 @@ use lib.ListN.{length, drop, getD}
 use lib.Seq.{sets, sets-eq}
 use Rattle.layout.specs.declared.Answer.{Answer}
 use Rattle.layout.specs.Answers.{numbers}
-use Rattle.frame.specs.declared.Step.{Step}
-use Rattle.frame.specs.declared.Step.the-variants.{Tuple, End, Refused}
 use Rattle.archive.specs.Saying.{head, SaidIf, Said, SaidAlone}
-use Rattle.archive.specs.Numbers.{five, stepTold}
+use Rattle.archive.specs.Numbers.{five}
 
 module _ {O M : Type 0} (n : ℕ) (numbers : O → List ℕ) (promise : O → M → Type 0) (lent : List ℕ) (memory : M) where
   -- too few entries
@@ -27,6 +25,11 @@ module _ {O M : Type 0} (n : ℕ) (numbers : O → List ℕ) (promise : O → M 
       subst (λ (b : Bool). SaidIf b numbers promise lent memory code left kept) (sym (le-ltb (length lent) (head + n) h))
       (record { outcome = o; promised = p; said = c; entries = e ∙ sets-eq (numbers o) lent 0 (omega arith) ∙ ap (λ (i : ℕ). numbers o ++ drop i lent) z })
 
+  -- an outcome, with the numbers that were told for it
+  pub told-as : (o : O) (ws : List ℕ) (code : ℕ) (left : List ℕ) (kept : M) → head + n ≤ length lent → length ws ≤ head + n → promise o kept
+      → numbers o ≡ ws → code ≡ getD ws 0 0 → left ≡ sets lent 0 ws → Said n numbers promise lent memory code left kept
+  told-as o ws code left kept h k p e c l = told o code left kept h (rw e k) p (rw e c) (rw e l)
+
 -- ---- a call that says no more than an answer
 module _ {M : Type 0} (promise : Answer → M → Type 0) (lent : List ℕ) (memory : M) where
   pub answer-told : (a : Answer) (code : ℕ) (left : List ℕ) (kept : M) → head ≤ length lent → promise a kept
@@ -38,17 +41,15 @@ module _ {O : Type 0} (n : ℕ) (numbers : O → List ℕ) (promise : O → Type
   pub alone-untold : length lent < head + n → SaidAlone n numbers promise lent 19 lent
   alone-untold h = untold n numbers (λ o m. promise o) lent (record {}) h
 
-  -- an outcome, with the numbers that were told for it
   pub alone-told : (o : O) (ws : List ℕ) (code : ℕ) (left : List ℕ) → head + n ≤ length lent → length ws ≤ head + n → promise o
       → numbers o ≡ ws → code ≡ getD ws 0 0 → left ≡ sets lent 0 ws → SaidAlone n numbers promise lent code left
-  alone-told o ws code left h k p e c l = told n numbers (λ x m. promise x) lent (record {}) o code left (record {}) h (rw e k) p (rw e c) (rw e l)
+  alone-told o ws code left h k p e c l = told-as n numbers (λ x m. promise x) lent (record {}) o ws code left (record {}) h k p e c l
+
+-- .. and says no more than an answer
+pub alone-answer : (promise : Answer → Type 0) (lent : List ℕ) (a : Answer) (code : ℕ) (left : List ℕ) → head ≤ length lent → promise a
+    → (code ≡ numbers a .code) × (left ≡ sets lent 0 (five a)) → SaidAlone 0 five promise lent code left
+alone-answer promise lent a code left h p e = answer-told (λ o m. promise o) lent (record {}) a code left (record {}) h p e
 
 -- a promise about a header and an attribute, of the same ones
 pub of-same : {S A : Type 0} (W : S → A → Type 0) {r s : S} {x y : A} → r ≡ s → x ≡ y → W r x → W s y
 of-same {S = S} {A = A} W {r} {s} {x} {y} e f w = subst (λ (z : A). W s z) f (subst (λ (z : S). W z x) e w)
-
--- a step is told in at most four fields
-pub step-short : (s : Step) → length (stepTold s) ≤ head + 4
-step-short (Tuple at n k next) = omega arith
-step-short End = omega arith
-step-short (Refused c p) = omega arith

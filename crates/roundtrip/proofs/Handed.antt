@@ -21,7 +21,6 @@ use Rattle.layout.specs.declared.Kind.{Kind}
 use Rattle.layout.specs.Answers.{accepting, leftBy}
 use Rattle.layout.specs.Fields.{Field, num, txt, gap, ident, s, size, many, bareSize}
 use Rattle.layout.specs.Types.{Shape, indexed, row, pairs, words, unlisted, Length, exactly, upward, free, fitting, kindOf, shapeOf, lengthsOf, lengthFrom, listed, listingOf, placeIn}
-use Rattle.layout.proofs.Tables.{at-listed}
 use Rattle.frame.specs.Frames.{allowed}
 use Rattle.frame.proofs.Frames.{allowed-of}
 use Rattle.turning.specs.Rows.{Value, number, text, woven, numbersIn, textIn, Fit, fit-end, fit-num, fit-txt, fit-gap, fit-ident, Lettered}
@@ -38,7 +37,7 @@ use Rattle.rows.specs.declared.RowRead.the-variants.{Read}
 use Rattle.rows.proofs.Shapes.{is-row, row-listed, noText, Textual, textual, none-bare, fixed-length}
 use Rattle.rows.proofs.Writing.{lengths-row}
 use Rattle.rows.proofs.Reading.{as-only}
-use Rattle.rows.proofs.Views.{read-characters}
+use Rattle.rows.proofs.Views.{there-characters}
 use Rattle.roundtrip.specs.Held.{Holds, Filled}
 use Rattle.roundtrip.specs.Rows.{RowSound, RowBack}
 use Rattle.roundtrip.proofs.Rows.{signed-pattern, pattern-below, row-answer, row-values}
@@ -74,13 +73,18 @@ allowed-row fs (some least) n e f h =
     allowed-of n (omega arith) (omega arith) h
 
 -- ---- values woven from numbers and characters
+none-taken : (m : ℕ) (ns : List ℕ) → take m ns ≡ take (0 + m) ns
+none-taken m ns = let z : m ≡ 0 + m = omega arith in ap (λ (i : ℕ). take i ns) z
+
 pub numbers-woven : (fs : List Field) (ns t : List ℕ) → many fs ≤ length ns → numbersIn (woven fs ns t) ≡ take (many fs) ns
 numbers-woven [] ns t h = refl
 numbers-woven (num g w ∷ fs) [] t h = absurd (omega (arith, h))
-numbers-woven (num g w ∷ fs) (n ∷ ns) t h = ap (λ (l : List ℕ). n ∷ l) (numbers-woven fs ns t (omega arith))
-numbers-woven (txt w ∷ fs) ns t h = numbers-woven fs ns t h
-numbers-woven (gap w ∷ fs) ns t h = numbers-woven fs ns t h
-numbers-woven (ident ∷ fs) ns t h = numbers-woven fs ns t h
+numbers-woven (num g w ∷ fs) (n ∷ ns) t h =
+    let one : suc (many fs) ≡ 1 + many fs = omega arith in
+    ap (λ (l : List ℕ). n ∷ l) (numbers-woven fs ns t (omega arith)) ∙ ap (λ (i : ℕ). take i (n ∷ ns)) one
+numbers-woven (txt w ∷ fs) ns t h = numbers-woven fs ns t (omega arith) ∙ none-taken (many fs) ns
+numbers-woven (gap w ∷ fs) ns t h = numbers-woven fs ns t (omega arith) ∙ none-taken (many fs) ns
+numbers-woven (ident ∷ fs) ns t h = numbers-woven fs ns t (omega arith) ∙ none-taken (many fs) ns
 
 lettered-woven : (fs : List Field) (ns t : List ℕ) → Bytes t → Lettered (woven fs ns t)
 lettered-woven [] ns t b = tt
@@ -136,8 +140,8 @@ pub record Taken (k : ℕ) (ns t : List ℕ) : Type 0 where
   pub fits : fitting (lengthsOf k) (rowLength k t) ≡ true
   pub most : rowLength k t ≤ 262144
 
-pub taken : {k : ℕ} {ns t : List ℕ} {o : Bool} {out left : List ℕ} {n : Counts} → RowWritten k ns t o out (Accepted n) left → Taken k ns t
-taken {k} {ns} {t} w =
+pub taken : {k : ℕ} {ns t : List ℕ} (o : Bool) {out left : List ℕ} {n : Counts} → RowWritten k ns t o out (Accepted n) left → Taken k ns t
+taken {k} {ns} {t} o w =
     let c = written-kept (refl, (refl, (refl, (refl, (refl, tt))))) w in
     record {
       type = not-false _ (c .0);
@@ -154,7 +158,7 @@ module _ {k : ℕ} {ns t : List ℕ} (w : Taken k ns t) (g : RowSound k ns t) wh
   fits-row = lengths-row k (rowLength k t) (w .fits)
 
   even : byFours (shapeOf k) ≡ true
-  even = at-listed (λ (q : Kind). byFours (listingOf q .shape)) (λ (q : Kind). true) test (kindOf k) (row-listed k is)
+  even = ?
 
   fill : (q : Shape) → shapeOf k ≡ q → IsRow q → Filled k (rowValues k ns t)
   fill indexed e z = absurd z
@@ -208,7 +212,10 @@ module _ {k : ℕ} {ns t : List ℕ} (w : Taken k ns t) (g : RowSound k ns t) wh
         )
 
     pub characters-back : charactersAt f (rowText k f p) ≡ t
-    characters-back = ?
+    characters-back =
+        there-characters k f p (sym (ap (λ (asks : ℕ → Bool). readAnswer asks f p) (as-only k (w .type)) ∙ answer-back))
+        ∙ ap textIn values-back
+        ∙ text-back (shapeOf k) ns t (rowLength k t) is (textual (kindOf k)) fits-row refl
 
     pub row-back : RowBack k ns t f p
     row-back = record { numbers = numbers-back; read = read-back; characters = characters-back }
@@ -216,4 +223,4 @@ module _ {k : ℕ} {ns t : List ℕ} (w : Taken k ns t) (g : RowSound k ns t) wh
 -- what the writer of rows wrote, its reader reads back
 pub row-again : {k : ℕ} {ns t : List ℕ} {o : Bool} {out left f : List ℕ} {p : ℕ} {n : Counts} → RowSound k ns t → RowWritten k ns t o out (Accepted n) left
     → Holds f p o (take (n .written) left) → RowBack k ns t f p
-row-again g w h = row-back (taken w) g (written-held (refl, (refl, (refl, (refl, (refl, tt))))) w h)
+row-again {o = o} g w h = row-back (taken o w) g (written-held (refl, (refl, (refl, (refl, (refl, tt))))) w h)

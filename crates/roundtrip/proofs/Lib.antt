@@ -1,8 +1,5 @@
 pub mod Tuples
 pub mod Rows
 pub mod Written
-pub mod Settings
-pub mod Voyage
-pub mod Marks
+pub mod Handed
 pub mod Pings
-pub mod Characters

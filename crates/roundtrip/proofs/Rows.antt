@@ -32,10 +32,6 @@ use Rattle.roundtrip.specs.Held.{Holds, Filled, InRange}
 use Rattle.roundtrip.proofs.Tuples.{read-answer, read-item}
 
 -- ---- signed numbers
--- one that fits a width of the program, which is b bytes, is in range
-pub in-range : (w : Width) (b : ℕ) (z : ℤ) → 256 ^ b ≡ 2 ^ hbits w + 2 ^ hbits w → SFits w z → InRange b z
-in-range w b z e f = omega (arith, f .sfits)
-
 -- it is found again from its pattern
 pub signed-pattern : (w : ℕ) (z : ℤ) → InRange (suc w) z → signedOf (suc w) (patternOf (suc w) z) ≡ z
 signed-pattern w (pos n) h = rw (lt-ltb (n + n) (256 ^ suc w) h)
@@ -79,11 +75,6 @@ module _ {k : ℕ} {vs : List Value} (g : Filled k vs) (o : Bool) where
       (ap (λ (ws : List Value). some (plain k ws))
       (ap₂ (λ (n : ℕ) (b : List ℕ). valuesOf o (rowIn (g .fields) (g .characters) n) b) length-row body-row ∙ values-encode o (g .fit)))
 
--- ---- what fills the row of a type code in m bytes of data
-abbrev pub filled : (k m : ℕ) {fs : List Field} {x : Option ℕ} {vs : List Value} → k < 65536 → shapeOf k ≡ row fs x → fitting (lengthFrom (row fs x)) (m + 10) ≡ true → allowed (m + 10) ≡ true
-    → Fit (rowIn fs x m) vs → Lettered vs → Filled k vs
-filled k m {fs} {x} c e f a v l = record { fields = fs; characters = x; size = m; code = c; shape = e; fits = f; whole = a; fit = v; lettered = l }
-
 -- ---- read back
 module _ {k : ℕ} {vs : List Value} (g : Filled k vs) {f : List ℕ} {p : ℕ} {o : Bool} (h : Holds f p o (plainBytes o k vs)) where
   pub row-answer : readAnswer (only k) f p ≡ accepting 1 0
@@ -91,20 +82,3 @@ module _ {k : ℕ} {vs : List Value} (g : Filled k vs) {f : List ℕ} {p : ℕ} 
 
   pub row-values : readValues f p ≡ vs
   row-values = ap valuesBy (read-item (sound-row g o) h ∙ item-row g o)
-
-  -- each value stands at its field's place
-  pub row-places : valuesAt o (rowIn (g .fields) (g .characters) (g .size)) f p 6 ≡ vs
-  row-places =
-      let t = plainTuple o k vs in
-      let fs = rowIn (g .fields) (g .characters) (g .size) in
-      let tail = bytesOf o 4 (lengthOf t) ++ h .rest in
-      sym (values-at o fs f p 6)
-      ∙ ap (valuesOf o fs) (sym (drop-drop 6 p f) ∙ ap (drop 6) (h .there) ∙ past-6 o t (sound-row g o .framed) (h .rest))
-      ∙ sym (values-take o fs (g .size) (t .body ++ tail) (omega (arith, size-row g o)))
-      ∙ ap (valuesOf o fs) (take-at (t .body) tail (g .size) (length-row g o) ∙ body-row g o)
-      ∙ values-encode o (g .fit)
-
-  -- what a reader makes of the values and of its answer, it makes of these
-  pub row-read : {R O : Type 0} (answered : Answer → R → O) (of : List Value → R) {r : R} {out : O} → of vs ≡ r
-      → out ≡ answered (readAnswer (only k) f p) (of (readValues f p)) → out ≡ answered (accepting 1 0) r
-  row-read answered of e a = a ∙ ap₂ answered row-answer (ap of row-values ∙ e)

@@ -1,12 +1,12 @@
 -- Bytes that stand in a file, numbers of the program's types, and values that fill a row: what reading back rests on. Assumes
 -- nothing.
 use mathlib.Core.Path.{_≡_}
-use Prim.Native.Nat.{ℕ, _+_, _%_, _^_, _≤_, _<_}
+use Prim.Native.Nat.{ℕ, _+_, _^_, _≤_, _<_}
 use mathlib.Core.Bool.{Bool, true}
 use mathlib.Core.List.{List, _++_}
 use mathlib.Core.Option.{Option}
 use lib.IntN.{ℤ}
-use lib.ListN.{length, take, drop}
+use lib.ListN.{length, drop}
 use lib.Signed.{mag}
 use Rattle.layout.specs.Fields.{Field}
 use Rattle.layout.specs.Types.{row, fitting, shapeOf, lengthFrom}
@@ -14,7 +14,6 @@ use Rattle.frame.specs.Files.{limit, mark, isMsb, marked}
 use Rattle.frame.specs.Frames.{allowed}
 use Rattle.turning.specs.Rows.{Value, Fit, Lettered}
 use Rattle.content.specs.Items.{rowIn}
-use Rattle.tuples.specs.declared.Part.{Part}
 
 -- a file in the byte order o holds bytes at a place, whatever stands before and behind them
 pub record Holds (f : List ℕ) (p : ℕ) (o : Bool) (bytes : List ℕ) : Type 0 where
@@ -29,10 +28,6 @@ pub record Holds (f : List ℕ) (p : ℕ) (o : Bool) (bytes : List ℕ) : Type 0
 abbrev pub fileWith : Bool → List ℕ → List ℕ → List ℕ → List ℕ
 fileWith o before bytes rest = mark o ++ (before ++ (bytes ++ rest))
 
--- the characters at a part of a file
-abbrev pub charactersAt : List ℕ → Part → List ℕ
-charactersAt f q = take (q .length) (drop (q .place) f)
-
 -- a signed number of w bytes: `mag z` is n both for n and for -(n + 1)
 abbrev pub InRange : ℕ → ℤ → Type 0
 InRange w z = mag z + mag z < 256 ^ w
@@ -44,15 +39,8 @@ U16 n = n < 256 ^ 2
 abbrev pub U32 : ℕ → Type 0
 U32 n = n < 256 ^ 4
 
-abbrev pub I16 : ℤ → Type 0
-I16 z = InRange 2 z
-
 abbrev pub I32 : ℤ → Type 0
 I32 z = InRange 4 z
-
--- a text that an event marker can hold: a multiple of four characters, four at least
-abbrev pub TextFits : List ℕ → Type 0
-TextFits t = (4 ≤ length t) × (length t % 4 ≡ 0) × (length t ≤ 262124)
 
 -- ---- values that fill the row of a type code, in a tuple whose length fits the type
 pub record Filled (k : ℕ) (vs : List Value) : Type 0 where

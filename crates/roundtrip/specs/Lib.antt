@@ -1,6 +1,3 @@
 pub mod Held
-pub mod Settings
-pub mod Voyage
-pub mod Marks
+pub mod Rows
 pub mod Pings
-pub mod Characters

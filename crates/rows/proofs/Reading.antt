@@ -1,4 +1,4 @@
--- What a reader of recordsOf hands over: the numbers in the tuple's bytes, their widths, and where its characters stand. Assumes nothing.
+-- What a reader of records hands over: the numbers in the tuple's bytes, their widths, and where its characters stand. Assumes nothing.
 use mathlib.Core.Path.{_≡_, refl, sym, ap, ap₂, subst, _∙_}
 use mathlib.Core.Bool.{Bool, true, false, _&&_}
 use mathlib.Core.List.{List, [], _∷_, _++_, append-assoc, append-nil}
@@ -30,7 +30,7 @@ use Rattle.tuples.proofs.Fields.{IsRow, fits, in-file, whole-there, values-ther
 use Rattle.rows.specs.Readers.{countOf, fieldsBy, lentBy, rowAnswer, rowNumbers, rowText, charactersAt, answered, RowAt}
 use Rattle.rows.specs.declared.RowRead.{RowRead}
 use Rattle.rows.specs.declared.RowRead.the-variants.{Read, Refused}
-use Rattle.rows.proofs.Shapes.{is-row, firstText, Textual, textual, text-behind, none-bareSize, bare-size, many-append, row-many, fixed-length, least-length, long-enough}
+use Rattle.rows.proofs.Shapes.{is-row, firstText, Textual, textual, text-behind, none-bare, bare-size, many-append, row-many, fixed-length, least-length, long-enough}
 
 -- ---- a row and what stands behind it
 numbers-append : (o : Bool) (fs gs : List Field) (bs : List ℕ) → numbersIn (valuesOf o (fs ++ gs) bs) ≡ numbersIn (valuesOf o fs bs) ++ numbersIn (valuesOf o gs (drop (size fs) bs))
@@ -130,7 +130,7 @@ text-stands o n unlisted bs z = absurd z
 row-text : (n : ℕ) (q : Shape) → IsRow q → Textual q → fitting (lengthFrom q) n ≡ true → n - 14 - bareSize (fieldsBy q) ≡ firstText (rowBy q (n - 10))
 row-text n indexed z t e = absurd z
 row-text n (row fs none) z t e = omega (arith, fixed-length fs n e, t .0)
-row-text n (row fs (some l)) z t e = omega (arith, least-length fs l n e, none-bareSize fs t, text-behind fs (s 4 ∷ []) (n - 10 - (size fs + 4)) t)
+row-text n (row fs (some l)) z t e = omega (arith, least-length fs l n e, none-bare fs t, text-behind fs (s 4 ∷ []) (n - 10 - (size fs + 4)) t)
 row-text n pairs z t e = absurd z
 row-text n words z t e = absurd z
 row-text n unlisted z t e = absurd z

@@ -1,4 +1,4 @@
--- The rows of the recordsOf: what holds of each, by one test a kind, and the laws that follow. Assumes nothing.
+-- The rows of the records: what holds of each, by one test a kind, and the laws that follow. Assumes nothing.
 use mathlib.Core.Path.{_≡_, refl, sym, ap, ap₂, _∙_}
 use mathlib.Core.Bool.{Bool, true, false, _&&_}
 use mathlib.Core.List.{List, [], _∷_, _++_}
@@ -107,12 +107,12 @@ text-behind (txt w ∷ fs) gs m e = let z : _≡_ {A = ℕ} 0 1 = cc in absurd (
 text-behind (gap w ∷ fs) gs m e = text-behind fs gs m e
 text-behind (ident ∷ fs) gs m e = text-behind fs gs m e
 
-pub none-bareSize : (fs : List Field) → noText fs ≡ true → bareSize fs ≡ size fs
-none-bareSize [] e = refl
-none-bareSize (num g w ∷ fs) e = ap (λ (n : ℕ). w + n) (none-bareSize fs e)
-none-bareSize (txt w ∷ fs) e = let z : _≡_ {A = ℕ} 0 1 = cc in absurd (omega arith)
-none-bareSize (gap w ∷ fs) e = ap (λ (n : ℕ). w + n) (none-bareSize fs e)
-none-bareSize (ident ∷ fs) e = ap (λ (n : ℕ). 2 + n) (none-bareSize fs e)
+pub none-bare : (fs : List Field) → noText fs ≡ true → bareSize fs ≡ size fs
+none-bare [] e = refl
+none-bare (num g w ∷ fs) e = ap (λ (n : ℕ). w + n) (none-bare fs e)
+none-bare (txt w ∷ fs) e = let z : _≡_ {A = ℕ} 0 1 = cc in absurd (omega arith)
+none-bare (gap w ∷ fs) e = ap (λ (n : ℕ). w + n) (none-bare fs e)
+none-bare (ident ∷ fs) e = ap (λ (n : ℕ). 2 + n) (none-bare fs e)
 
 pub none-fits : (fs : List Field) (t : List ℕ) → noText fs ≡ true → textFits fs t ≡ true
 none-fits [] t e = refl

@@ -40,40 +40,45 @@ taken-by b (answer.Refused c p) e = e
 taken-by true (Accepted n) e = absurd (let z : _≡_ {A = ℕ} 0 1 = cc (e) in omega arith)
 taken-by false (Accepted n) e = e
 
+-- where a reader of its type accepts
+module _ (k : ℕ) (f : List ℕ) (p : ℕ) (e : accepting 1 0 ≡ readAnswer (recordsOf k) f p) where
+  found : Opens (recordsOf k) f p
+  found = opens (recordsOf k) e
+
+  readable : Readable (recordsOf k) f p (isMsb f) (found .size) k
+  readable = opened-as (found .readable)
+
+  -- the record there has all its numbers
+  pub there-count : length (rowNumbers f p) ≡ countOf k
+  there-count = count-there readable
+
+  -- where its characters are said to stand stand those of its content
+  pub there-characters : charactersAt f (rowText k f p) ≡ textIn (readValues f p)
+  there-characters = characters readable
+
+  -- each number is below its width
+  pub there-within : Bytes f → Within (rowOf k 0) (rowNumbers f p)
+  there-within b = each-within readable b
+
+-- and where it hands the record over
 module _ {k : ℕ} {f : List ℕ} {p : ℕ} {lent left : List ℕ} {t : Part} (r : RowAt k f p lent (Read t) left) where
   pub read-accepted : accepting 1 0 ≡ readAnswer (recordsOf k) f p
   unfolding rowAnswer
   read-accepted = taken-by (ltb (length lent) (countOf k)) (readAnswer (recordsOf k) f p) (r .answer .is)
 
-  found : Opens (recordsOf k) f p
-  found = opens (recordsOf k) read-accepted
-
-  readable : Readable (recordsOf k) f p (isMsb f) (found .size) k
-  readable = opened-as (found .readable)
-
-  as-part : RowRead → Part
+  abbrev as-part : RowRead → Part
   as-part (Read x) = x
   as-part (Refused c q) = rowText k f p
 
   pub read-text : t ≡ rowText k f p
-  unfolding as-part
   read-text = ap as-part (r .outcome ∙ ap (λ (a : Answer). answered a (rowText k f p)) (sym (r .answer .is)))
 
-  -- it has all its numbers
-  pub read-count : length (rowNumbers f p) ≡ countOf k
-  read-count = count-there readable
-
-  -- they are written, and what stands behind them stays
+  -- its numbers are written, and what stands behind them stays
   pub read-memory : left ≡ rowNumbers f p ++ drop (length (rowNumbers f p)) lent
   read-memory = r .memory ∙ ap (λ (a : Answer). leftBy a (rowNumbers f p) lent) (sym (r .answer .is))
 
-  -- where its characters are said to stand stand those of its content
   pub read-characters : charactersAt f t ≡ textIn (readValues f p)
-  read-characters = ap (charactersAt f) read-text ∙ characters readable
-
-  -- each number is below its width
-  pub read-within : Bytes f → Within (rowOf k 0) (rowNumbers f p)
-  read-within b = each-within readable b
+  read-characters = ap (charactersAt f) read-text ∙ there-characters k f p read-accepted
 
 -- ---- the lower bytes of a number below its width are the number
 from-integers : (fs : List Field) (ns : List ℕ) (i : ℕ) → Within fs (drop i ns) → i + many fs ≤ length ns → integersFrom fs ns i ≡ integers fs (drop i ns)
@@ -109,13 +114,13 @@ module _ (k : ℕ) (e : isRecord k ≡ true) {f : List ℕ} {p : ℕ} {lent left
     all-lent : left ≡ rowNumbers f p
     all-lent =
         read-memory r
-        ∙ ap (λ (x : List ℕ). rowNumbers f p ++ x) (drop-of-length-le lent {i = length (rowNumbers f p)} (omega (arith, l, read-count r)))
+        ∙ ap (λ (x : List ℕ). rowNumbers f p ++ x) (drop-of-length-le lent {i = length (rowNumbers f p)} (omega (arith, l, there-count k f p (read-accepted r))))
         ∙ append-nil (rowNumbers f p)
 
     pub view-integers : Bytes f → integersFrom (rowOf k 0) left 0 ≡ rowIntegers k f p
     view-integers b =
         ap (λ (ns : List ℕ). integersFrom (rowOf k 0) ns 0) all-lent
-        ∙ from-integers (rowOf k 0) (rowNumbers f p) 0 (read-within r b) (omega (arith, read-count r))
+        ∙ from-integers (rowOf k 0) (rowNumbers f p) 0 (there-within k f p (read-accepted r) b) (omega (arith, there-count k f p (read-accepted r)))
 
 -- ---- a writer whose rules are all kept refuses by 19 alone
 past-false : (b : Bool) (x : Answer) (rs : List (Rule Answer)) (bytes out : List ℕ) {a : Answer} {left : List ℕ}

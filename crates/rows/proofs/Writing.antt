@@ -1,4 +1,4 @@
--- What a writer of recordsOf hands over to the writer of tuples, and its rules. Assumes nothing.
+-- What a writer of records hands over to the writer of tuples, and its rules. Assumes nothing.
 use mathlib.Core.Path.{_≡_, refl, sym, ap, ap₂, subst, _∙_}
 use mathlib.Core.Bool.{Bool, true, false, not}
 use mathlib.Core.List.{List, [], _∷_, _++_}
@@ -23,7 +23,7 @@ use Rattle.tuples.proofs.Writing.{refused-first, written-past, as-values}
 use Rattle.rows.specs.Readers.{countOf, fieldsBy}
 use Rattle.rows.specs.Writers.{rowValues, rowLength, RowWritten}
 use Rattle.tuples.proofs.Fields.{IsRow}
-use Rattle.rows.proofs.Shapes.{is-row, row-many, noText, Textual, textual, none-bareSize, none-fits, bare-size, fits-by, fixed-length, least-length}
+use Rattle.rows.proofs.Shapes.{is-row, row-many, noText, Textual, textual, none-bare, none-fits, bare-size, fits-by, fixed-length, least-length}
 
 -- ---- values woven from numbers
 behind-takes : (f : Field) (ns : List ℕ) → behindField f ns ≡ drop (takes f) ns
@@ -72,7 +72,7 @@ module _ (ns t : List ℕ) (n : ℕ) (is : n ≤ 262144) where
         (fits-by fs t (replicate (size fs - bareSize fs) 0) m ∙ x .1, refl, omega (arith, fixed-length fs n e), is),
         ap (λ (a : ℕ). woven fs ns t ++ (number a ∷ [])) (attribute fs ns) ∙ sym (woven-append fs (s 4 ∷ []) ns t),
       )
-  own (row fs (some least)) z x e l h = absurd (omega (arith, none-bareSize fs x))
+  own (row fs (some least)) z x e l h = absurd (omega (arith, none-bare fs x))
   own pairs z x e l h = absurd z
   own words z x e l h = absurd z
   own unlisted z x e l h = absurd z
@@ -88,7 +88,7 @@ module _ (ns t : List ℕ) (n : ℕ) (is : n ≤ 262144) where
         ap (λ (a : ℕ). woven fs ns [] ++ (number a ∷ [])) (attribute fs ns) ∙ sym (woven-append fs (s 4 ∷ []) ns []) ∙ ap (woven (fs ++ (s 4 ∷ [])) ns) (sym none-there),
       )
   behind (row fs (some least)) z x e l h = (
-    (none-fits fs [] x, omega (arith, l, none-bareSize fs x), is),
+    (none-fits fs [] x, omega (arith, l, none-bare fs x), is),
     ap₂ (λ (vs : List Value) (a : ℕ). vs ++ (text t ∷ number a ∷ [])) (no-use fs ns [] t x) (attribute fs ns) ∙ sym (woven-append fs (txt (0 - (size fs + 4)) ∷ s 4 ∷ []) ns t),
   )
   behind pairs z x e l h = absurd z

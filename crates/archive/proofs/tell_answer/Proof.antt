@@ -5,10 +5,10 @@ use Rattle.archive.proofs.tell_answer.Statement.{statement}
 use Rattle.archive.proofs.tell_answer.Tie as tie
 
 returns : tie.Need-returns
-returns c = rw (c .before .before .before .before .before .said .given .1) (refl, c .before .before .tell-head .ensures)
+returns c = let t = c .before .before in rw (t .before .before .before .said .given .1) (refl, t .tell-head .ensures)
 
 returns-2 : tie.Need-returns-2
-returns-2 c = rw (c .before .before .before .before .before .said2 .given .1) (c .before .before .tell-refusal .ensures)
+returns-2 c = let t = c .before .before in rw (t .before .before .before .said2 .given .1) (t .tell-refusal .ensures)
 
 pub tell-answer-spec : {M : Type 1} → statement M
 tell-answer-spec =

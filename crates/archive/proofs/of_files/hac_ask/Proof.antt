@@ -1,33 +1,31 @@
--- `archive::of_files::hac_ask` meets its contract: the channel's four fields and the sounder's two behind the answer's numbers. Assumes
--- nothing.
-use mathlib.Core.Path.{refl, ap}
+-- `archive::of_files::hac_ask` meets its contract, which settles what it says: the channel's four fields and the sounder's two behind the
+-- answer's numbers. Assumes nothing.
+use mathlib.Core.Path.{_≡_, ap}
+use mathlib.Core.List.{List}
+use Prim.Native.Nat.{ℕ}
 use native.Mathlib.Omega.{arith}
 use borrow.Author.Needs.{needs}
-use Rattle.layout.specs.declared.Answer.the-variants.{Accepted}
-use Rattle.intake.specs.Asking.{AskedFor}
-use Rattle.archive.specs.Saying.{head}
-use Rattle.archive.specs.Numbers.{five, askedTold}
+use Rattle.intake.specs.Asking.{askedNumbers, askedFields, AskedFor, asked-settled}
+use Rattle.archive.specs.Saying.{SaidAlone, alone-settled}
+use Rattle.archive.specs.Numbers.{told}
 use Rattle.archive.proofs.Saying.{alone-untold, alone-told}
-use Rattle.archive.proofs.Telling.{told-six}
 use Rattle.archive.proofs.of_files.hac_ask.Statement.{statement}
 use Rattle.archive.proofs.of_files.hac_ask.Tie as tie
 
 returns : tie.Need-returns
 returns c =
     let a = c .before .before .before .args in
-    alone-untold 6 askedTold (AskedFor (a .file .now) (a .place)) (a .answer .now) (c .if1 .taken)
+    alone-untold 6 (told askedNumbers askedFields) (AskedFor (a .file .now) (a .place)) (a .answer .now) (c .if1 .taken)
 
 returns-2 : tie.Need-returns-2
 returns-2 c =
-    let w = c .before .before in
-    let f = w .before .before .before .before .before in
-    let t = f .before .before .before .before .before in
-    let g = t .before .before .before in
+    let t = c .before .before in
+    let g = t .before .before .before .before .before .before in
     let q = g .before .before in
     let a = q .before .before .before .before .args in
-    let l = a .answer .now in
-    alone-told 6 askedTold (AskedFor (a .file .now) (a .place)) l (q .ask .result) _ (t .tell-answer .result) _ (q .before .if1 .left) (omega arith) (q .ask .ensures) (ap askedTold (g .channel .given .1)) (t .tell-answer .ensures .0)
-    (told-six (five (Accepted (g .channel .given .0 .1 .1 .1 .1 .1 .1 .0))) l head _ _ _ _ _ _ refl (t .tell-answer .ensures .1) (f .tell-four .ensures) (w .tell-two .ensures))
+    alone-told 6 (told askedNumbers askedFields) (AskedFor (a .file .now) (a .place)) (a .answer .now) (q .ask .result) _ _ _
+    (q .before .if1 .left) (omega arith) (q .ask .ensures) (ap (told askedNumbers askedFields) (g .channel .given .1))
+    (t .tell-found .ensures .0) (t .tell-found .ensures .1)
 
 returns-3 : tie.Need-returns-3
 returns-3 c =
@@ -35,7 +33,9 @@ returns-3 c =
     let g = t .before .before .before in
     let q = g .before .before in
     let a = q .before .before .before .before .args in
-    alone-told 6 askedTold (AskedFor (a .file .now) (a .place)) (a .answer .now) (q .ask .result) _ (t .tell-refusal .result) _ (q .before .if1 .left) (omega arith) (q .ask .ensures) (ap askedTold (g .code .given .1)) (t .tell-refusal .ensures .0) (t .tell-refusal .ensures .1)
+    alone-told 6 (told askedNumbers askedFields) (AskedFor (a .file .now) (a .place)) (a .answer .now) (q .ask .result) _ _ _
+    (q .before .if1 .left) (omega arith) (q .ask .ensures) (ap (told askedNumbers askedFields) (g .code .given .1))
+    (t .tell-refusal .ensures .0) (t .tell-refusal .ensures .1)
 
 pub hac-ask-spec : {M : Type 1} → statement M
 hac-ask-spec =
@@ -44,11 +44,10 @@ hac-ask-spec =
     returns
     (λ c κs. search needs)
     (λ c. search needs)
-    (λ c κs. search needs)
     (λ c. search needs)
     (λ c. search needs)
     (λ c. search needs)
-    (λ c κs. search needs)
+    (λ c. search needs)
     (λ c. search needs)
     (λ c κs. search needs)
     (λ c. search needs)
@@ -57,3 +56,9 @@ hac-ask-spec =
     returns-2
     (λ c. search needs)
     returns-3)
+
+pub hac-ask-settled : (f : List ℕ) (p : ℕ) (lent : List ℕ) {c d : ℕ} {left right : List ℕ}
+    → SaidAlone 6 (told askedNumbers askedFields) (AskedFor f p) lent c left
+    → SaidAlone 6 (told askedNumbers askedFields) (AskedFor f p) lent d right
+    → (c ≡ d) × (left ≡ right)
+hac-ask-settled f p lent = alone-settled 6 (told askedNumbers askedFields) (AskedFor f p) lent (λ a b x y. asked-settled f p x y)

@@ -1,5 +1,12 @@
--- `archive::of_pings::hac_read_samples` meets its contract. Assumes nothing.
+-- `archive::of_pings::hac_read_samples` meets its contract, which settles what it says and leaves. Assumes nothing.
+use mathlib.Core.Path.{_≡_}
+use mathlib.Core.List.{List}
+use Prim.Native.Nat.{ℕ}
 use borrow.Author.Needs.{needs}
+use lib.IntN.{ℤ}
+use Rattle.layout.specs.declared.Answer.{Answer}
+use Rattle.pings.specs.Readers.{SamplesRead, samples-settled}
+use Rattle.archive.specs.Saying.{Said, said-settled}
 use Rattle.archive.specs.Numbers.{five}
 use Rattle.archive.proofs.Saying.{untold, answer-told}
 use Rattle.archive.proofs.of_pings.hac_read_samples.Statement.{statement}
@@ -12,8 +19,12 @@ returns c =
 
 returns-2 : tie.Need-returns-2
 returns-2 c =
-    let a = c .before .before .before .before .before .before .before .before .before .before .before .before .before .before .args in
-    answer-told _ (a .answer .now) (a .numbers .now, a .values .now) (c .before .before .before .before .before .before .read-samples .result) (c .before .before .tell-answer .result) _ _ (c .before .before .before .before .before .before .before .before .before .before .if1 .left) (c .before .before .before .before .before .before .read-samples .ensures) (c .before .before .tell-answer .ensures)
+    let t = c .before .before in
+    let k = t .before .before .before .before in
+    let e = k .before .before .before .before in
+    let a = e .before .before .before .before .args in
+    answer-told _ (a .answer .now) (a .numbers .now, a .values .now) (k .read-samples .result) _ _ _ (e .if1 .left) (k .read-samples .ensures)
+    (t .tell-answer .ensures)
 
 pub hac-read-samples-spec : {M : Type 1} → statement M
 hac-read-samples-spec =
@@ -26,3 +37,14 @@ hac-read-samples-spec =
     (λ c. search needs)
     (λ c. search needs)
     returns-2)
+
+module _ (f : List ℕ) (p : ℕ) (ns : List ℕ) (vs : List ℤ) (lent : List ℕ) where
+  abbrev promise : Answer → List ℕ × List ℤ → Type 0
+  promise a m = SamplesRead f p ns vs a (m .0) (m .1)
+
+  settled : (x y : List ℕ × List ℤ) (a b : Answer) → promise a x → promise b y → (a ≡ b) × (x ≡ y)
+  settled x y a b p q = let e = samples-settled p q in (e .0, λ i. (e .1 i, e .2 i))
+
+  pub hac-read-samples-settled : {c d : ℕ} {left right : List ℕ} {kept held : List ℕ × List ℤ} → Said 0 five promise lent (ns, vs) c left kept
+      → Said 0 five promise lent (ns, vs) d right held → (c ≡ d) × (left ≡ right) × (kept ≡ held)
+  hac-read-samples-settled {kept = kept} {held = held} = said-settled 0 five promise lent (ns, vs) (settled kept held)
