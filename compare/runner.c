@@ -3,7 +3,9 @@
    given, how many are lent and how many numbers tell the calls; then all these. A call: the export's number in calls.list, how
    many arguments, where in the bytes lent the code that it hands back goes, then the arguments. An argument: its kind, then the
    number, or a slice's place, bytes and entries. The answer: the lent bytes as the calls left them.
-   With any argument each slice is a block of its own, so that a tool that watches the heap sees a step outside of it.
+   With the argument `apart` each slice is a block of its own, so that a tool that watches the heap sees a step outside of it.
+   With `stack` the stack below each call is painted, and where it was altered is looked for; behind the last batch's answer come
+   two numbers for each export: the most bytes that it took where it was accepted, and where it was refused.
    calls.list has the exports, CALL(name) each; tests/calls makes it from include/hac.h. What is needed of the C library is
    declared here, since no C header for x86-64 need be there. */
 
@@ -14,6 +16,7 @@ long write(int descriptor, const void *bytes, word count);
 void *malloc(word count);
 void free(void *block);
 void *memcpy(void *to, const void *from, word count);
+int memcmp(const void *one, const void *other, word count);
 
 /* The most words that an export takes, and the most slices of them; the kinds of argument. */
 enum { WORDS = 24, SLICES = 8 };
@@ -29,17 +32,76 @@ typedef unsigned char export(word, word, word, word, word, word, word, word, wor
 static export *const exports[] = {
 #include "calls.list"
 };
+enum { EXPORTS = sizeof exports / sizeof *exports };
 
 /* An export takes as many of the words as it has parameters: by the C convention the others do no harm. */
-static word call(export *e, const word *a) {
+__attribute__((noinline)) static word call(export *e, const word *a) {
     return e(a[0], a[1], a[2], a[3], a[4], a[5], a[6], a[7], a[8], a[9], a[10], a[11], a[12], a[13], a[14], a[15], a[16], a[17],
              a[18], a[19], a[20], a[21], a[22], a[23]);
 }
 
-/* A batch's memory, and whether slices are blocks of their own. */
+/* ---- the stack
+
+   So many bytes are painted below the caller, and so far below its frame, so that it doesn't paint itself. What the runner does
+   between two calls alters no more than the topmost of them, which are painted again before each call. */
+enum { PAINTED = 192 << 10, BELOW = 512, BETWEEN = 16 << 10 };
+static const word PAINT = 0xC5A3C5A3C5A3C5A3;
+
+/* So many words of it are looked at together: there is much of it. */
+enum { BLOCK = 1024 };
+
+/* The most bytes that each export took, accepted and refused; and from where on the paint isn't whole, none at first. */
+static word most[EXPORTS][2];
+static word *altered;
+
+/* Lets the stack grow to where the paint will be. */
+__attribute__((noinline)) static void grow(void) {
+    volatile char room[PAINTED + BETWEEN];
+    for (word i = sizeof room; i > 0; i--) {
+        room[i - 1] = 0;
+    }
+}
+
+__attribute__((noinline)) static void paint(word *from, const word *end) {
+    for (volatile word *at = from; at < end; at++) {
+        *at = PAINT;
+    }
+}
+
+/* The first word that isn't paint; or the end. In a block of paint each word is the one before it. */
+__attribute__((noinline)) static word *first_altered(word *from, word *end) {
+    while (from < end && *from == PAINT && memcmp(from, from + 1, (BLOCK - 1) * sizeof(word)) == 0) {
+        from += BLOCK;
+    }
+    while (from < end && *from == PAINT) {
+        from++;
+    }
+    return from;
+}
+
+/* Makes a call, and looks how far below this frame it altered the stack. */
+__attribute__((noinline)) static word call_painted(word which, const word *words) {
+    char *frame = __builtin_frame_address(0);
+    word *end = (word *)(((word)frame - BELOW) & -sizeof(word));
+    word *ground = end - PAINTED / sizeof(word), *near = end - BETWEEN / sizeof(word);
+    if (!altered) {
+        altered = ground;
+    }
+    paint(altered < near ? altered : near, end);
+    word answered = call(exports[which], words);
+    __asm__ volatile("" ::: "memory");
+    altered = first_altered(ground, end);
+    word taken = (word)frame - (word)altered, *known = &most[which][answered != 0];
+    *known = taken > *known ? taken : *known;
+    return answered;
+}
+
+/* ---- batches */
+
+/* A batch's memory, whether slices are blocks of their own, and whether the stack is painted. */
 struct batch {
     char *given, *lent;
-    int apart;
+    int apart, painted;
 };
 
 /* A slice: where it lies in the batch's memory, and where the call finds it. */
@@ -90,7 +152,7 @@ static const word *call_next(const word *told, const struct batch *batch) {
     struct call made = {0};
     word which = told[0], count = told[1], code = told[2];
     told += 3;
-    if (which >= sizeof exports / sizeof *exports) {
+    if (which >= EXPORTS) {
         return 0;
     }
     for (word i = 0; i < count; i++) {
@@ -106,7 +168,7 @@ static const word *call_next(const word *told, const struct batch *batch) {
             return 0;
         }
     }
-    word answered = call(exports[which], made.words);
+    word answered = batch->painted ? call_painted(which, made.words) : call(exports[which], made.words);
     give_back(&made, batch);
     memcpy(batch->lent + code, &answered, sizeof answered);
     return told;
@@ -138,13 +200,13 @@ static int write_all(const char *bytes, word count) {
 }
 
 /* Reads a batch's bytes into its memory, makes its calls and answers; 0 where one of these fails. */
-static int run_batch(char *memory, const word *head, int apart) {
+static int run_batch(char *memory, const word *head, int apart, int painted) {
     word given = head[0], lent = head[1], numbers = head[2];
     word total = given + lent + numbers * sizeof(word);
     if (read_all(memory, total) != total) {
         return 0;
     }
-    struct batch batch = {memory, memory + given, apart};
+    struct batch batch = {memory, memory + given, apart, painted};
     const word *told = (const word *)(memory + given + lent), *end = told + numbers;
     while (told && told < end) {
         told = call_next(told, &batch);
@@ -154,13 +216,19 @@ static int run_batch(char *memory, const word *head, int apart) {
 
 int main(int arguments, char **told) {
     word head[3], had;
-    (void)told;
+    int apart = arguments > 1 && told[1][0] == 'a', painted = arguments > 1 && told[1][0] == 's';
+    if (painted) {
+        grow();
+    }
     while ((had = read_all(head, sizeof head)) == sizeof head) {
         char *memory = malloc(head[0] + head[1] + head[2] * sizeof(word));
-        if (!memory || !run_batch(memory, head, arguments > 1)) {
+        if (!memory || !run_batch(memory, head, apart, painted)) {
             return 1;
         }
         free(memory);
+    }
+    if (painted && !write_all((const char *)most, sizeof most)) {
+        return 1;
     }
     return had != 0;
 }

@@ -58,9 +58,11 @@ fn of_header(header: &Header) -> String {
     for call in &header.calls {
         text.push_str(&wrapper(call));
     }
+    text.push_str("\n#[allow(dead_code)]\nmod numbers {\n");
     for (name, number) in &header.constants {
-        text.push_str(&format!("\npub(crate) const {name}: usize = {number};\n"));
+        text.push_str(&format!("    pub(crate) const {name}: usize = {number};\n"));
     }
+    text.push_str("}\n\npub(crate) use numbers::*;\n");
     text
 }
 

@@ -13,7 +13,7 @@
    - No pointer may be null, even where the length is 0. Lent memory must not overlap anything else that is handed over.
    - Calls share nothing: any number of threads may call at once.
 
-   An example: the heading of each navigation tuple of a file, and each of them written anew, facing the other way.
+   An example: the heading of each navigation tuple of a file, and each of them written anew to `out`, its heading turned round.
 
        uint64_t answer[HAC_READ_RECORD_ENTRIES], step[HAC_FORWARD_ENTRIES];
        uint32_t numbers[HAC_NAVIGATION_NUMBERS];

@@ -1,14 +1,13 @@
 //! Times the check and the normal form of deposits of 16 MiB, of short pings on
 //! many channels and of small files, the proved library's beside the second
-//! program's and beside a plain copy of the same bytes, in one run; with `count`,
-//! counts the instructions of the same calls, but for the short pings; with
-//! `stack`, measures the library's stack. docs/SPEED.md says what was measured,
-//! and how.
+//! program's and beside a plain copy of the same bytes, and reading one record, in
+//! one run; with `records`, the last alone; with `count`, counts the instructions of
+//! the calls on deposits, but for the short pings. docs/SPEED.md says what was
+//! measured, and how.
 
 mod count;
 mod deposits;
-mod limits;
-mod stack;
+mod records;
 
 use deposits::Deposit;
 use hac::{Refusal, FILE_LIMIT};
@@ -151,7 +150,8 @@ fn table(unit: &Unit, deposits: Result<Vec<Deposit>, Refusal>) -> Result<(), Str
 fn speeds() -> Result<(), String> {
     table(&SPEED, deposits::long())?;
     table(&PER_TUPLE, deposits::linked())?;
-    table(&PER_CALL, deposits::small())
+    table(&PER_CALL, deposits::small())?;
+    records::show()
 }
 
 fn main() -> Result<(), String> {
@@ -161,7 +161,7 @@ fn main() -> Result<(), String> {
         [] => speeds(),
         ["count"] => count::show(),
         ["once", call, path] => count::once(call, path),
-        ["stack"] => stack::show(),
-        _ => Err(format!("bench [count | stack], not {}", words.join(" "))),
+        ["records"] => records::show(),
+        _ => Err(format!("bench [count | records], not {}", words.join(" "))),
     }
 }

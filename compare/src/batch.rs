@@ -361,11 +361,15 @@ impl Batch {
         }
     }
 
-    /// Ends the runner. It must have met no fault.
+    /// Ends the runner. It must have met no fault. What it tells in the end is the stack
+    /// of each export, where that is measured.
     pub fn finish(&mut self) {
-        if let Err(error) = self.runner.finish() {
-            self.about = "the runner".to_string();
-            self.differ(&error.to_string());
+        match self.runner.finish() {
+            Ok(told) => self.total.measured(&told),
+            Err(error) => {
+                self.about = "the runner".to_string();
+                self.differ(&error.to_string());
+            }
         }
     }
 

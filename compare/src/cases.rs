@@ -1,7 +1,7 @@
 //! The cases of a seed: of one in so many all is compared, of the others little.
 
 use crate::batch::Batch;
-use crate::files::{self, compare_file, compare_whole};
+use crate::files::{self, compare_file, compare_whole, Places};
 use crate::pings::{self, compare_limit_pings, compare_pings};
 use crate::records::{self, compare_long_texts, compare_records};
 use crate::tally::Given;
@@ -40,9 +40,16 @@ pub fn complete() -> u64 {
     TURN * (limit_count() + big_limit_count()) as u64
 }
 
+/// A case in full, at fewer places of its files.
+pub fn measure_case(batch: &mut Batch, seed: u64, nth: u64) -> io::Result<()> {
+    full_case(batch, seed, nth, Places::OfTuples)?;
+    batch.end_case();
+    Ok(())
+}
+
 /// A case in full, of so many, and the light ones behind it.
 pub fn compare_cases(batch: &mut Batch, seed: u64, nth: u64, full: u64) -> io::Result<()> {
-    full_case(batch, seed, nth)?;
+    full_case(batch, seed, nth, Places::All)?;
     batch.end_case();
     for light in LIGHT * nth..LIGHT * (nth + 1) {
         let index = full.next_multiple_of(TURN) + light_index(light);
@@ -60,10 +67,10 @@ fn light_index(light: u64) -> u64 {
 }
 
 /// The files of a case, and every writer.
-fn full_case(batch: &mut Batch, seed: u64, index: u64) -> io::Result<()> {
+fn full_case(batch: &mut Batch, seed: u64, index: u64, places: Places) -> io::Result<()> {
     let mut rng = Rng::of_case(seed ^ WRITERS, index);
     compare_files(batch, seed, index, |batch, case| {
-        compare_file(batch, case, &mut rng)
+        compare_file(batch, case, places, &mut rng)
     })?;
     batch.about = format!("seed {seed}, case {index}, writers");
     for _ in 0..WRITES {

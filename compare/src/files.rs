@@ -164,8 +164,22 @@ fn each_ping(batch: &mut Batch, file: &mut File, tuples: &[u64]) -> io::Result<(
     Ok(())
 }
 
+/// Where a file is read.
+#[derive(Clone, Copy, PartialEq, Eq)]
+pub enum Places {
+    /// At every place of a small file, of a larger one at each tuple's and those beside.
+    All,
+    /// At each tuple's, and at some where none starts.
+    OfTuples,
+}
+
 /// All comparisons of a file. Gives its normal form, where it has one.
-pub fn compare_file(batch: &mut Batch, case: &Case, rng: &mut Rng) -> io::Result<Option<Vec<u8>>> {
+pub fn compare_file(
+    batch: &mut Batch,
+    case: &Case,
+    places: Places,
+    rng: &mut Rng,
+) -> io::Result<Option<Vec<u8>>> {
     let mut file = File::new(&case.bytes);
     check_file(batch, &mut file, case.expected);
     let tuples = walk_both(batch, &mut file)?;
@@ -173,7 +187,7 @@ pub fn compare_file(batch: &mut Batch, case: &Case, rng: &mut Rng) -> io::Result
         each_ping(batch, &mut file, &tuples)?;
     }
     let tuples = some_of(tuples);
-    let places = places(file.bytes, &tuples);
+    let places = places.of(file.bytes, &tuples);
     for place in &places {
         read_at(batch, &mut file, *place);
         batch.rest()?;
@@ -247,23 +261,27 @@ fn backward_at(batch: &mut Batch, file: &mut File, place: u64) -> Step {
     step
 }
 
-/// Every place of a small file; of a larger one each tuple's and those beside.
-fn places(file: &[u8], tuples: &[u64]) -> Vec<u64> {
-    let end = file.len() as u64;
-    let mut places: Vec<u64> = HUGE.to_vec();
-    if file.len() <= SMALL {
-        places.extend(0..=end + PAST);
-        return places;
-    }
-    for at in tuples.iter().copied().chain([0, FIRST, end]) {
-        for beside in BESIDE {
-            places.push(at + beside);
-            places.push(at.saturating_sub(beside));
+impl Places {
+    fn of(self, file: &[u8], tuples: &[u64]) -> Vec<u64> {
+        let end = file.len() as u64;
+        let mut places: Vec<u64> = HUGE.to_vec();
+        let starts = tuples.iter().copied().chain([0, FIRST, end]);
+        if self == Places::OfTuples {
+            places.extend(starts);
+        } else if file.len() <= SMALL {
+            places.extend(0..=end + PAST);
+        } else {
+            for at in starts {
+                for beside in BESIDE {
+                    places.push(at + beside);
+                    places.push(at.saturating_sub(beside));
+                }
+            }
         }
+        places.sort_unstable();
+        places.dedup();
+        places
     }
-    places.sort_unstable();
-    places.dedup();
-    places
 }
 
 /// The places asked at: all or some of those read at, by the file's length,

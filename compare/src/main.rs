@@ -3,8 +3,10 @@
 //! starts the runner. Ends with status 1 where a code handed back, an entry
 //! or a byte of lent memory differs, where the runner ends with a fault, where
 //! an export gives a code that it can't give and, of cases enough, where something
-//! that must be met was not. `compare calls` prints the list that the runner is
-//! made of.
+//! that must be met was not. `compare stack SEED CASES RUNNER..` compares those of the
+//! cases that are compared in full, at fewer places, with a runner that measures the
+//! stack; it fails where a call takes too much, and not where something was not met.
+//! `compare calls` prints the list that the runner is made of.
 
 mod answers;
 mod batch;
@@ -21,7 +23,7 @@ mod tally;
 mod writing;
 
 use batch::Batch;
-use cases::{compare_cases, complete, full_cases, given};
+use cases::{compare_cases, complete, full_cases, given, measure_case};
 use runner::Runner;
 use std::sync::atomic::{AtomicU64, Ordering};
 use std::time::Instant;
@@ -32,8 +34,19 @@ use tally::Tally;
 struct Job<'a> {
     seed: u64,
     full: u64,
+    /// The stack is measured, of these alone.
+    stack: bool,
     next: AtomicU64,
     command: &'a [String],
+}
+
+impl Job<'_> {
+    fn compare(&self, batch: &mut Batch, nth: u64) -> io::Result<()> {
+        match self.stack {
+            true => measure_case(batch, self.seed, nth),
+            false => compare_cases(batch, self.seed, nth, self.full),
+        }
+    }
 }
 
 /// What a worker found, and the first difference.
@@ -47,7 +60,7 @@ fn work(job: &Job) -> io::Result<Found> {
         if nth >= job.full {
             break;
         }
-        if let Err(error) = compare_cases(&mut batch, job.seed, nth, job.full) {
+        if let Err(error) = job.compare(&mut batch, nth) {
             batch.differ(&format!("the runner broke off: {error}"));
         }
     }
@@ -86,19 +99,29 @@ fn report(job: &Job, found: &[Found], seconds: u64) -> bool {
     for line in tally.tell() {
         println!("compare: {line}");
     }
-    let given = given();
-    let unsaid = tally.unsaid(&given);
-    let missing = tally.missing(&given);
-    for line in unsaid.iter().chain(&missing) {
-        println!("compare: {line}");
+    let mut wrong = tally.unsaid(&given());
+    if job.stack {
+        let (lines, too_deep) = tally.tell_stack();
+        for line in lines {
+            println!("stack: {line}");
+        }
+        wrong.extend(too_deep);
+    } else {
+        let missing = tally.missing(&given());
+        if job.full >= complete() {
+            wrong.extend(missing);
+        } else {
+            for line in missing {
+                println!("compare: {line}, which is no failure of so few cases");
+            }
+        }
     }
-    let enough = job.full >= complete();
-    if !enough && !missing.is_empty() {
-        println!("compare: that something was not met is no failure of so few cases");
+    for line in &wrong {
+        println!("compare: FAILED: {line}");
     }
     let verdict = if same { "the same" } else { "DIFFERENT" };
     println!("compare: seed {}, {verdict} ({seconds} s)", job.seed);
-    same && unsaid.is_empty() && (missing.is_empty() || !enough)
+    same && wrong.is_empty()
 }
 
 fn main() -> io::Result<()> {
@@ -107,7 +130,11 @@ fn main() -> io::Result<()> {
         print!("{}", exports::list());
         return Ok(());
     }
-    let [seed, cases, command @ ..] = &arguments[..] else {
+    let (stack, arguments) = match arguments.split_first() {
+        Some((first, rest)) if first == "stack" => (true, rest),
+        _ => (false, &arguments[..]),
+    };
+    let [seed, cases, command @ ..] = arguments else {
         usage()
     };
     let (Ok(seed), Ok(cases)) = (seed.parse(), cases.parse()) else {
@@ -116,6 +143,7 @@ fn main() -> io::Result<()> {
     let job = Job {
         seed,
         full: full_cases(cases),
+        stack,
         next: AtomicU64::new(0),
         command,
     };
@@ -126,6 +154,6 @@ fn main() -> io::Result<()> {
 }
 
 fn usage() -> ! {
-    eprintln!("usage: compare SEED CASES RUNNER.., or compare calls");
+    eprintln!("usage: compare [stack] SEED CASES RUNNER.., or compare calls");
     process::exit(2)
 }

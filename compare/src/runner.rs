@@ -49,14 +49,20 @@ impl Runner {
         self.output.read_exact(back)
     }
 
-    /// Ends it in order. A tool that watches it tells by the status that it met a fault.
-    pub fn finish(&mut self) -> io::Result<()> {
+    /// Ends it in order, and gives the numbers that it tells behind its last answer. A
+    /// tool that watches it tells by the status that it met a fault.
+    pub fn finish(&mut self) -> io::Result<Vec<u64>> {
         self.input = None;
+        let mut told = Vec::new();
+        self.output.read_to_end(&mut told)?;
         let status = self.child.wait()?;
-        if status.success() {
-            Ok(())
-        } else {
-            Err(io::Error::other(format!("it ended with {status}")))
+        if !status.success() {
+            return Err(io::Error::other(format!("it ended with {status}")));
+        }
+        let (words, rest) = told.as_chunks();
+        match rest.is_empty() {
+            true => Ok(words.iter().map(|word| u64::from_le_bytes(*word)).collect()),
+            false => Err(io::Error::other("it ended within a number")),
         }
     }
 }

@@ -14,6 +14,10 @@ const CODES: usize = 26;
 /// that searches among many were added up.
 const FEW_COMPARED: u64 = CHANNEL_LIMIT as u64;
 
+/// The most bytes of stack that a call may take: the stack of the small machine on the
+/// quay.
+const MOST_STACK: u64 = 96 << 10;
+
 /// What an export can give, and so must: said by the module that compares it.
 #[derive(Clone, Copy)]
 pub struct Given {
@@ -102,6 +106,9 @@ pub struct Tally {
     exports: Vec<Count>,
     /// Of each record how often it was read, and how often it was written.
     records: BTreeMap<&'static str, [u64; 2]>,
+    /// The most bytes of stack that each export took, accepted and refused; 0 where that
+    /// isn't measured.
+    stack: Vec<[u64; 2]>,
     /// In the order of `Order::BOTH`.
     marked: [Marked; 2],
     pub cases: u64,
@@ -114,6 +121,7 @@ impl Default for Tally {
         Tally {
             exports: vec![Count::default(); EXPORTS.len()],
             records: BTreeMap::new(),
+            stack: vec![[0; 2]; EXPORTS.len()],
             marked: Default::default(),
             cases: 0,
             files: 0,
@@ -144,6 +152,18 @@ impl Tally {
         self.records.entry(record).or_default()[usize::from(written)] += 1;
     }
 
+    /// Takes in what a runner measured: two numbers an export, or none.
+    pub fn measured(&mut self, told: &[u64]) {
+        let (pairs, _) = told.as_chunks();
+        self.add_stack(pairs);
+    }
+
+    fn add_stack(&mut self, other: &[[u64; 2]]) {
+        for (most, bytes) in self.stack.iter_mut().zip(other) {
+            *most = [most[0].max(bytes[0]), most[1].max(bytes[1])];
+        }
+    }
+
     pub fn file(&mut self, file: &[u8]) {
         let length = file.len() as u64;
         self.files += 1;
@@ -163,6 +183,7 @@ impl Tally {
         for (sum, count) in self.exports.iter_mut().zip(&other.exports) {
             sum.add(count);
         }
+        self.add_stack(&other.stack);
         for (record, [read, written]) in &other.records {
             let sum = self.records.entry(record).or_default();
             sum[0] += read;
@@ -206,6 +227,29 @@ impl Tally {
         let told: Vec<String> = told.collect();
         lines.push(format!("records read, written: {}", told.join("; ")));
         lines
+    }
+
+    /// The stack of each export, a line each; and what is wrong with it.
+    pub fn tell_stack(&self) -> (Vec<String>, Vec<String>) {
+        let mut lines = vec![format!("{:16} {:>8} {:>8}", "call", "accepted", "refused")];
+        let mut wrong = Vec::new();
+        for (export, most) in EXPORTS.iter().zip(&self.stack) {
+            let [accepted, refused] = most;
+            lines.push(format!("{:16} {accepted:>8} {refused:>8}", export.name));
+            if most.contains(&0) {
+                wrong.push(format!(
+                    "{} was never accepted, or never refused",
+                    export.name
+                ));
+            }
+            if most.iter().any(|bytes| *bytes > MOST_STACK) {
+                wrong.push(format!(
+                    "{} takes more than {MOST_STACK} bytes of stack",
+                    export.name
+                ));
+            }
+        }
+        (lines, wrong)
     }
 
     /// What is wrong however many cases there were: exports that nobody says what they

@@ -30,8 +30,9 @@ fn answered<const ENTRIES: usize>(call: impl FnOnce(*mut u64, usize) -> u8) -> A
     }
 }
 
-/// What is made: the declarations, a call each, and the numbers.
-#[allow(dead_code)]
+/// What is made: the declarations, a call each, and the numbers. A call that this crate
+/// doesn't offer is an error.
+#[deny(dead_code)]
 mod made {
     use super::{answered, Answer};
 

@@ -203,11 +203,26 @@ fn check_answers() {
         ("25, run instead of the 32,765th", six(&[&words(1, 32_765, &many("0000ffff")), END]), 25, 308),
         // 23 has the number's place: pairs stand from 284 + 24 on
         ("23", six(&[&pairs(1, "05000000 00000000 05000000 00000000"), END]), 23, 316),
-        ("23, the first of two", six(&[&pairs(1, "05000000 00000000 06000000 00000000 06000000 00000000 01000000 00000000"), END]), 23, 324),
+        (
+            "23, the first of two",
+            six(&[&pairs(1, "05000000 00000000 06000000 00000000 06000000 00000000 01000000 00000000"), END]),
+            23,
+            324,
+        ),
         // the tuples are judged in file order
-        ("23 of an earlier tuple before 5", six(&[&pairs(1, "05000000 00000000 05000000 00000000"), "01000000 feff 0000 00000000 0000 0000"]), 23, 316),
+        (
+            "23 of an earlier tuple before 5",
+            six(&[&pairs(1, "05000000 00000000 05000000 00000000"), "01000000 feff 0000 00000000 0000 0000"]),
+            23,
+            316,
+        ),
         ("25 of an earlier tuple before 24", six(&[&words(1, 7, "01000000"), &words(1, 1, "0000ff7f"), END]), 25, 308),
-        ("24 of an earlier tuple before 23", six(&[&words(1, 1, "0000ff7f"), &pairs(1, "05000000 00000000 05000000 00000000"), END]), 24, 312),
+        (
+            "24 of an earlier tuple before 23",
+            six(&[&words(1, 1, "0000ff7f"), &pairs(1, "05000000 00000000 05000000 00000000"), END]),
+            24,
+            312,
+        ),
         ("13 of an earlier tuple before 7", six(&[&ping(2), SIGNATURE]), 13, 284),
         ("13, declared later", six(&[&ping(2), &channel(2, 1), END]), 13, 284),
         ("8 before all behind it", file(&[strange_signature, POSITION, SIGNATURE]), 8, 4),
@@ -221,8 +236,18 @@ fn check_answers() {
         // 16 before 17
         ("16 before 17", file(&[SIGNATURE, &sounder(3, 1), END]), 16, 124),
         ("17", file(&[SIGNATURE, &sounder(3, 1), &channel(1, 1), POSITION, &ping(1), END]), 17, 28),
-        ("17, the first of two", file(&[SIGNATURE, &sounder(1, 1), &sounder(1, 7), &channel(1, 1), &sounder(2, 3), POSITION, &ping(1), END]), 17, 100),
-        ("17 though the other is right", file(&[SIGNATURE, &sounder(0, 1), &channel(1, 1), &sounder(0, 2), POSITION, &ping(1), END]), 17, 28),
+        (
+            "17, the first of two",
+            file(&[SIGNATURE, &sounder(1, 1), &sounder(1, 7), &channel(1, 1), &sounder(2, 3), POSITION, &ping(1), END]),
+            17,
+            100,
+        ),
+        (
+            "17 though the other is right",
+            file(&[SIGNATURE, &sounder(0, 1), &channel(1, 1), &sounder(0, 2), POSITION, &ping(1), END]),
+            17,
+            28,
+        ),
         // an unlisted tuple breaks none of this
         ("private", six(&[private, END]), 0, 0),
     ];

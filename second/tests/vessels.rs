@@ -180,7 +180,11 @@ fn comparisons_by_hand() {
         ("an attitude for all before any channel", [&[Attitude(ALL)], &two[..], &[Ping(5)]].concat(), 1 + 1 + 1),
         ("an attitude for all, and channel 65535", [&all[..], &[Ping(5), Attitude(ALL)]].concat(), 1 + 1 + 2),
         ("a ping and a threshold of channel 65535", [&all[..], &[Ping(ALL), Threshold(ALL)]].concat(), 1 + 1 + 1 + 1),
-        ("declared behind a search", [&one[..], &[Ping(5), Sounder(3, 0), Sounder(4, 1), Channel(2, 4), Ping(5), Ping(2)]].concat(), 1 + 1 + 3 + 1 + 2),
+        (
+            "declared behind a search",
+            [&one[..], &[Ping(5), Sounder(3, 0), Sounder(4, 1), Channel(2, 4), Ping(5), Ping(2)]].concat(),
+            1 + 1 + 3 + 1 + 2,
+        ),
         ("the same ping again", [&two[..], &[Ping(6), Ping(6), Silent(6)]].concat(), 1 + 1 + 2 + 2 + 2),
         // 5 as a document, and sounder 6 not to be taken for channel 6
         ("a number of both kinds", vec![Sounder(6, 0), Sounder(5, 2), Channel(5, 5), Channel(6, 5), Ping(6)], 2 + 2 + 2),
