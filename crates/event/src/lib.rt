@@ -59,7 +59,7 @@ impl Event {
         Event {
             time_fraction: order::read2(file, place + Event::TIME_FRACTION, msb),
             time_cpu: order::read4(file, place + Event::TIME_CPU, msb),
-            tuple_attribute: tuples::signed4_at(file, place + whole - tuples::TAIL, msb),
+            tuple_attribute: tuples::signed4_at(file, place + whole - frame::TAIL, msb),
         }
     }
 
@@ -77,7 +77,7 @@ impl Event {
                 record: Event::at(file, place, whole, msb),
                 text: Part {
                     place: place + Event::TEXT,
-                    length: whole - tuples::TAIL - Event::TEXT,
+                    length: whole - frame::TAIL - Event::TEXT,
                 },
             },
         }

@@ -63,7 +63,7 @@ impl FileEnd {
             time_fraction: order::read2(file, place + FileEnd::TIME_FRACTION, msb),
             time_cpu: order::read4(file, place + FileEnd::TIME_CPU, msb),
             closing_mode: order::read2(file, place + FileEnd::CLOSING_MODE, msb),
-            tuple_attribute: tuples::signed4_at(file, place + whole - tuples::TAIL, msb),
+            tuple_attribute: tuples::signed4_at(file, place + whole - frame::TAIL, msb),
         }
     }
 
@@ -81,7 +81,7 @@ impl FileEnd {
                 record: FileEnd::at(file, place, whole, msb),
                 data: Part {
                     place: place + FileEnd::DATA,
-                    length: whole - tuples::TAIL - FileEnd::DATA,
+                    length: whole - frame::TAIL - FileEnd::DATA,
                 },
             },
         }

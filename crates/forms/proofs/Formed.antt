@@ -20,6 +20,7 @@ use Rattle.layout.proofs.Verdicts.{both-left, both-right, passes, judged-append
 use Rattle.turning.specs.Rows.{valuesOf, encode, turnedField, turned}
 use Rattle.turning.proofs.Contents.{turned-encode, length-turned}
 use Rattle.frame.specs.Frames.{Tup, lengthOf, frame, frames}
+use Rattle.frame.specs.inner.Framing.{openBytes, openingBytes, closeBytes}
 use Rattle.frame.proofs.Frames.{length-frame}
 use Rattle.rules.proofs.Bools.{both-true}
 use Rattle.samples.specs.Words.{Sample, unwords, pairUp, unpair}
@@ -35,7 +36,7 @@ use Rattle.content.specs.Forms.{encodeBy, tupleU, pingForm, formOf, formsOf, fo
 use Rattle.content.proofs.Fine.{head-length, inner-was, upward-least}
 use Rattle.content.proofs.Plain.{encode-any}
 use Rattle.intake.specs.inner.Tallies.{ownVerdict}
-use Rattle.forms.specs.inner.Parts.{frontBytes, openingBytes, closingBytes, silence}
+use Rattle.forms.specs.inner.Parts.{silence}
 
 -- ---- how many words a ping's data hold, and how many values words do
 length-in : (a : ℕ) (o : Bool) (d : List ℕ) → a + 4 ≤ length d → length (wordsIn a o d) ≡ (length d - (a + 4)) / 4
@@ -103,11 +104,11 @@ regroup s k h m a b = simp append-assoc
 
 -- bytes that are a form of n bytes and type k, of fields h, characters or samples m and attribute a
 pub record Parts (bytes : List ℕ) (n k : ℕ) (h m : List ℕ) (a : ℕ) : Type 0 where
-  pub are : bytes ≡ openingBytes n k h ++ (m ++ closingBytes n a)
+  pub are : bytes ≡ openingBytes false n k h ++ (m ++ closeBytes false n a)
   pub long : length bytes ≡ n
 
 parted : (bytes : List ℕ) (n k : ℕ) (h m : List ℕ) (a : ℕ) → bytes ≡ frame false (record { kind = k; body = h ++ (m ++ bytesOf false 4 a) }) → length h + length m + 14 ≡ n → Parts bytes n k h m a
-unfolding frame frontBytes openingBytes closingBytes
+unfolding frame openBytes openingBytes closeBytes
 parted bytes n k h m a e l =
     let b = h ++ (m ++ bytesOf false 4 a) in
     let whole : length b + 10 ≡ n = omega (arith, length-append h (m ++ bytesOf false 4 a), length-append m (bytesOf false 4 a), length-bytesOf false 4 a) in

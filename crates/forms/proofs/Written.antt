@@ -15,6 +15,7 @@ use Rattle.layout.specs.Types.{row, unlisted, shapeOf, placeIn, pingRow}
 use Rattle.turning.specs.Rows.{turned}
 use Rattle.turning.proofs.Contents.{within-take, turned-take, length-turned}
 use Rattle.frame.specs.Frames.{Tup, frame, sizeAt, tupAt}
+use Rattle.frame.specs.inner.Framing.{openBytes, openingBytes, closeBytes}
 use Rattle.frame.proofs.Frames.{allowed-4, allowed-most}
 use Rattle.frame.proofs.Places.{body-place}
 use Rattle.samples.specs.Words.{allWords, unwords, unpair}
@@ -25,15 +26,15 @@ use Rattle.content.specs.Pings.{wordsIn, attributeIn, contentC}
 use Rattle.content.specs.Forms.{formBytes}
 use Rattle.content.proofs.Places.{fieldAt, length-body}
 use Rattle.forms.specs.inner.Sound.{SoundHere}
-use Rattle.forms.specs.inner.Parts.{frontBytes, openingBytes, closingBytes, silence, listedFields}
+use Rattle.forms.specs.inner.Parts.{silence, listedFields}
 use Rattle.forms.proofs.Formed.{last-four, form-raw, least-row, parts-row, parts-U, parts-C, parts-silent}
 use Rattle.forms.proofs.Placed.{there, shape-of, size-of, pairs-shape, long-pairs, words-shape, long-words, count-of}
 use Rattle.forms.proofs.Texts.{ping-fields}
 use Rattle.forms.proofs.Stored.{length-silence, closed, enclosed}
 
 -- the frame of a type and data
-raw-frame : (k : ℕ) (d : List ℕ) → frame false (record { kind = k; body = d }) ≡ frontBytes (length d + 10) k ++ (d ++ bytesOf false 4 (length d + 10))
-unfolding frame frontBytes
+raw-frame : (k : ℕ) (d : List ℕ) → frame false (record { kind = k; body = d }) ≡ openBytes false (length d + 10) k ++ (d ++ bytesOf false 4 (length d + 10))
+unfolding frame openBytes
 raw-frame k d =
     let z : length d ≡ length d + 10 - 10 = omega arith in
     ap (λ (i : ℕ). bytesOf false 4 i ++ (bytesOf false 2 k ++ (d ++ bytesOf false 4 (length d + 10)))) z
@@ -86,27 +87,27 @@ module _ {o : Bool} {f : List ℕ} {at n k : ℕ} (s : SoundHere o f at n k) whe
 
   -- ---- its form by parts h, m and the attribute, each by its place
   moved : {i j c e : ℕ} {h g m l : List ℕ} → i ≡ j → c ≡ e → h ≡ g → m ≡ l
-      → formBytes o t ≡ openingBytes i c h ++ (m ++ closingBytes i (attributeIn o (t .body)))
-      → formBytes o t ≡ openingBytes j e g ++ (l ++ closingBytes j (numOf o (take 4 (drop (at + (n - 8)) f))))
+      → formBytes o t ≡ openingBytes false i c h ++ (m ++ closeBytes false i (attributeIn o (t .body)))
+      → formBytes o t ≡ openingBytes false j e g ++ (l ++ closeBytes false j (numOf o (take 4 (drop (at + (n - 8)) f))))
   moved {i} {j} {c} {e} {h} {g} {m} {l} x y z w b =
       b
-      ∙ ap₂ (λ (i c : ℕ). openingBytes i c h ++ (m ++ closingBytes i (attributeIn o (t .body)))) x y
-      ∙ ap₂ (λ (h m : List ℕ). openingBytes j e h ++ (m ++ closingBytes j (attributeIn o (t .body)))) z w
-      ∙ ap (λ (a : ℕ). openingBytes j e g ++ (l ++ closingBytes j a)) attribute-place
+      ∙ ap₂ (λ (i c : ℕ). openingBytes false i c h ++ (m ++ closeBytes false i (attributeIn o (t .body)))) x y
+      ∙ ap₂ (λ (h m : List ℕ). openingBytes false j e h ++ (m ++ closeBytes false j (attributeIn o (t .body)))) z w
+      ∙ ap (λ (a : ℕ). openingBytes false j e g ++ (l ++ closeBytes false j a)) attribute-place
 
   module _ (out left : List ℕ) (to : ℕ) where
     -- j bytes of type e: the fields h, at p the rest m, at q attribute and backlink
     stored : (j e : ℕ) (h m : List ℕ) (p q : ℕ) → p ≡ to + 6 + length h → q ≡ p + length m
-        → formBytes o t ≡ openingBytes j e h ++ (m ++ closingBytes j (numOf o (take 4 (drop (at + (n - 8)) f))))
-        → left ≡ sets (sets (sets out to (openingBytes j e h)) p m) q (closingBytes j (numOf o (take 4 (drop (at + (n - 8)) f))))
+        → formBytes o t ≡ openingBytes false j e h ++ (m ++ closeBytes false j (numOf o (take 4 (drop (at + (n - 8)) f))))
+        → left ≡ sets (sets (sets out to (openingBytes false j e h)) p m) q (closeBytes false j (numOf o (take 4 (drop (at + (n - 8)) f))))
         → left ≡ sets out to (formBytes o (tupAt o (drop at f)))
     stored j e h m p q x y b w = w ∙ closed out to j e h m _ p q x y ∙ ap (sets out to) (sym b)
 
     -- a row, its characters at `text`
     pub row-written : (fs : List Field) (x : Option ℕ) → shapeOf k ≡ row fs x → (gs : List Field) → gs ≡ fs → (text : ℕ) → text ≡ 6 + size fs
         → left
-        ≡ sets (sets (sets out to (openingBytes n k (turned o gs (drop (at + 6) f)))) (to + text) (take (n - 8 - text) (drop (at + text) f))) (to + (n - 8))
-        (closingBytes n (numOf o (take 4 (drop (at + (n - 8)) f))))
+        ≡ sets (sets (sets out to (openingBytes false n k (turned o gs (drop (at + 6) f)))) (to + text) (take (n - 8 - text) (drop (at + text) f))) (to + (n - 8))
+        (closeBytes false n (numOf o (take 4 (drop (at + (n - 8)) f))))
         → left ≡ sets out to (formBytes o (tupAt o (drop at f)))
     row-written fs x e gs g text z w =
         let shape = shape-of s ∙ e in
@@ -123,10 +124,10 @@ module _ {o : Bool} {f : List ℕ} {at n k : ℕ} (s : SoundHere o f at n k) whe
         ∙ ap (λ (i : ℕ). take (n - 8 - text) (drop (at + i) f)) (sym z) in
         stored n k head mid (to + text) (to + (n - 8)) (omega (arith, length-turned o fs (drop (at + 6) f) room)) (omega (arith, length-take-le (n - 8 - text) (drop (at + text) f) rest))
         (moved (size-of s) (s .here .kind) (fields-place fs (omega arith)) middle (parts-row o t (s .own) fs x shape .are))
-        (w ∙ ap (λ (us : List Field). sets (sets (sets out to (openingBytes n k (turned o us (drop (at + 6) f)))) (to + text) mid) (to + (n - 8)) (closingBytes n (numOf o (take 4 (drop (at + (n - 8)) f))))) g)
+        (w ∙ ap (λ (us : List Field). sets (sets (sets out to (openingBytes false n k (turned o us (drop (at + 6) f)))) (to + text) mid) (to + (n - 8)) (closeBytes false n (numOf o (take 4 (drop (at + (n - 8)) f))))) g)
 
     -- an unlisted tuple
-    pub raw-written : shapeOf k ≡ unlisted → left ≡ sets (sets (sets out to (frontBytes n k)) (to + 6) (take (n - 10) (drop (at + 6) f))) (to + n - 4) (bytesOf false 4 n)
+    pub raw-written : shapeOf k ≡ unlisted → left ≡ sets (sets (sets out to (openBytes false n k)) (to + 6) (take (n - 10) (drop (at + 6) f))) (to + n - 4) (bytesOf false 4 n)
         → left ≡ sets out to (formBytes o (tupAt o (drop at f)))
     raw-written e w =
         let d = take (n - 10) (drop (at + 6) f) in
@@ -136,30 +137,30 @@ module _ {o : Bool} {f : List ℕ} {at n k : ℕ} (s : SoundHere o f at n k) whe
         let fit : length d ≡ n - 10 = ap length (sym body) ∙ size-body in
         w
         ∙ enclosed out to n k d (to + n - 4) (omega arith)
-        ∙ ap (sets out to) (sym (form-raw o t (shape-of s ∙ e) ∙ raw-frame (t .kind) (t .body) ∙ ap₂ (λ (c : ℕ) (b : List ℕ). frontBytes (length b + 10) c ++ (b ++ bytesOf false 4 (length b + 10))) (s .here .kind) body
-        ∙ ap (λ (i : ℕ). frontBytes i k ++ (d ++ bytesOf false 4 i)) (omega arith)))
+        ∙ ap (sets out to) (sym (form-raw o t (shape-of s ∙ e) ∙ raw-frame (t .kind) (t .body) ∙ ap₂ (λ (c : ℕ) (b : List ℕ). openBytes false (length b + 10) c ++ (b ++ bytesOf false 4 (length b + 10))) (s .here .kind) body
+        ∙ ap (λ (i : ℕ). openBytes false i k ++ (d ++ bytesOf false 4 i)) (omega arith)))
 
     -- a ping of either kind: its header has 18 bytes
     module _ (long : 40 ≤ n) where
       ping-written : (j e : ℕ) (m : List ℕ) (q : ℕ) → q ≡ to + 24 + length m
-          → formBytes o t ≡ openingBytes j e (turned o pingRow (t .body)) ++ (m ++ closingBytes j (attributeIn o (t .body)))
+          → formBytes o t ≡ openingBytes false j e (turned o pingRow (t .body)) ++ (m ++ closeBytes false j (attributeIn o (t .body)))
           → left
-          ≡ sets (sets (sets out to (openingBytes j e (turned o (listedFields (placeIn PingU)) (drop (at + 6) f)))) (to + 24) m) q
-          (closingBytes j (numOf o (take 4 (drop (at + (n - 8)) f))))
+          ≡ sets (sets (sets out to (openingBytes false j e (turned o (listedFields (placeIn PingU)) (drop (at + 6) f)))) (to + 24) m) q
+          (closeBytes false j (numOf o (take 4 (drop (at + (n - 8)) f))))
           → left ≡ sets out to (formBytes o (tupAt o (drop at f)))
       ping-written j e m q z b w =
           let g = turned o pingRow (drop (at + 6) f) in
           let room : 18 ≤ length (drop (at + 6) f) = simp length-drop (omega (arith, there s .fits)) in
           stored j e g m (to + 24) q (omega (arith, length-turned o pingRow (drop (at + 6) f) room)) z
           (moved {m = m} refl refl (fields-place pingRow (omega arith)) refl b)
-          (w ∙ ap (λ (us : List Field). sets (sets (sets out to (openingBytes j e (turned o us (drop (at + 6) f)))) (to + 24) m) q (closingBytes j (numOf o (take 4 (drop (at + (n - 8)) f))))) (ping-fields refl))
+          (w ∙ ap (λ (us : List Field). sets (sets (sets out to (openingBytes false j e (turned o us (drop (at + 6) f)))) (to + 24) m) q (closeBytes false j (numOf o (take 4 (drop (at + (n - 8)) f))))) (ping-fields refl))
 
     -- a U-32 ping, its words turned
     pub pairs-written : k ≡ 10000
         → left
         ≡ sets
-        (sets (sets out to (openingBytes n 10000 (turned o (listedFields (placeIn PingU)) (drop (at + 6) f)))) (to + 24)
-        (unwords 4 false (allWords 4 o (take (at + (n - 8) - (at + 24)) (drop (at + 24) f))))) (to + (n - 8)) (closingBytes n (numOf o (take 4 (drop (at + (n - 8)) f))))
+        (sets (sets out to (openingBytes false n 10000 (turned o (listedFields (placeIn PingU)) (drop (at + 6) f)))) (to + 24)
+        (unwords 4 false (allWords 4 o (take (at + (n - 8) - (at + 24)) (drop (at + 24) f))))) (to + (n - 8)) (closeBytes false n (numOf o (take 4 (drop (at + (n - 8)) f))))
         → left ≡ sets out to (formBytes o (tupAt o (drop at f)))
     pairs-written e w =
         let shape = pairs-shape s e in
@@ -170,15 +171,15 @@ module _ {o : Bool} {f : List ℕ} {at n k : ℕ} (s : SoundHere o f at n k) whe
         let ws = allWords 4 o part in
         ping-written long n 10000 (unwords 4 false ws) (to + (n - 8)) (omega (arith, length-unwords 4 false ws, length-all 4 o part))
         (parts-U o t (s .own) shape .are
-        ∙ ap₂ (λ (i : ℕ) (l : List ℕ). openingBytes i 10000 (turned o pingRow (t .body)) ++ (unwords 4 false l ++ closingBytes i (attributeIn o (t .body)))) (size-of s) (words-place 18 (omega arith)))
+        ∙ ap₂ (λ (i : ℕ) (l : List ℕ). openingBytes false i 10000 (turned o pingRow (t .body)) ++ (unwords 4 false l ++ closeBytes false i (attributeIn o (t .body)))) (size-of s) (words-place 18 (omega arith)))
         w
 
     -- a C-32 ping, of j bytes as U-32
     pub words-written : (e : k ≡ 10010) (j : ℕ) → j ≡ 24 + 8 * fieldAt o f at 4 24 + 8 → 0 < fieldAt o f at 4 24
         → left
         ≡ sets
-        (sets (sets out to (openingBytes j 10000 (turned o (listedFields (placeIn PingU)) (drop (at + 6) f)))) (to + 24)
-        (unwords 4 false (unpair (decode radix (allWords 4 o (take (at + (n - 8) - (at + 28)) (drop (at + 28) f))))))) (to + (j - 8)) (closingBytes j (numOf o (take 4 (drop (at + (n - 8)) f))))
+        (sets (sets out to (openingBytes false j 10000 (turned o (listedFields (placeIn PingU)) (drop (at + 6) f)))) (to + 24)
+        (unwords 4 false (unpair (decode radix (allWords 4 o (take (at + (n - 8) - (at + 28)) (drop (at + 28) f))))))) (to + (j - 8)) (closeBytes false j (numOf o (take 4 (drop (at + (n - 8)) f))))
         → left ≡ sets out to (formBytes o (tupAt o (drop at f)))
     words-written e j z any w =
         let shape = words-shape s e in
@@ -187,14 +188,14 @@ module _ {o : Bool} {f : List ℕ} {at n k : ℕ} (s : SoundHere o f at n k) whe
         let x = decode radix (allWords 4 o (take (at + (n - 8) - (at + 28)) (drop (at + 28) f))) in
         ping-written long j 10000 (unwords 4 false (unpair x)) (to + (j - 8)) (omega (arith, length-unwords 4 false (unpair x), length-unpair x, spread-count e))
         (parts-C o t (s .own) shape j (omega arith) (omega arith) .are
-        ∙ ap (λ (l : List ℕ). openingBytes j 10000 (turned o pingRow (t .body)) ++ (unwords 4 false (unpair (decode radix l)) ++ closingBytes j (attributeIn o (t .body)))) (words-place 22 (omega arith)))
+        ∙ ap (λ (l : List ℕ). openingBytes false j 10000 (turned o pingRow (t .body)) ++ (unwords 4 false (unpair (decode radix l)) ++ closeBytes false j (attributeIn o (t .body)))) (words-place 22 (omega arith)))
         w
 
     -- one without samples
     pub silent-written : k ≡ 10010 → fieldAt o f at 4 24 ≡ 0
         → left
-        ≡ sets (sets (sets out to (openingBytes 40 10010 (turned o (listedFields (placeIn PingU)) (drop (at + 6) f)))) (to + 24) silence) (to + 32)
-        (closingBytes 40 (numOf o (take 4 (drop (at + (n - 8)) f))))
+        ≡ sets (sets (sets out to (openingBytes false 40 10010 (turned o (listedFields (placeIn PingU)) (drop (at + 6) f)))) (to + 24) silence) (to + 32)
+        (closeBytes false 40 (numOf o (take 4 (drop (at + (n - 8)) f))))
         → left ≡ sets out to (formBytes o (tupAt o (drop at f)))
     silent-written e zero w =
         ping-written (long-words s e) 40 10010 silence (to + 32) (omega (arith, length-silence)) (parts-silent o t (s .own) (words-shape s e) (omega (arith, count-of s e)) .are) w

@@ -1,8 +1,10 @@
 // Forms: the normal form of one tuple, measured and written.
+use frame::DATA;
 use layout::FIELDS;
 use layout::Kind;
 use layout::types;
 ghost use mathlib.Core.Path.{_≡_};
+ghost use mathlib.Core.Bool.{false};
 ghost use Prim.Native.Nat.{_+_, _*_, _^_, _≤_, _<_};
 ghost use lib.ListN.{length, take, drop};
 ghost use lib.Seq.{sets};
@@ -11,16 +13,13 @@ ghost use Rattle.layout.specs.Fields.{size};
 ghost use Rattle.layout.specs.Types.{unlisted, kindOf, placeIn, shapeOf};
 ghost use Rattle.turning.specs.Rows.{turned};
 ghost use Rattle.frame.specs.Frames.{tupAt};
+ghost use Rattle.frame.specs.inner.Framing.{openingBytes, closeBytes};
 ghost use Rattle.content.specs.Forms.{formBytes};
 ghost use Rattle.intake.specs.inner.Tallies.{Fits};
 ghost use Rattle.forms.specs.inner.Sound.{SoundHere};
-ghost use Rattle.forms.specs.inner.Parts.{frontBytes, openingBytes, closingBytes, silence, listedFields, Rowed};
+ghost use Rattle.forms.specs.inner.Parts.{silence, listedFields, Rowed};
 
-// The places of a tuple's type and of its data; those of an event's characters and of an end of file's data bytes.
-const TYPE: usize = 4;
-
-const DATA: usize = 6;
-
+// The places of an event's characters and of an end of file's data bytes.
 const EVENT_TEXT: usize = 12;
 
 const END_DATA: usize = 14;
@@ -31,9 +30,6 @@ const WORD: usize = 4;
 const PAIR: usize = 8;
 
 const SILENT: usize = 40;
-
-// The word of a run of 1.
-const SHORTEST_RUN: u32 = 0xffff_0000;
 
 // How many bytes the normal form of the tuple at a place has: none for the index class. A C-32 ping counts its samples itself, so
 // that they are not read.
@@ -52,17 +48,7 @@ pub fn form_length(file: &[u8], at: usize, msb: bool, whole: usize, code: u16) -
     if count == 0 {
         return SILENT;
     }
-    samples::PAIRS + PAIR * count + intake::TAIL
-}
-
-// Writes the data size and the type of a form.
-fn write_front(out: &mut [u8], to: usize, bytes: usize, code: u16)
-    requires { ⌜ to + 6 ≤ length (now out) ⌝ }
-    requires { ⌜ (10 ≤ bytes) × (bytes < 2 ^ 32) ⌝ }
-    ensures { λ _. ⌜ now (out .exit) ≡ sets (now (out .entry)) to (frontBytes bytes code) ⌝ }
-{
-    order::store4(out, to, false, (bytes - frame::FRAME) as u32);
-    order::store2(out, to + TYPE, false, code);
+    samples::PAIRS + PAIR * count + frame::TAIL
 }
 
 // Writes the fields of a tuple of a listed type, by its listing. Each arm names its row by a constant, and how many fields it has before
@@ -105,9 +91,9 @@ fn open_form(
     requires { ⌜ at + 6 + size (listedFields listing) ≤ length (now file) ⌝ }
     requires { ⌜ to + 6 + size (listedFields listing) ≤ length (now out) ⌝ }
     requires { ⌜ (10 ≤ bytes) × (bytes < 2 ^ 32) ⌝ }
-    ensures { λ _. ⌜ now (out .exit) ≡ sets (now (out .entry)) to (openingBytes bytes code (turned msb (listedFields listing) (drop (at + 6) (now (file .entry))))) ⌝ }
+    ensures { λ _. ⌜ now (out .exit) ≡ sets (now (out .entry)) to (openingBytes false bytes code (turned msb (listedFields listing) (drop (at + 6) (now (file .entry))))) ⌝ }
 {
-    write_front(out, to, bytes, code);
+    frame::open_frame(out, to, false, bytes, code);
     turn_listed(file, at + DATA, msb, listing, out, to + DATA);
 }
 
@@ -116,10 +102,9 @@ fn close_form(file: &[u8], from: usize, msb: bool, out: &mut [u8], to: usize, by
     requires { ⌜ from + 4 ≤ length (now file) ⌝ }
     requires { ⌜ to + 8 ≤ length (now out) ⌝ }
     requires { ⌜ bytes < 2 ^ 32 ⌝ }
-    ensures { λ _. ⌜ now (out .exit) ≡ sets (now (out .entry)) to (closingBytes bytes (numOf msb (take 4 (drop from (now (file .entry)))))) ⌝ }
+    ensures { λ _. ⌜ now (out .exit) ≡ sets (now (out .entry)) to (closeBytes false bytes (numOf msb (take 4 (drop from (now (file .entry)))))) ⌝ }
 {
-    order::store4(out, to, false, order::read4(file, from, msb));
-    order::store4(out, to + WORD, false, bytes as u32);
+    frame::close_frame(out, to, false, bytes, order::read4(file, from, msb));
 }
 
 // Where the characters of a tuple begin, behind its fields: where its attribute stands, for a type that has none.
@@ -132,7 +117,7 @@ fn text_place(whole: usize, code: u16) -> usize
     match code {
         types::EVENT => EVENT_TEXT,
         types::FILE_END => END_DATA,
-        _ => whole - intake::TAIL,
+        _ => whole - frame::TAIL,
     }
 }
 
@@ -154,7 +139,7 @@ fn write_row(
     ensures { λ _. ⌜ now (out .exit) ≡ sets (now (out .entry)) to (formBytes msb (tupAt msb (drop at (now (file .entry))))) ⌝ }
 {
     let text = text_place(whole, code);
-    let tail = whole - intake::TAIL;
+    let tail = whole - frame::TAIL;
     open_form(file, at, msb, listing, out, to, whole, code);
     turning::copy(file, at + text, tail - text, out, to + text);
     close_form(file, at + tail, msb, out, to + tail, whole);
@@ -167,7 +152,7 @@ fn write_raw(file: &[u8], at: usize, msb: bool, whole: usize, code: u16, out: &m
     requires { ⌜ to + whole ≤ length (now out) ⌝ }
     ensures { λ _. ⌜ now (out .exit) ≡ sets (now (out .entry)) to (formBytes msb (tupAt msb (drop at (now (file .entry))))) ⌝ }
 {
-    write_front(out, to, whole, code);
+    frame::open_frame(out, to, false, whole, code);
     turning::copy(file, at + DATA, whole - frame::FRAME, out, to + DATA);
     order::store4(out, to + whole - frame::BACKLINK, false, whole as u32);
 }
@@ -178,7 +163,7 @@ fn write_u(file: &[u8], at: usize, msb: bool, whole: usize, out: &mut [u8], to: 
     requires { ⌜ to + whole ≤ length (now out) ⌝ }
     ensures { λ _. ⌜ now (out .exit) ≡ sets (now (out .entry)) to (formBytes msb (tupAt msb (drop at (now (file .entry))))) ⌝ }
 {
-    let tail = whole - intake::TAIL;
+    let tail = whole - frame::TAIL;
     let listing = Kind::PingU.listing();
     open_form(file, at, msb, listing, out, to, whole, types::PING_U);
     samples::lsb::turn_words(
@@ -196,7 +181,7 @@ fn write_silence(out: &mut [u8], to: usize)
     ensures { λ _. ⌜ now (out .exit) ≡ sets (now (out .entry)) to silence ⌝ }
 {
     order::store4(out, to, false, 0);
-    order::store4(out, to + WORD, false, SHORTEST_RUN);
+    order::store4(out, to + WORD, false, samples::SHORTEST_RUN);
 }
 
 // Writes the form of a C-32 ping without samples: number of samples 0 and the one word of a run of 1.
@@ -206,7 +191,7 @@ fn write_silent(file: &[u8], at: usize, msb: bool, whole: usize, out: &mut [u8],
     requires { ⌜ to + 40 ≤ length (now out) ⌝ }
     ensures { λ _. ⌜ now (out .exit) ≡ sets (now (out .entry)) to (formBytes msb (tupAt msb (drop at (now (file .entry))))) ⌝ }
 {
-    let tail = whole - intake::TAIL;
+    let tail = whole - frame::TAIL;
     let listing = Kind::PingU.listing();
     open_form(file, at, msb, listing, out, to, SILENT, types::PING_C);
     write_silence(out, to + samples::COUNT);
@@ -215,7 +200,7 @@ fn write_silent(file: &[u8], at: usize, msb: bool, whole: usize, out: &mut [u8],
         at + tail,
         msb,
         out,
-        to + (SILENT - intake::TAIL),
+        to + (SILENT - frame::TAIL),
         SILENT,
     );
 }
@@ -236,8 +221,8 @@ fn write_sampled(
     requires { ⌜ to + bytes ≤ length (now out) ⌝ }
     ensures { λ _. ⌜ now (out .exit) ≡ sets (now (out .entry)) to (formBytes msb (tupAt msb (drop at (now (file .entry))))) ⌝ }
 {
-    let tail = whole - intake::TAIL;
-    let end = to + (bytes - intake::TAIL);
+    let tail = whole - frame::TAIL;
+    let end = to + (bytes - frame::TAIL);
     let listing = Kind::PingU.listing();
     open_form(file, at, msb, listing, out, to, bytes, types::PING_U);
     samples::lsb::spread_words(
@@ -262,7 +247,7 @@ fn write_c(file: &[u8], at: usize, msb: bool, whole: usize, out: &mut [u8], to: 
         write_silent(file, at, msb, whole, out, to);
         return SILENT;
     }
-    let bytes = samples::PAIRS + PAIR * count + intake::TAIL;
+    let bytes = samples::PAIRS + PAIR * count + frame::TAIL;
     write_sampled(file, at, msb, whole, bytes, out, to);
     bytes
 }

@@ -39,9 +39,6 @@ const SAMPLE_TYPE: usize = 16;
 
 const NAMED_CHANNEL: usize = 12;
 
-// The bytes behind a ping's samples.
-pub const TAIL: usize = 8;
-
 // In an attitude this means all channels.
 const ALL_CHANNELS: u16 = 65535;
 
@@ -181,7 +178,7 @@ fn judge_inner(file: &[u8], at: usize, msb: bool, whole: usize, code: u16) -> Ve
     requires { ⌜ Fits whole code ⌝ }
     ensures { λ r. ⌜ r ≡ innerVerdict msb (tupAt msb (drop at (now (file .entry)))) ⌝ }
 {
-    let until = at + whole - TAIL;
+    let until = at + whole - frame::TAIL;
     match code {
         types::PING_U => samples::judge_pairs(&file[at + samples::PAIRS..until], msb),
         types::PING_C => {

@@ -89,7 +89,8 @@ stands FileEnd h = refl
 stands Index h = absurd (omega arith)
 stands Unlisted h = absurd (omega arith)
 
-at-listed : {A : Type 0} (f g : Kind → A) → map f listed ≡ map g listed → (q : Kind) → placeIn q < 13 → f q ≡ g q
+-- what is computed alike of all listed kinds is the same of each
+pub at-listed : {A : Type 0} (f g : Kind → A) → map f listed ≡ map g listed → (q : Kind) → placeIn q < 13 → f q ≡ g q
 unfolding listed
 at-listed {A} f g e q h =
     let i = placeIn q in

@@ -20,7 +20,9 @@ use Rattle.layout.specs.Types.{pingRow}
 use Rattle.layout.specs.Answers.{accepting}
 use Rattle.turning.specs.Rows.{encode}
 use Rattle.frame.specs.Frames.{lengthOf, frame}
+use Rattle.frame.specs.inner.Framing.{openBytes, openingBytes, closeBytes}
 use Rattle.frame.proofs.Frames.{length-frame}
+use Rattle.frame.proofs.Framing.{length-opening}
 use Rattle.samples.specs.Words.{unwords, unpair}
 use Rattle.samples.specs.Lists.{paired}
 use Rattle.samples.specs.inner.Lists.{numbered, valued}
@@ -37,13 +39,16 @@ use Rattle.tuples.proofs.Storing.{length-three, in-three, length-four, in-four}
 use Rattle.tuples.proofs.Writing.{unwritten, all-written}
 use Rattle.pings.specs.Writers.{countRules, risingRule, rulesU, bytesU, rulesC, bytesC}
 use Rattle.pings.specs.Headers.{headOf, handedPing}
-use Rattle.pings.specs.inner.Framing.{openingBytes, closingBytes, SoundList}
+use Rattle.pings.specs.inner.Sound.{SoundList}
 
 -- ---- the header's row has 18 bytes
 length-head : (o : Bool) (h : PingHeader) → length (encode o pingRow (headOf h)) ≡ 18
 length-head o h = rw (length-append, length-append, length-append, length-append, length-append, length-append, length-bytesOf, length-bytesOf, length-bytesOf, length-bytesOf, length-bytesOf, length-bytesOf)
 
-regroup : (s k e u t b : List ℕ) → s ++ (k ++ ((e ++ (u ++ t)) ++ b)) ≡ (s ++ (k ++ e)) ++ (u ++ (t ++ b))
+length-start : (o : Bool) (n k : ℕ) (h : PingHeader) → length (openingBytes o n k (encode o pingRow (headOf h))) ≡ 24
+length-start o n k h = omega (arith, length-opening o n k (encode o pingRow (headOf h)), length-head o h)
+
+regroup : (s k e u t b : List ℕ) → s ++ (k ++ ((e ++ (u ++ t)) ++ b)) ≡ ((s ++ k) ++ e) ++ (u ++ (t ++ b))
 regroup s k e u t b = simp append-assoc
 
 -- ---- any ping writer: the counts first, then its own rules, then room
@@ -141,15 +146,15 @@ module _ (o : Bool) (h : PingHeader) (a : ℤ) (ns : List ℕ) (vs : List ℤ) (
           no-room r = refuse ns vs ownU bytes out e m 19 0 (pass some (pass (no-drop ns vs e i d l) (pass fits (here (lt-ltb (length out) (length bytes) (omega (arith, length-bytes, r)))))))
 
           -- the three runs of stores are one
-          stored : sets (sets (sets out 0 (openingBytes o (32 + 8 * length ns) 10000 h)) 24 (unwords 4 o (unpair (paired ns vs)))) (24 + 8 * length ns) (closingBytes o (32 + 8 * length ns) a)
+          stored : sets (sets (sets out 0 (openingBytes o (32 + 8 * length ns) 10000 (encode o pingRow (headOf h)))) 24 (unwords 4 o (unpair (paired ns vs)))) (24 + 8 * length ns) (closeBytes o (32 + 8 * length ns) (patternOf 4 a))
               ≡ sets out 0 (bytesU o (handedPing h a ns vs))
-          unfolding frame dataU
+          unfolding frame openBytes openingBytes closeBytes dataU
           stored =
               let enc = encode o pingRow (headOf h) in
               let us = unwords 4 o (unpair (paired ns vs)) in
               let size : 32 + 8 * length ns - 10 ≡ length (dataU o (handedPing h a ns vs)) = omega (arith, length-body) in
               let whole : 32 + 8 * length ns ≡ lengthOf (tupleU o (handedPing h a ns vs)) = omega (arith, length-body) in
-              in-three (openingBytes o (32 + 8 * length ns) 10000 h) us (closingBytes o (32 + 8 * length ns) a) out 24 (8 * length ns) (length-three (bytesOf o 4 (32 + 8 * length ns - 10)) (bytesOf o 2 10000) enc 4 2 18 (length-bytesOf o 4 (32 + 8 * length ns - 10)) (length-bytesOf o 2 10000) (length-head o h)) length-pairs
+              in-three (openingBytes o (32 + 8 * length ns) 10000 (encode o pingRow (headOf h))) us (closeBytes o (32 + 8 * length ns) (patternOf 4 a)) out 24 (8 * length ns) (length-start o (32 + 8 * length ns) 10000 h) length-pairs
               ∙ ap (sets out 0) (sym (regroup (bytesOf o 4 (32 + 8 * length ns - 10)) (bytesOf o 2 10000) enc us (bytesOf o 4 (patternOf 4 a)) (bytesOf o 4 (32 + 8 * length ns))))
               ∙ ap (λ (n : ℕ). sets out 0 (bytesOf o 4 n ++ (bytesOf o 2 10000 ++ ((enc ++ (us ++ bytesOf o 4 (patternOf 4 a))) ++ bytesOf o 4 (32 + 8 * length ns))))) size
               ∙ ap (λ (n : ℕ). sets out 0 (bytesOf o 4 (length (dataU o (handedPing h a ns vs))) ++ (bytesOf o 2 10000 ++ ((enc ++ (us ++ bytesOf o 4 (patternOf 4 a))) ++ bytesOf o 4 n)))) whole
@@ -160,19 +165,19 @@ module _ (o : Bool) (h : PingHeader) (a : ℤ) (ns : List ℕ) (vs : List ℤ) (
               (pass some (pass (no-drop ns vs e i d l) (pass fits (pass (le-ltb (length out) (length bytes) (omega (arith, length-bytes, r))) none))))
 
           pub written : (n : ℕ) → n ≡ 32 + 8 * length ns → (left : List ℕ) → n ≤ length out
-              → left ≡ sets (sets (sets out 0 (openingBytes o n 10000 h)) 24 (unwords 4 o (unpair (paired ns vs)))) (n - 8) (closingBytes o n a) → U (accepting 1 n) left
+              → left ≡ sets (sets (sets out 0 (openingBytes o n 10000 (encode o pingRow (headOf h)))) 24 (unwords 4 o (unpair (paired ns vs)))) (n - 8) (closeBytes o n (patternOf 4 a)) → U (accepting 1 n) left
           written n w left r s =
               let us = unwords 4 o (unpair (paired ns vs)) in
               let z : 32 + 8 * length ns - 8 ≡ 24 + 8 * length ns = omega arith in
               rw w
               (done left (omega arith)
               (s
-              ∙ ap (λ (i : ℕ). sets (sets (sets out 0 (openingBytes o i 10000 h)) 24 us) (i - 8) (closingBytes o i a)) w
-              ∙ ap (λ (i : ℕ). sets (sets (sets out 0 (openingBytes o (32 + 8 * length ns) 10000 h)) 24 us) i (closingBytes o (32 + 8 * length ns) a)) z
+              ∙ ap (λ (i : ℕ). sets (sets (sets out 0 (openingBytes o i 10000 (encode o pingRow (headOf h)))) 24 us) (i - 8) (closeBytes o i (patternOf 4 a))) w
+              ∙ ap (λ (i : ℕ). sets (sets (sets out 0 (openingBytes o (32 + 8 * length ns) 10000 (encode o pingRow (headOf h)))) 24 us) i (closeBytes o (32 + 8 * length ns) (patternOf 4 a))) z
               ∙ stored))
 
 -- ---- the C-32 writer
-regroup-C : (s k e c u t b : List ℕ) → s ++ (k ++ ((e ++ (c ++ (u ++ t))) ++ b)) ≡ (s ++ (k ++ e)) ++ (c ++ (u ++ (t ++ b)))
+regroup-C : (s k e c u t b : List ℕ) → s ++ (k ++ ((e ++ (c ++ (u ++ t))) ++ b)) ≡ ((s ++ k) ++ e) ++ (c ++ (u ++ (t ++ b)))
 regroup-C s k e c u t b = simp append-assoc
 
 module _ (o : Bool) (h : PingHeader) (a : ℤ) (ns : List ℕ) (vs : List ℤ) where
@@ -195,9 +200,9 @@ module _ (o : Bool) (h : PingHeader) (a : ℤ) (ns : List ℕ) (vs : List ℤ) w
 
   -- its four runs of stores are one
   pub stored-C : (n room : ℕ) (out : List ℕ) → SoundList ns vs n room
-      → sets (sets (sets (sets out 0 (openingBytes o n 10010 h)) 24 (bytesOf o 4 (length ns))) 28 (unwords 4 o (fewest radix (paired ns vs)))) (n - 8) (closingBytes o n a)
+      → sets (sets (sets (sets out 0 (openingBytes o n 10010 (encode o pingRow (headOf h)))) 24 (bytesOf o 4 (length ns))) 28 (unwords 4 o (fewest radix (paired ns vs)))) (n - 8) (closeBytes o n (patternOf 4 a))
       ≡ sets out 0 (bytesC o (handedPing h a ns vs))
-  unfolding frame dataC
+  unfolding frame openBytes openingBytes closeBytes dataC
   stored-C n room out g =
       let enc = encode o pingRow (headOf h) in
       let us = unwords 4 o ws in
@@ -205,9 +210,9 @@ module _ (o : Bool) (h : PingHeader) (a : ℤ) (ns : List ℕ) (vs : List ℤ) w
       let count : length ns ≡ length (paired ns vs) = sym (length-paired ns vs (g .equal)) in
       let size : n - 10 ≡ length (dataC o (handedPing h a ns vs) ws) = omega (arith, length-body-C, g .size) in
       let whole : n ≡ lengthOf (tupleC o (handedPing h a ns vs)) = omega (arith, length-body-C, g .size) in
-      ap (λ (i : ℕ). sets (sets (sets (sets out 0 (openingBytes o n 10010 h)) 24 (bytesOf o 4 (length ns))) 28 us) i (closingBytes o n a)) last
-      ∙ in-four (openingBytes o n 10010 h) (bytesOf o 4 (length ns)) us (closingBytes o n a) out 24 4 (4 * length ws)
-      (length-three (bytesOf o 4 (n - 10)) (bytesOf o 2 10010) enc 4 2 18 (length-bytesOf o 4 (n - 10)) (length-bytesOf o 2 10010) (length-head o h)) (length-bytesOf o 4 (length ns)) length-words
+      ap (λ (i : ℕ). sets (sets (sets (sets out 0 (openingBytes o n 10010 (encode o pingRow (headOf h)))) 24 (bytesOf o 4 (length ns))) 28 us) i (closeBytes o n (patternOf 4 a))) last
+      ∙ in-four (openingBytes o n 10010 (encode o pingRow (headOf h))) (bytesOf o 4 (length ns)) us (closeBytes o n (patternOf 4 a)) out 24 4 (4 * length ws)
+      (length-start o n 10010 h) (length-bytesOf o 4 (length ns)) length-words
       ∙ ap (sets out 0) (sym (regroup-C (bytesOf o 4 (n - 10)) (bytesOf o 2 10010) enc (bytesOf o 4 (length ns)) us (bytesOf o 4 (patternOf 4 a)) (bytesOf o 4 n)))
       ∙ ap (λ (i : ℕ). sets out 0 (bytesOf o 4 (n - 10) ++ (bytesOf o 2 10010 ++ ((enc ++ (bytesOf o 4 i ++ (us ++ bytesOf o 4 (patternOf 4 a)))) ++ bytesOf o 4 n)))) count
       ∙ ap (λ (i : ℕ). sets out 0 (bytesOf o 4 i ++ (bytesOf o 2 10010 ++ ((enc ++ (bytesOf o 4 (length (paired ns vs)) ++ (us ++ bytesOf o 4 (patternOf 4 a)))) ++ bytesOf o 4 n)))) size

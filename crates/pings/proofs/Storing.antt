@@ -1,17 +1,15 @@
 -- Numbers stored one behind the other are stored as one run of bytes. Assumes nothing.
-use mathlib.Core.Path.{_≡_, sym, ap, _∙_}
+use mathlib.Core.Path.{_≡_, sym, _∙_}
 use mathlib.Core.Bool.{Bool}
 use mathlib.Core.List.{List, []}
-use Prim.Native.Nat.{ℕ, _-_}
+use Prim.Native.Nat.{ℕ}
 use lib.Seq.{sets}
 use Rattle.order.specs.Order.{bytesOf, patternOf}
 use Rattle.layout.specs.Types.{pingRow}
 use Rattle.turning.specs.Rows.{encode}
 use Rattle.pings.specs.declared.PingHeader.{PingHeader}
-use Rattle.tuples.specs.inner.Framing.{openBytes}
-use Rattle.tuples.proofs.Storing.{store-step, open-stored}
+use Rattle.order.proofs.Stores.{store-step}
 use Rattle.pings.specs.Headers.{headOf}
-use Rattle.pings.specs.inner.Framing.{openingBytes}
 
 module _ (o : Bool) (l : List ℕ) (h : PingHeader) where
   pub header-stored :
@@ -25,8 +23,3 @@ module _ (o : Bool) (l : List ℕ) (h : PingHeader) where
       ∙ store-step o 2 (h .«transmitter_mode») _ _ 14
       ∙ store-step o 4 (h .«ping_number») _ _ 16
       ∙ store-step o 4 (patternOf 4 (h .«detected_bottom_range»)) _ [] 20)
-
-  pub opening-stored : (n k : ℕ) → sets (sets l 0 (openBytes o n k)) 6 (encode o pingRow (headOf h)) ≡ sets l 0 (openingBytes o n k h)
-  opening-stored n k =
-      ap (λ (x : List ℕ). sets x 6 (encode o pingRow (headOf h))) (sym (open-stored o l n k))
-      ∙ sym (store-step o 4 (n - 10) l _ 0 ∙ store-step o 2 k _ _ 4)

@@ -14,10 +14,11 @@ ghost use Rattle.pings.specs.Readers.{samplesAt, SamplesRead};
 ghost use Rattle.pings.specs.inner.Handing.{Handed, SoundPing};
 ghost use Rattle.layout.specs.Types.{pingRow};
 ghost use Rattle.turning.specs.Rows.{valuesOf, encode};
+ghost use Rattle.frame.specs.inner.Framing.{openingBytes};
 ghost use Rattle.pings.specs.Fields.{headerOf, pingFields, PingAt};
 ghost use Rattle.pings.specs.Writers.{bytesC};
 ghost use Rattle.pings.specs.Headers.{headOf, handedPing, WrittenU, WrittenC};
-ghost use Rattle.pings.specs.inner.Framing.{SoundList, openingBytes};
+ghost use Rattle.pings.specs.inner.Sound.{SoundList};
 
 // The bytes of a pair and of a word.
 const PAIR: usize = 8;
@@ -111,7 +112,7 @@ fn hand_over(
     requires { ⌜ SoundPing (now file) place msb whole code ⌝ }
     ensures { λ r. ⌜ Handed (samplesAt (now (file .entry)) place) (now (numbers .entry)) (now (values .entry)) r (now (numbers .exit)) (now (values .exit)) ⌝ }
 {
-    let until = place + whole - tuples::TAIL;
+    let until = place + whole - frame::TAIL;
     if code == types::PING_U {
         return hand_pairs(&file[place + samples::PAIRS..until], msb, numbers, values);
     }
@@ -162,13 +163,13 @@ fn fields_at(file: &[u8], place: usize, msb: bool, whole: usize, code: u16) -> P
     ensures { λ r. ⌜ r ≡ pingFields (now (file .entry)) place ⌝ }
 {
     let header = header_at(file, place, msb);
-    let attribute = tuples::signed4_at(file, place + (whole - tuples::TAIL), msb);
+    let attribute = tuples::signed4_at(file, place + (whole - frame::TAIL), msb);
     if code == types::PING_U {
         return PingRead::Read {
             header,
             attribute,
             kind: PingKind::U32,
-            values: (whole - samples::PAIRS - tuples::TAIL) / PAIR,
+            values: (whole - samples::PAIRS - frame::TAIL) / PAIR,
         };
     }
     PingRead::Read {
@@ -223,9 +224,9 @@ fn write_header(out: &mut [u8], msb: bool, header: PingHeader)
 fn write_opening(out: &mut [u8], msb: bool, whole: usize, code: u16, header: PingHeader)
     requires { ⌜ 24 ≤ length (now out) ⌝ }
     requires { ⌜ (10 ≤ whole) × (whole < 2 ^ 32) ⌝ }
-    ensures { λ _. ⌜ now (out .exit) ≡ sets (now (out .entry)) 0 (openingBytes msb whole code header) ⌝ }
+    ensures { λ _. ⌜ now (out .exit) ≡ sets (now (out .entry)) 0 (openingBytes msb whole code (encode msb pingRow (headOf header))) ⌝ }
 {
-    tuples::open_frame(out, msb, whole, code);
+    frame::open_frame(out, 0, msb, whole, code);
     write_header(out, msb, header);
 }
 
@@ -254,13 +255,13 @@ pub fn write_u32(
     if first < n {
         return layout::refuse(codes::NOT_RISING, first);
     }
-    let whole = samples::PAIRS + PAIR * n + tuples::TAIL;
+    let whole = samples::PAIRS + PAIR * n + frame::TAIL;
     if out.len() < whole {
         return layout::refuse(codes::NO_ROOM, 0);
     }
     write_opening(out, msb, whole, types::PING_U, header);
     samples::write::write_pairs(numbers, values, msb, out, samples::PAIRS);
-    tuples::close_frame(out, msb, whole, attribute);
+    tuples::put_tail(out, msb, whole, attribute);
     layout::accept(1, whole)
 }
 
@@ -280,7 +281,7 @@ fn put_c32(
     write_opening(out, msb, whole, types::PING_C, header);
     order::store4(out, samples::COUNT, msb, numbers.len() as u32);
     samples::write::write_words(numbers, values, msb, out, samples::WORDS);
-    tuples::close_frame(out, msb, whole, attribute);
+    tuples::put_tail(out, msb, whole, attribute);
 }
 
 // Writes a C-32 ping, its samples in the fewest words.
@@ -309,7 +310,7 @@ pub fn write_c32(
     if wordless < n {
         return layout::refuse(codes::NO_WORD, wordless);
     }
-    let whole = samples::WORDS + WORD * samples::write::count_words(numbers) + tuples::TAIL;
+    let whole = samples::WORDS + WORD * samples::write::count_words(numbers) + frame::TAIL;
     if frame::MOST < whole {
         return layout::refuse(codes::OVERFULL, 0);
     }

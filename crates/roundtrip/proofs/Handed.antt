@@ -21,6 +21,7 @@ use Rattle.layout.specs.declared.Kind.{Kind}
 use Rattle.layout.specs.Answers.{accepting, leftBy}
 use Rattle.layout.specs.Fields.{Field, num, txt, gap, ident, s, size, many, bareSize}
 use Rattle.layout.specs.Types.{Shape, indexed, row, pairs, words, unlisted, Length, exactly, upward, free, fitting, kindOf, shapeOf, lengthsOf, lengthFrom, listed, listingOf, placeIn}
+use Rattle.layout.proofs.Tables.{at-listed}
 use Rattle.frame.specs.Frames.{allowed}
 use Rattle.frame.proofs.Frames.{allowed-of}
 use Rattle.turning.specs.Rows.{Value, number, text, woven, numbersIn, textIn, Fit, fit-end, fit-num, fit-txt, fit-gap, fit-ident, Lettered}
@@ -158,7 +159,7 @@ module _ {k : ℕ} {ns t : List ℕ} (w : Taken k ns t) (g : RowSound k ns t) wh
   fits-row = lengths-row k (rowLength k t) (w .fits)
 
   even : byFours (shapeOf k) ≡ true
-  even = ?
+  even = at-listed (λ (q : Kind). byFours (listingOf q .shape)) (λ (q : Kind). true) test (kindOf k) (row-listed k is)
 
   fill : (q : Shape) → shapeOf k ≡ q → IsRow q → Filled k (rowValues k ns t)
   fill indexed e z = absurd z

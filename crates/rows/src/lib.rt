@@ -12,7 +12,7 @@ ghost use Rattle.rows.specs.Readers.{RowAt};
 ghost use Rattle.rows.specs.Writers.{RowWritten};
 
 // The bytes of a tuple around its fields and characters: data size and type, attribute and backlink.
-const AROUND: usize = 14;
+const AROUND: usize = frame::DATA + frame::TAIL;
 
 // What reading gives: the numbers are in lent memory, and where the characters stand; or a refusal.
 pub enum RowRead {
@@ -42,11 +42,11 @@ fn take_row(
         };
     }
     let row = layout::row(listing);
-    turning::read_row(file, place + tuples::FIELDS, msb, &row, numbers);
-    numbers[many] = order::read4(file, place + whole - tuples::TAIL, msb);
+    turning::read_row(file, place + frame::DATA, msb, &row, numbers);
+    numbers[many] = order::read4(file, place + whole - frame::TAIL, msb);
     RowRead::Read {
         text: Part {
-            place: place + tuples::FIELDS + measure[layout::BEFORE],
+            place: place + frame::DATA + measure[layout::BEFORE],
             length: whole - AROUND - measure[layout::BARE],
         },
     }

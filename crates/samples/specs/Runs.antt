@@ -48,14 +48,18 @@ firstBad R [] = 0
 firstBad R (w ∷ ws) = elim (isBad R w) [ true ↦ 0 | false ↦ firstBad R ws + 1 ]
 
 -- ---- the fewest words
+-- the word of a run of 1: longer ones count on from it
+abbrev pub shortestRun : ℕ → ℕ
+shortestRun R = (R - 1) * R
+
 -- the last run of a gap: none, or the word of a run of r + 1
 unfoldable pub lastRun : ℕ → ℕ → List ℕ
 lastRun R zero = []
-lastRun R (suc r) = ((R - 1) * R + r) ∷ []
+lastRun R (suc r) = (shortestRun R + r) ∷ []
 
 -- a gap of g samples: full runs first, the remainder last
 unfoldable pub gap : ℕ → ℕ → List ℕ
-gap R g = replicate (g / R) ((R - 1) * R + (R - 1)) ++ lastRun R (g % R)
+gap R g = replicate (g / R) (shortestRun R + (R - 1)) ++ lastRun R (g % R)
 
 -- the words of samples, the next of which is sample n, with t samples below threshold behind the last value
 unfoldable pub encodeFrom : ℕ → ℕ → List Sample → ℕ → List ℕ
@@ -64,5 +68,5 @@ encodeFrom R n (x ∷ s) t = gap R (x .0 - n) ++ (x .1 ∷ encodeFrom R (x .0 + 
 
 -- a ping without samples gets the one word of a run of 1; any other no run after the last value
 abbrev pub fewest : ℕ → List Sample → List ℕ
-fewest R [] = ((R - 1) * R) ∷ []
+fewest R [] = shortestRun R ∷ []
 fewest R (x ∷ s) = encodeFrom R 0 (x ∷ s) 0

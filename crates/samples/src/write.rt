@@ -2,6 +2,7 @@
 // them first.
 use crate::PAIR;
 use crate::RUN_SAMPLES;
+use crate::SHORTEST_RUN;
 use crate::WORD;
 ghost use mathlib.Core.Path.{_≡_};
 ghost use Prim.Native.Nat.{_+_, _*_, _^_, _<_, _≤_};
@@ -17,9 +18,6 @@ ghost use Rattle.samples.specs.Judging.{firstDrop, firstWordless};
 const FULL: usize = RUN_SAMPLES as usize;
 
 const FULL_RUN_WORD: u32 = 0xffff_ffff;
-
-// The word of a run of 1: longer ones count on from it.
-const SHORTEST_RUN: u32 = 0xffff_0000;
 
 // A sample number, wide enough for the one that follows it.
 fn wide(number: u32) -> usize

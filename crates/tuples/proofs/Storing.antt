@@ -1,19 +1,11 @@
--- Runs of bytes stored one behind the other are stored as one; a tuple's frame around its data. Assumes nothing.
+-- Runs of bytes stored one behind the other are stored as one. Assumes nothing.
 use mathlib.Core.Path.{_≡_, sym, ap, _∙_}
-use mathlib.Core.Bool.{Bool}
 use mathlib.Core.List.{List, _++_, append-assoc}
-use Prim.Native.Nat.{ℕ, _+_, _-_}
+use Prim.Native.Nat.{ℕ, _+_}
 use native.Mathlib.Omega.{arith}
 use lib.ListN.{length, length-append}
 use lib.Seq.{sets}
-use Rattle.order.specs.Order.{bytesOf}
-use Rattle.order.proofs.Laws.{length-bytesOf}
 use Rattle.order.proofs.Stores.{sets-append}
-use Rattle.tuples.specs.inner.Framing.{openBytes, closeBytes}
-
--- k bytes, and more behind them
-pub store-step : (o : Bool) (k v : ℕ) (l ys : List ℕ) (i : ℕ) → sets l i (bytesOf o k v ++ ys) ≡ sets (sets l i (bytesOf o k v)) (i + k) ys
-store-step o k v l ys i = sets-append (bytesOf o k v) ys l i ∙ ap (λ (n : ℕ). sets (sets l i (bytesOf o k v)) (i + n) ys) (length-bytesOf o k v)
 
 -- ---- three runs of bytes, and four
 pub length-three : (x y z : List ℕ) (i j k : ℕ) → length x ≡ i → length y ≡ j → length z ≡ k → length (x ++ (y ++ z)) ≡ i + j + k
@@ -40,14 +32,3 @@ in-four x y z w out i j k a b c =
     ∙ ap (λ (m : ℕ). sets (sets out 0 (x ++ (y ++ z))) m w) (sym n)
     ∙ sym (sets-append (x ++ (y ++ z)) w out 0)
     ∙ ap (sets out 0) assoc
-
--- ---- the frame
-module _ (o : Bool) (l : List ℕ) (n : ℕ) where
-  pub open-stored : (k : ℕ) → sets (sets l 0 (bytesOf o 4 (n - 10))) 4 (bytesOf o 2 k) ≡ sets l 0 (openBytes o n k)
-  open-stored k = sym (store-step o 4 (n - 10) l (bytesOf o 2 k) 0)
-
-  pub close-stored : (at a : ℕ) → sets (sets l at (bytesOf o 4 a)) (at + 4) (bytesOf o 4 n) ≡ sets l at (closeBytes o n a)
-  close-stored at a = sym (store-step o 4 a l (bytesOf o 4 n) at)
-
-pub length-open : (o : Bool) (n k : ℕ) → length (openBytes o n k) ≡ 6
-length-open o n k = length-append (bytesOf o 4 (n - 10)) (bytesOf o 2 k) ∙ omega (arith, length-bytesOf o 4 (n - 10), length-bytesOf o 2 k)

@@ -22,14 +22,16 @@ use Rattle.layout.specs.Types.{Shape, indexed, row, pairs, words, unlisted, kin
 use Rattle.layout.specs.inner.Codes.{fieldsOf, rowCodes}
 use Rattle.layout.proofs.Tables.{Said, fieldsIn, tabled, by-kind}
 use Rattle.frame.specs.Frames.{frame}
+use Rattle.frame.specs.inner.Framing.{openBytes, closeBytes}
 use Rattle.frame.proofs.Frames.{length-frame}
+use Rattle.frame.proofs.Framing.{length-open}
 use Rattle.turning.specs.Rows.{Value, number, text, woven, encode}
 use Rattle.turning.specs.inner.Codes.{textFits}
 use Rattle.turning.proofs.Writes.{length-woven}
 use Rattle.content.specs.Forms.{encodeBy, plainTuple}
 use Rattle.tuples.specs.Writers.{writeAnswer, Written, plainBytes}
-use Rattle.tuples.specs.inner.Framing.{handedValues, Handable, openBytes, closeBytes}
-use Rattle.tuples.proofs.Storing.{in-four, length-open}
+use Rattle.tuples.specs.inner.Framing.{handedValues, Handable}
+use Rattle.tuples.proofs.Storing.{in-four}
 
 -- ---- any writer, by its answer
 module _ (rs : List (Rule Answer)) (bytes out : List ℕ) where
@@ -134,7 +136,7 @@ module _ (o : Bool) (ns t b : List ℕ) (n a : ℕ) where
     -- its four runs of stores are one
     pub put : (out : List ℕ) → sets (sets (sets (sets out 0 (openBytes o n k)) 6 (encode o (fieldsIn (shapeOf k)) (woven (fieldsIn (shapeOf k)) ns t))) (n - 8 - length b) b) (n - 8) (closeBytes o n a)
         ≡ sets out 0 (plainBytes o k (handedValues (shapeOf k) ns t b a))
-    unfolding frame
+    unfolding frame openBytes closeBytes
     put out =
         let m = size (fieldsIn (shapeOf k)) in
         let third : n - 8 - length b ≡ 6 + size (fieldsIn (shapeOf k)) = omega (arith, sizes .0) in

@@ -4,7 +4,7 @@ use mathlib.Core.Bool.{Bool, true, false, not, _&&_, _||_}
 use mathlib.Core.List.{List, [], _∷_, _++_}
 use mathlib.Core.Option.{Option, some, none}
 use lib.Dec.{eqb}
-use lib.ListN.{drop, getD}
+use lib.ListN.{drop}
 use Rattle.rules.specs.Rules.{Rule, _⇒_, firstOf, saying}
 use Rattle.layout.specs.declared.Answer.{Answer}
 use Rattle.layout.specs.declared.Answer.the-variants.{Refused}
@@ -17,7 +17,7 @@ use Rattle.frame.specs.declared.Step.the-variants
 use Rattle.frame.specs.Frames.{Tup, tupAt}
 use Rattle.frame.specs.Files.{isMsb}
 use Rattle.frame.specs.Steps.{stepForward}
-use Rattle.turning.specs.Rows.{Value, number, text}
+use Rattle.turning.specs.Rows.{Value}
 use Rattle.content.specs.Items.{Item, plain, ping, raw, itemOf, rowIn, headRules, innerRules}
 
 -- the tuple at a place
@@ -50,14 +50,6 @@ valuesBy (some (raw k d)) = []
 
 abbrev pub readValues : List ℕ → ℕ → List Value
 readValues f p = valuesBy (readItem f p)
-
--- the characters at a place of a list of values
-abbrev pub asText : Value → List ℕ
-asText (number n) = []
-asText (text t) = t
-
-abbrev pub textAt : List Value → ℕ → List ℕ
-textAt vs i = asText (getD vs i (number 0))
 
 -- a reader asks for one type, or for a listed ping of either type
 abbrev pub only : ℕ → ℕ → Bool

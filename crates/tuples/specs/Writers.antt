@@ -1,17 +1,16 @@
 -- What the writers answer, and what they leave in lent memory. Assumes nothing.
 use mathlib.Core.Path.{_≡_, sym, _∙_}
 use Prim.Native.Nat.{ℕ}
-use mathlib.Core.Bool.{Bool, not}
+use mathlib.Core.Bool.{Bool}
 use mathlib.Core.List.{List, [], _∷_, _++_}
-use lib.Dec.{ltb, eqb}
+use lib.Dec.{ltb}
 use lib.ListN.{length}
 use Rattle.rules.specs.Rules.{Rule, _⇒_, firstOf}
 use Rattle.layout.specs.declared.Answer.{Answer}
 use Rattle.layout.specs.declared.Answer.the-variants.{Refused}
 use Rattle.layout.specs.Answers.{numbers, Tells, leftBy, accepting}
-use Rattle.layout.specs.Types.{fitting, lengthsOf}
 use Rattle.frame.specs.Frames.{Tup, lengthOf, frame}
-use Rattle.turning.specs.Rows.{Value, number, text}
+use Rattle.turning.specs.Rows.{Value}
 use Rattle.content.specs.Forms.{plainTuple}
 
 -- a writer's rules, then 19; acceptance with 1 tuple and the bytes written
@@ -34,21 +33,3 @@ tooLong t = ltb 262144 (lengthOf t) ⇒ Refused 11 0
 -- ---- tuples of a row: a listed type's code, and its values with the attribute the last
 abbrev pub plainBytes : Bool → ℕ → List Value → List ℕ
 plainBytes o k vs = frame o (plainTuple o k vs)
-
--- a remark is 30 characters: of any other width 9 at 0, before 19
-abbrev pub remarkRules : List ℕ → List (Rule Answer)
-remarkRules remark = (not (eqb (length remark) 30) ⇒ Refused 9 0) ∷ []
-
--- the text writer: 9 for a text that no event marker can hold, 11, both at 0
-abbrev pub textRules : Tup → List (Rule Answer)
-textRules t = (not (fitting (lengthsOf (t .kind)) (lengthOf t)) ⇒ Refused 9 0) ∷ tooLong t ∷ []
-
--- the end of file is written with two data bytes, both 0
-abbrev pub endData : Value
-endData = text (0 ∷ 0 ∷ [])
-
--- the numbers among values, in order
-abbrev pub numbersIn : List Value → List ℕ
-numbersIn [] = []
-numbersIn (number n ∷ vs) = n ∷ numbersIn vs
-numbersIn (text t ∷ vs) = numbersIn vs

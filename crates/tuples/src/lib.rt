@@ -1,5 +1,7 @@
 // Tuples: what every reader finds at a place, and how every writer frames what it writes.
+use frame::DATA;
 use frame::Step;
+use frame::TAIL;
 use frame::Walk;
 use layout::Answer;
 use layout::Kind;
@@ -13,18 +15,11 @@ ghost use lib.ListN.{length, take, drop};
 ghost use lib.Seq.{sets};
 ghost use Rattle.order.specs.Order.{numOf, signedOf, patternOf};
 ghost use Rattle.layout.specs.Types.{listingOf, shapeOf};
-ghost use Rattle.tuples.specs.Readers.{isPing, isRow, recordsOf, only};
+ghost use Rattle.tuples.specs.Readers.{isPing, isRow, recordsOf};
+ghost use Rattle.frame.specs.inner.Framing.{closeBytes};
 ghost use Rattle.tuples.specs.inner.Opening.{FoundTuple, FoundAs, OpenedAs};
 ghost use Rattle.tuples.specs.Writers.{Written, plainBytes};
-ghost use Rattle.tuples.specs.inner.Framing.{handedValues, Handable, openBytes, closeBytes};
-
-// The place of a tuple's type, and that of its fields.
-const TYPE: usize = 4;
-
-pub const FIELDS: usize = 6;
-
-// The bytes behind a tuple's fields: its attribute and its backlink.
-pub const TAIL: usize = 8;
+ghost use Rattle.tuples.specs.inner.Framing.{handedValues, Handable};
 
 // What a reader finds: a tuple that it asks for and that keeps its own rules, or its refusal.
 pub enum Opened {
@@ -79,18 +74,6 @@ fn open_found(file: &[u8], place: usize, msb: bool, whole: usize, code: u16, ask
             Opened::Refused { code, place: at }
         }
         Verdict::Fine => Opened::Tuple { msb, whole, code },
-    }
-}
-
-// Opens the tuple at a place for a reader of one type.
-pub fn open_tuple(file: &[u8], place: usize, asked: u16) -> Opened
-    ensures { λ r. ⌜ OpenedAs (only asked) (now (file .entry)) place r ⌝ }
-{
-    match find(file, place) {
-        Opened::Refused { code, place } => Opened::Refused { code, place },
-        Opened::Tuple { msb, whole, code } => {
-            open_found(file, place, msb, whole, code, code == asked)
-        }
     }
 }
 
@@ -151,14 +134,6 @@ pub fn open_ping(file: &[u8], place: usize) -> Opened
     }
 }
 
-// A signed number of two bytes.
-pub fn signed2_at(file: &[u8], at: usize, msb: bool) -> i16
-    requires { ⌜ at + 2 ≤ length (now file) ⌝ }
-    ensures { λ r. ⌜ r ≡ signedOf 2 (numOf msb (take 2 (drop at (now (file .entry))))) ⌝ }
-{
-    order::signed2(order::read2(file, at, msb))
-}
-
 // A signed number of four bytes.
 pub fn signed4_at(file: &[u8], at: usize, msb: bool) -> i32
     requires { ⌜ at + 4 ≤ length (now file) ⌝ }
@@ -167,23 +142,12 @@ pub fn signed4_at(file: &[u8], at: usize, msb: bool) -> i32
     order::signed4(order::read4(file, at, msb))
 }
 
-// Writes what stands before a tuple's data: data size and type.
-pub fn open_frame(out: &mut [u8], msb: bool, whole: usize, code: u16)
-    requires { ⌜ 6 ≤ length (now out) ⌝ }
-    requires { ⌜ (10 ≤ whole) × (whole < 2 ^ 32) ⌝ }
-    ensures { λ _. ⌜ now (out .exit) ≡ sets (now (out .entry)) 0 (openBytes msb whole code) ⌝ }
-{
-    order::store4(out, 0, msb, (whole - frame::FRAME) as u32);
-    order::store2(out, TYPE, msb, code);
-}
-
-// Writes what stands behind a tuple's fields: the attribute and the backlink.
-pub fn close_frame(out: &mut [u8], msb: bool, whole: usize, attribute: i32)
+// Writes what stands behind the fields of a tuple that fills memory from its first byte on: its attribute, signed, and its backlink.
+pub fn put_tail(out: &mut [u8], msb: bool, whole: usize, attribute: i32)
     requires { ⌜ (8 ≤ whole) × (whole ≤ length (now out)) × (whole < 2 ^ 32) ⌝ }
     ensures { λ _. ⌜ now (out .exit) ≡ sets (now (out .entry)) (whole - 8) (closeBytes msb whole (patternOf 4 attribute)) ⌝ }
 {
-    order::store4(out, whole - TAIL, msb, order::pattern4(attribute));
-    order::store4(out, whole - frame::BACKLINK, msb, whole as u32);
+    frame::close_frame(out, whole - TAIL, msb, whole, order::pattern4(attribute));
 }
 
 // Writes a tuple of a row where there is room: its numbers in order, its remark, the characters behind its fields, its attribute.
@@ -202,10 +166,10 @@ fn put_tuple(
     ensures { λ _. ⌜ now (out .exit) ≡ sets (now (out .entry)) 0 (plainBytes msb code (handedValues (shapeOf code) (now (numbers .entry)) (now (remark .entry)) (now (behind .entry)) (patternOf 4 attribute))) ⌝ }
 {
     let row = layout::row(layout::kind_of(code).listing());
-    open_frame(out, msb, whole, code);
-    turning::write_row(&row, numbers, remark, msb, out, FIELDS);
+    frame::open_frame(out, 0, msb, whole, code);
+    turning::write_row(&row, numbers, remark, msb, out, DATA);
     turning::copy(behind, 0, behind.len(), out, whole - TAIL - behind.len());
-    close_frame(out, msb, whole, attribute);
+    put_tail(out, msb, whole, attribute);
 }
 
 // Writes a tuple of a row; 19 where the memory lent is short.

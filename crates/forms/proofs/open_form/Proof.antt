@@ -1,6 +1,7 @@
 -- `forms::open_form` meets its contract: size and type, and the fields of the listing behind them. Assumes nothing.
 use borrow.Author.Needs.{needs}
-use Rattle.forms.proofs.Stored.{opened}
+use mathlib.Core.Bool.{false}
+use Rattle.frame.proofs.Framing.{opening-stored}
 use Rattle.forms.proofs.open_form.Statement.{statement}
 use Rattle.forms.proofs.open_form.Tie as tie
 
@@ -9,7 +10,7 @@ returns c =
     let turn = c .before .before in
     let front = turn .before .before .before .before in
     let a = front .before .before .before .before .args in
-    rw (turn .turn-listed .ensures, front .write-front .ensures) (opened (a .out .now) (a .to) (a .bytes) (a .code) _)
+    rw (turn .turn-listed .ensures, front .open-frame .ensures) (opening-stored false (a .out .now) (a .to) (a .bytes) (a .code) _)
 
 pub open-form-spec : {M : Type 1} → statement M
 open-form-spec =

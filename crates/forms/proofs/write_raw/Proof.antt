@@ -15,8 +15,8 @@ Room s = let a = s .args in (16 ≤ a .whole) × (a .whole ≤ 262144) × (a .at
 room : (s : tie.Start) → Room s
 room s = most (s .pre .0)
 
-write-front-requires : tie.Need-write-front-requires
-write-front-requires c κs = let r = room (c .before .before .before) in (omega arith, (omega arith, omega arith))
+open-frame-requires : tie.Need-open-frame-requires
+open-frame-requires c κs = let r = room (c .before .before .before) in (omega arith, (omega arith, omega arith))
 
 copy-requires : tie.Need-copy-requires
 copy-requires c κs = let r = room (c .before .before .before .before .before .before .before) in (omega arith, omega arith)
@@ -30,13 +30,13 @@ returns c =
     let body = back .before .before .before .before in
     let front = body .before .before .before .before in
     let p = front .before .before .before .before .pre in
-    raw-written (p .0) _ _ _ (p .1 .0) (rw (back .store4 .ensures, body .copy .ensures, front .write-front .ensures))
+    raw-written (p .0) _ _ _ (p .1 .0) (rw (back .store4 .ensures, body .copy .ensures, front .open-frame .ensures))
 
 pub write-raw-spec : {M : Type 1} → statement M
 write-raw-spec =
     tie.close
     (tie.spec
-    write-front-requires
+    open-frame-requires
     (λ c. search needs)
     (λ c. search needs)
     (λ c. search needs)

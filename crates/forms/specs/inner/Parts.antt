@@ -1,6 +1,6 @@
--- The bytes of a listed tuple's normal form, part by part, and the types that a row reads. Assumes nothing.
+-- What a ping without samples holds, and the types that a row reads. Assumes nothing.
 use mathlib.Core.Path.{_≡_}
-use Prim.Native.Nat.{ℕ, _-_}
+use Prim.Native.Nat.{ℕ}
 use mathlib.Core.Bool.{false}
 use mathlib.Core.List.{List, [], _++_}
 use mathlib.Core.Option.{Option}
@@ -9,21 +9,11 @@ use Rattle.order.specs.Order.{bytesOf}
 use Rattle.layout.specs.Fields.{Field}
 use Rattle.layout.specs.Types.{row, shapeOf}
 use Rattle.layout.specs.inner.Codes.{fieldsOf, rowCodes}
+use Rattle.samples.specs.Runs.{radix, shortestRun}
 
--- data size and type of a form of n bytes
-unfoldable pub frontBytes : ℕ → ℕ → List ℕ
-frontBytes n k = bytesOf false 4 (n - 10) ++ bytesOf false 2 k
-
--- before the characters or the samples: size, type and fields; behind them: attribute and backlink
-unfoldable pub openingBytes : ℕ → ℕ → List ℕ → List ℕ
-openingBytes n k fields = frontBytes n k ++ fields
-
-unfoldable pub closingBytes : ℕ → ℕ → List ℕ
-closingBytes n attribute = bytesOf false 4 attribute ++ bytesOf false 4 n
-
--- a ping without samples: number of samples 0, and the one word FFFF0000
+-- a ping without samples: number of samples 0, and the one word of a run of 1
 unfoldable pub silence : List ℕ
-silence = bytesOf false 4 0 ++ bytesOf false 4 0xffff0000
+silence = bytesOf false 4 0 ++ bytesOf false 4 (shortestRun radix)
 
 -- the fields of a listing
 abbrev pub listedFields : ℕ → List Field

@@ -1,6 +1,6 @@
 -- `pings::write_opening` meets its contract: size, type and header, one behind the other. Assumes nothing.
 use borrow.Author.Needs.{needs}
-use Rattle.pings.proofs.Storing.{opening-stored}
+use Rattle.frame.proofs.Framing.{opening-stored}
 use Rattle.pings.proofs.write_opening.Statement.{statement}
 use Rattle.pings.proofs.write_opening.Tie as tie
 
@@ -8,7 +8,7 @@ returns : tie.Need-returns
 returns c =
     let opening = c .before .before .before .before .before .before in
     let a = opening .before .before .before .args in
-    rw (c .before .before .write-header .ensures, opening .open-frame .ensures) (opening-stored (a .msb) (a .out .now) (a .header) (a .whole) (a .code))
+    rw (c .before .before .write-header .ensures, opening .open-frame .ensures) (opening-stored (a .msb) (a .out .now) 0 (a .whole) (a .code) _)
 
 pub write-opening-spec : {M : Type 1} → statement M
 write-opening-spec = tie.close (tie.spec (λ c κs. search needs) (λ c κs. search needs) (λ c. search needs) returns)

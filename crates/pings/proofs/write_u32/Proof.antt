@@ -59,7 +59,7 @@ returns-6 c =
     rw (c .accept .ensures)
     (written (a .msb) (a .header) (a .attribute) (a .numbers .now) (a .values .now) (a .out .now) (few .before .if1 .left) (few .if2 .left) (some .if3 .left) _ (first .first-drop .ensures) (rise .if4 .left)
     _ (omega arith) _ (fits .if5 .left)
-    (rw (close .close-frame .ensures, pairs .write-pairs .ensures, opening .write-opening .ensures, toZ-ofZ {w = w32} {z = a .attribute} (start .fits .attribute))))
+    (rw (close .put-tail .ensures, pairs .write-pairs .ensures, opening .write-opening .ensures, toZ-ofZ {w = w32} {z = a .attribute} (start .fits .attribute))))
 
 pub write-u32-spec : {M : Type 1} → statement M
 write-u32-spec =

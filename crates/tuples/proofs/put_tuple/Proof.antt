@@ -51,14 +51,14 @@ sub-copy-2 c = let z = small (c .before .before .before .before .before .before 
 copy-requires : tie.Need-copy-requires
 copy-requires c κs = let z = small (c .before .before .before .before .before .before .before .before .before .before .before .before .before .before .before .before .before) in (omega arith, omega (arith, z .0))
 
-close-frame-requires : tie.Need-close-frame-requires
-close-frame-requires c κs = let z = small (c .before .before .before .before .before .before .before .before .before .before .before .before .before .before .before .before .before .before .before .before .before) in (omega (arith, z .0), omega arith, omega (arith, z .1))
+put-tail-requires : tie.Need-put-tail-requires
+put-tail-requires c κs = let z = small (c .before .before .before .before .before .before .before .before .before .before .before .before .before .before .before .before .before .before .before .before .before) in (omega (arith, z .0), omega arith, omega (arith, z .1))
 
 returns : tie.Need-returns
 returns c =
     let d = c .before .before .before .before .before .before .before .before .before .before .before .before .before .before .before .before .before .before .before .before .before .before .before .before in
     let a = d .args in
-    rw (c .before .before .close-frame .ensures, c .before .before .before .before .before .before .copy .ensures, c .before .before .before .before .before .before .before .before .before .before .write-row .ensures, c .before .before .before .before .before .before .before .before .before .before .before .before .before .before .before .open-frame .ensures, rowed (c .before .before .before .before .before .before .before .before .before .before .before .before .before .before .before .before .before), toZ-ofZ {w = w32} {z = a .attribute} (d .fits .attribute), take-length (a .behind .now))
+    rw (c .before .before .put-tail .ensures, c .before .before .before .before .before .before .copy .ensures, c .before .before .before .before .before .before .before .before .before .before .write-row .ensures, c .before .before .before .before .before .before .before .before .before .before .before .before .before .before .before .open-frame .ensures, rowed (c .before .before .before .before .before .before .before .before .before .before .before .before .before .before .before .before .before), toZ-ofZ {w = w32} {z = a .attribute} (d .fits .attribute), take-length (a .behind .now))
     (put (a .msb) (a .numbers .now) (a .remark .now) (a .behind .now) (a .whole) (patternOf 4 (a .attribute)) (a .code) (d .pre .0) (a .out .now))
 
 pub put-tuple-spec : {M : Type 1} → statement M
@@ -74,6 +74,6 @@ put-tuple-spec =
     sub-copy
     sub-copy-2
     copy-requires
-    close-frame-requires
+    put-tail-requires
     (λ c. search needs)
     returns)

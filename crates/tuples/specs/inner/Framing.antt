@@ -1,13 +1,12 @@
--- What the functions that write a tuple are handed, and the bytes that they put around it. Assumes nothing.
+-- What the functions that write a tuple are handed. Assumes nothing.
 use mathlib.Core.Path.{_≡_}
-use Prim.Native.Nat.{ℕ, _+_, _-_, _≤_}
-use mathlib.Core.Bool.{Bool, true}
+use Prim.Native.Nat.{ℕ, _+_, _≤_}
+use mathlib.Core.Bool.{true}
 use mathlib.Core.List.{List, [], _∷_, _++_}
 use mathlib.Core.Option.{some, none}
 use lib.ListN.{length}
 use Rattle.layout.specs.Fields.{size}
 use Rattle.layout.specs.Types.{Shape, indexed, row, pairs, words, unlisted}
-use Rattle.order.specs.Order.{bytesOf}
 use Rattle.turning.specs.Rows.{Value, number, text, woven}
 use Rattle.turning.specs.inner.Codes.{textFits}
 
@@ -28,11 +27,3 @@ Handable (row fs (some least)) ns t b n = (textFits fs t ≡ true) × (n ≡ siz
 Handable pairs ns t b n = ⊥
 Handable words ns t b n = ⊥
 Handable unlisted ns t b n = ⊥
-
--- the frame of a tuple of n bytes and type k: before its data, data size and type; behind them, where the attribute is a, attribute
--- and backlink
-abbrev pub openBytes : Bool → ℕ → ℕ → List ℕ
-openBytes o n k = bytesOf o 4 (n - 10) ++ bytesOf o 2 k
-
-abbrev pub closeBytes : Bool → ℕ → ℕ → List ℕ
-closeBytes o n a = bytesOf o 4 a ++ bytesOf o 4 n
