@@ -51,12 +51,27 @@ pub use pings::read_samples;
 pub use pings::write_c32;
 pub use pings::write_u32;
 
-// The records. T::read(file, place) gives the record, and where its characters stand (`Part`), or a refusal: a forward step's, 3 at the
-// end; 9 for another type; 9, 8. T::write(record, msb, out) refuses by 19 alone; with remarks by 9 at 0 where they are not thirty
+// read_row(file, place, code, numbers): the record of a type at a place as the numbers of its row, in its order, the attribute last, a
+// signed one as its pattern, an entry each, and where its characters stand (`Part`). Refuses as a forward step does, 3 at the end; 9 for
+// another type, and for every tuple where the type is no record's; 9, 8; then 19 at 0 for fewer numbers than the record has. Promise:
+// `RowAt`, crates/rows/specs/Readers.antt.
+// write_row(code, numbers, text, msb, out): the same written, each number by the lower bytes of its width. Refuses by 9 at 0 where the
+// type is no record's, for fewer numbers than the record has and for characters that it can't hold; 11 at 0 where the tuple would be
+// over 262,144 bytes; 19. Promise: `RowWritten`, crates/rows/specs/Writers.antt.
+pub use rows::RowRead;
+pub use rows::read_row;
+pub use rows::write_row;
+
+// The records: views of these two, a type each. T::read(file, place) gives the record, and where its characters stand, or a refusal: as
+// read_row refuses, but for 19. T::write(record, msb, out) refuses by 19 alone; with remarks by 9 at 0 where they are not thirty
 // characters, before 19; an event's text by 9 where it is no multiple of four characters or none, 11 where the tuple would be over
-// 262,144 bytes, both at 0, before 19. T::new makes a record of its fields; T::CODE, T::LENGTH and a constant for each field's place
-// are the type's own. T::numbers(record) gives the row's numbers in its order, the attribute last, a signed one as its pattern.
-// Promises: `TAt` and `TWritten`, in the specs of the record's crate; `numbersIn`, crates/tuples/specs/Writers.antt.
+// 262,144 bytes, both at 0, before 19. T::new makes a record of its fields, T::of of the numbers of its row, and T::numbers(record) gives
+// these. T::CODE, its length (T::LENGTH, or T::LEAST and T::STEP) and a constant for the place of each field and of the characters are
+// the type's own; T::places() has them all in the row's order. Promises: `TAt` and `TWritten`, in the specs of the record's crate;
+// `integersFrom` and `patterns`, crates/rows/specs/Integers.antt; `placesOf`, crates/rows/specs/Places.antt.
+pub use tuples::Part;
+
+// made by views/make
 pub use attitude::Attitude;
 pub use attitude::AttitudeRead;
 pub use channel::Channel;
@@ -79,7 +94,7 @@ pub use sounder::Sounder;
 pub use sounder::SounderRead;
 pub use threshold::Threshold;
 pub use threshold::ThresholdRead;
-pub use tuples::Part;
+// up to here
 
 // normalise(file, out): the file's normal form. Refuses as the check does; then by 18 at the first unlisted tuple, index class apart, of
 // an MSB file; 20 where the normal form is over the limit of a file; 19. Accepts with the file's tuples, the bytes written and

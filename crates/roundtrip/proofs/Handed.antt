@@ -9,8 +9,8 @@ use native.Mathlib.Omega.{arith}
 use borrow.Author.Tests.{eqb-true, leb-true, ltb-false, le-ltb, not-false}
 use lib.Dec.{eqb, leb, ltb}
 use lib.IntN.{ℤ, pos, negsuc}
-use lib.ListN.{length, take, drop, getD}
-use lib.Seq.{length-take-le}
+use lib.ListN.{length, take, drop, getD, replicate, length-replicate}
+use lib.Seq.{length-take-le, take-all}
 use Rattle.rules.specs.Rules.{_⇒_}
 use Rattle.rules.proofs.Bools.{both-true}
 use Rattle.order.specs.Order.{Bytes}
@@ -28,14 +28,14 @@ use Rattle.turning.specs.Rows.{Value, number, text, woven, numbersIn, textIn, F
 use Rattle.turning.specs.inner.Codes.{textFits}
 use Rattle.content.specs.Items.{rowIn}
 use Rattle.tuples.specs.Readers.{isRecord, recordsOf, only, readAnswer, readValues, rowBy, rowOf}
-use Rattle.tuples.specs.Writers.{plainBytes}
+use Rattle.tuples.specs.Writers.{Written, plainBytes}
 use Rattle.tuples.proofs.Fields.{IsRow}
 use Rattle.rows.specs.Readers.{countOf, fieldsBy, lentBy, rowAnswer, rowNumbers, rowText, charactersAt, answered, RowAt}
 use Rattle.rows.specs.Writers.{rowValues, rowLength, RowWritten}
 use Rattle.rows.specs.Integers.{integer, natural, pattern, integers, patterns, rowIntegers, InRange, Typed}
 use Rattle.rows.specs.declared.RowRead.{RowRead}
 use Rattle.rows.specs.declared.RowRead.the-variants.{Read}
-use Rattle.rows.proofs.Shapes.{is-row, row-listed, noText, Textual, textual, none-bare, fixed-length}
+use Rattle.rows.proofs.Shapes.{is-row, row-listed, noText, Textual, textual, none-bare, fits-by, fixed-length}
 use Rattle.rows.proofs.Writing.{lengths-row}
 use Rattle.rows.proofs.Reading.{as-only}
 use Rattle.rows.proofs.Views.{there-characters}
@@ -225,3 +225,128 @@ module _ {k : ℕ} {ns t : List ℕ} (w : Taken k ns t) (g : RowSound k ns t) wh
 pub row-again : {k : ℕ} {ns t : List ℕ} {o : Bool} {out left f : List ℕ} {p : ℕ} {n : Counts} → RowSound k ns t → RowWritten k ns t o out (Accepted n) left
     → Holds f p o (take (n .written) left) → RowBack k ns t f p
 row-again {o = o} g w h = row-back (taken o w) g (written-held (refl, (refl, (refl, (refl, (refl, tt))))) w h)
+
+-- ---- a view of the row: integers, each in the range of its width and sign
+-- a row whose characters are so many
+abbrev widened : List Field → ℕ → List Field
+widened [] m = []
+widened (num g w ∷ fs) m = num g w ∷ widened fs m
+widened (txt w ∷ fs) m = txt m ∷ widened fs m
+widened (gap w ∷ fs) m = gap w ∷ widened fs m
+widened (ident ∷ fs) m = ident ∷ widened fs m
+
+below : (g : Bool) (w : ℕ) (z : ℤ) → InRange g w z → pattern g w z < 256 ^ w
+below false w (pos n) h = h
+below false w (negsuc n) h = absurd h
+below true zero z h = absurd h
+below true (suc w) z h = pattern-below w z h
+
+fit-widened : (fs : List Field) (zs : List ℤ) (t : List ℕ) → Typed fs zs → Fit (widened fs (length t)) (woven fs (patterns fs zs) t)
+fit-widened [] [] t h = fit-end
+fit-widened [] (z ∷ zs) t h = absurd h
+fit-widened (num g w ∷ fs) [] t h = absurd h
+fit-widened (num g w ∷ fs) (z ∷ zs) t h = fit-num (below g w z (h .0)) (fit-widened fs zs t (h .1))
+fit-widened (txt w ∷ fs) zs t h = fit-txt refl (fit-widened fs zs t h)
+fit-widened (gap w ∷ fs) zs t h = fit-gap (fit-widened fs zs t h)
+fit-widened (ident ∷ fs) zs t h = fit-ident (fit-widened fs zs t h)
+
+-- a row of as many characters as it says is itself
+widened-fit : (fs : List Field) (t : List ℕ) → textFits fs t ≡ true → widened (fs ++ (s 4 ∷ [])) (length t) ≡ fs ++ (s 4 ∷ [])
+widened-fit [] t e = refl
+widened-fit (num g w ∷ fs) t e = ap (λ (l : List Field). num g w ∷ l) (widened-fit fs t e)
+widened-fit (txt w ∷ fs) t e =
+    let b = both-true (eqb (length t) w) (textFits fs t) e in
+    ap₂ (λ (m : ℕ) (l : List Field). txt m ∷ l) (eqb-true (length t) w (b .0)) (widened-fit fs t (b .1))
+widened-fit (gap w ∷ fs) t e = ap (λ (l : List Field). gap w ∷ l) (widened-fit fs t e)
+widened-fit (ident ∷ fs) t e = ap (λ (l : List Field). ident ∷ l) (widened-fit fs t e)
+
+widened-last : (fs : List Field) (a m : ℕ) → noText fs ≡ true → widened (fs ++ (txt a ∷ s 4 ∷ [])) m ≡ fs ++ (txt m ∷ s 4 ∷ [])
+widened-last [] a m e = refl
+widened-last (num g w ∷ fs) a m e = ap (λ (l : List Field). num g w ∷ l) (widened-last fs a m e)
+widened-last (txt w ∷ fs) a m e = absurd (let z : _≡_ {A = ℕ} 0 1 = cc in omega arith)
+widened-last (gap w ∷ fs) a m e = ap (λ (l : List Field). gap w ∷ l) (widened-last fs a m e)
+widened-last (ident ∷ fs) a m e = ap (λ (l : List Field). ident ∷ l) (widened-last fs a m e)
+
+-- so is the row of a type, in the tuple that its characters make
+as-wide : (q : Shape) (t : List ℕ) (n : ℕ) → IsRow q → Textual q → fitting (lengthFrom q) n ≡ true → n ≡ bareSize (fieldsBy q) + length t + 14
+    → widened (rowBy q 0) (length t) ≡ rowBy q (n - 10)
+as-wide indexed t n z x e l = absurd z
+as-wide (row fs none) t n z x e l =
+    let m : length t ≡ length (replicate {A = ℕ} (size fs - bareSize fs) 0) = omega (arith, l, fixed-length fs n e, length-replicate {A = ℕ} (size fs - bareSize fs) 0) in
+    widened-fit fs t (fits-by fs t (replicate (size fs - bareSize fs) 0) m ∙ x .1)
+as-wide (row fs (some least)) t n z x e l =
+    let m : length t ≡ n - 10 - (size fs + 4) = omega (arith, l, none-bare fs x) in
+    widened-last fs (0 - (size fs + 4)) (length t) x ∙ ap (λ (i : ℕ). fs ++ (txt i ∷ s 4 ∷ [])) m
+as-wide pairs t n z x e l = absurd z
+as-wide words t n z x e l = absurd z
+as-wide unlisted t n z x e l = absurd z
+
+-- the integers are found again from their patterns
+integer-back : (g : Bool) (w : ℕ) (z : ℤ) → InRange g w z → integer g w (pattern g w z) ≡ z
+integer-back false w (pos n) h = refl
+integer-back false w (negsuc n) h = absurd h
+integer-back true zero z h = absurd h
+integer-back true (suc w) z h = signed-pattern w z h
+
+pub integers-back : (fs : List Field) (zs : List ℤ) → Typed fs zs → integers fs (patterns fs zs) ≡ zs
+integers-back [] [] h = refl
+integers-back [] (z ∷ zs) h = absurd h
+integers-back (num g w ∷ fs) [] h = absurd h
+integers-back (num g w ∷ fs) (z ∷ zs) h = ap₂ (λ (x : ℤ) (l : List ℤ). x ∷ l) (integer-back g w z (h .0)) (integers-back fs zs (h .1))
+integers-back (txt w ∷ fs) zs h = integers-back fs zs h
+integers-back (gap w ∷ fs) zs h = integers-back fs zs h
+integers-back (ident ∷ fs) zs h = integers-back fs zs h
+
+length-patterns : (fs : List Field) (zs : List ℤ) → Typed fs zs → length (patterns fs zs) ≡ many fs
+length-patterns [] [] h = refl
+length-patterns [] (z ∷ zs) h = absurd h
+length-patterns (num g w ∷ fs) [] h = absurd h
+length-patterns (num g w ∷ fs) (z ∷ zs) h = omega (arith, length-patterns fs zs (h .1))
+length-patterns (txt w ∷ fs) zs h = omega (arith, length-patterns fs zs h)
+length-patterns (gap w ∷ fs) zs h = omega (arith, length-patterns fs zs h)
+length-patterns (ident ∷ fs) zs h = omega (arith, length-patterns fs zs h)
+
+-- the fields of a view, as the integers zs of its row, and its characters t, in a file that holds what its writer writes of them
+pub record Viewed (k : ℕ) (zs : List ℤ) (t f : List ℕ) (p : ℕ) : Type 0 where
+  pub answer : readAnswer (only k) f p ≡ accepting 1 0
+  pub integers : rowIntegers k f p ≡ zs
+  pub characters : charactersAt f (rowText k f p) ≡ t
+
+module _ (k : ℕ) (zs : List ℤ) (t : List ℕ) (c : k < 65536) (g : Typed (rowOf k 0) zs) (b : Bytes t) (w : Taken k (patterns (rowOf k 0) zs) t) where
+  abbrev ns : List ℕ
+  ns = patterns (rowOf k 0) zs
+
+  sound : RowSound k (patterns (rowOf k 0) zs) t
+  sound =
+      let n = rowLength k t in
+      let wide = as-wide (shapeOf k) t n (is-row (shapeOf k) (w .type)) (textual (kindOf k)) (lengths-row k n (w .fits)) refl in
+      record { code = c; values = subst (λ (fs : List Field). Fit fs (rowValues k ns t)) wide (fit-widened (rowOf k 0) zs t g); characters = b }
+
+  pub viewed : {f : List ℕ} {p : ℕ} {o : Bool} → Holds f p o (plainBytes o k (rowValues k (patterns (rowOf k 0) zs) t)) → Viewed k zs t f p
+  viewed h =
+      let all = take-all (countOf k) ns (omega (arith, length-patterns (rowOf k 0) zs g)) in
+      record {
+        answer = answer-back w sound h;
+        integers = ap (integers (rowOf k 0)) (numbers-back w sound h ∙ all) ∙ integers-back (rowOf k 0) zs g;
+        characters = characters-back w sound h;
+      }
+
+-- what the writer of a view wrote: by all rules of the row, or by 19 alone
+pub again-row : (k : ℕ) (zs : List ℤ) (t : List ℕ) → k < 65536 → Typed (rowOf k 0) zs → Bytes t
+    → (o : Bool) {out left f : List ℕ} {p : ℕ} {n : Counts} → RowWritten k (patterns (rowOf k 0) zs) t o out (Accepted n) left
+    → Holds f p o (take (n .written) left) → Viewed k zs t f p
+again-row k zs t c g b o w h = viewed k zs t c g b (taken o w) (written-held (refl, (refl, (refl, (refl, (refl, tt))))) w h)
+
+pub again-plain : (k : ℕ) (zs : List ℤ) (t : List ℕ) → k < 65536 → Typed (rowOf k 0) zs → Bytes t
+    → not (isRecord k) ≡ false → not (fitting (lengthsOf k) (rowLength k t)) ≡ false → ltb 262144 (rowLength k t) ≡ false
+    → (o : Bool) {out left f : List ℕ} {p : ℕ} {n : Counts} → Written [] (plainBytes o k (rowValues k (patterns (rowOf k 0) zs) t)) out (Accepted n) left
+    → Holds f p o (take (n .written) left) → Viewed k zs t f p
+again-plain k zs t c g b e f l o w h =
+    viewed k zs t c g b
+    (record {
+      type = not-false _ e;
+      there = omega (arith, length-patterns (rowOf k 0) zs g);
+      fits = not-false _ f;
+      most = ltb-false 262144 (rowLength k t) l;
+    })
+    (written-held (refl, tt) w h)

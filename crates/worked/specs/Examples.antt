@@ -14,7 +14,8 @@ use Rattle.frame.specs.declared.Step.the-variants.{Tuple, End, Refused}
 use Rattle.frame.specs.Steps.{stepForward, stepNumbers}
 use Rattle.samples.specs.Runs.{radix, isRun, runLength}
 use Rattle.samples.specs.Lists.{numbersOf, valuesOf}
-use Rattle.tuples.specs.Readers.{only, readAnswer, readValues}
+use Rattle.tuples.specs.Readers.{only, readAnswer}
+use Rattle.rows.specs.Integers.{rowIntegers}
 use Rattle.navigation.specs.Navigation.{navigationOf, answered}
 use Rattle.navigation.specs.declared.NavigationRead.{NavigationRead}
 use Rattle.navigation.specs.declared.NavigationRead.the-variants.{Read}
@@ -76,7 +77,7 @@ isTuple (Refused c p) = false
 
 -- what the navigation's reader says at place 4, by its promise
 abbrev pub navigationIn : List ℕ → NavigationRead
-navigationIn f = answered (readAnswer (only 30) f 4) (navigationOf (readValues f 4))
+navigationIn f = answered (readAnswer (only 30) f 4) (navigationOf (rowIntegers 30 f 4))
 
 abbrev pub hasHeading : ℤ → NavigationRead → Bool
 hasHeading z (Read r) = sameInt (r .heading) z
