@@ -3,7 +3,13 @@
 
 mod header;
 mod host;
+mod listed;
+mod proofs;
+mod roundtrip;
+mod source;
+mod specs;
 mod table;
+mod template;
 mod words;
 
 use std::path::Path;
@@ -25,13 +31,24 @@ fn main() {
 fn make(folder: &Path) -> Result<(), String> {
     let text = fs::read_to_string(TABLE).map_err(|error| format!("{TABLE}: {error}"))?;
     let records = table::parse(&text).map_err(|why| format!("{TABLE}, {why}"))?;
-    for file in header::files(&records) {
-        write(folder, file)?;
-    }
-    for file in host::files(&records) {
+    let listed = listed::files(&records)?;
+    for file in files(&records).into_iter().chain(listed) {
         write(folder, file)?;
     }
     Ok(())
+}
+
+/// All that is made.
+fn files(records: &[table::Record]) -> Vec<File> {
+    let made = [
+        header::files(records),
+        host::files(records),
+        source::files(records),
+        specs::files(records),
+        proofs::files(records),
+        roundtrip::files(records),
+    ];
+    made.concat()
 }
 
 /// Writes a file, and the folders that it needs.
@@ -42,4 +59,25 @@ fn write(folder: &Path, (path, text): File) -> Result<(), String> {
         .map_or(Ok(()), fs::create_dir_all)
         .and_then(|()| fs::write(&path, text));
     written.map_err(|error: io::Error| format!("{}: {error}", path.display()))
+}
+
+#[cfg(test)]
+mod tests {
+    use super::*;
+
+    #[test]
+    fn crates_say_where_they_come_from_in_lines_of_a_page() {
+        let records = table::parse(include_str!("../records.txt")).unwrap();
+        for (path, text) in files(&records) {
+            if !path.starts_with("crates/") {
+                continue;
+            }
+            let first = text.lines().next().unwrap();
+            assert!(first.ends_with(template::MADE), "{path}");
+            let wide = text
+                .lines()
+                .find(|line| line.chars().count() > template::WIDEST);
+            assert_eq!(wide, None, "{path}");
+        }
+    }
 }

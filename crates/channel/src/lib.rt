@@ -1,20 +1,17 @@
-// Channel, type 1000: TR Table 4. Its remarks, thirty characters, stand beside it.
+// Made from views/records.txt by views/make.
+// Channel, type 1000: TR Table 4. Its remarks, 30 characters, stand beside it; to write others is refused by 9 at 0.
 use layout::Answer;
 use layout::DocumentId;
 use layout::SoftwareChannel;
 use layout::Transceiver;
-use layout::codes;
 use layout::types;
-use tuples::Opened;
+use rows::RowRead;
 use tuples::Part;
 ghost use mathlib.Core.Path.{_≡_};
-ghost use mathlib.Core.List.{[]};
-ghost use Prim.Native.Nat.{_+_, _≤_};
-ghost use lib.ListN.{length, drop};
-ghost use Rattle.turning.specs.Rows.{valuesOf};
 ghost use Rattle.tuples.specs.Readers.{rowOf};
-ghost use Rattle.tuples.specs.Writers.{numbersIn};
-ghost use Rattle.channel.specs.Channel.{channelOf, channelValues, ChannelAt, ChannelWritten};
+ghost use Rattle.rows.specs.Integers.{integersFrom, patterns};
+ghost use Rattle.rows.specs.Places.{placesOf};
+ghost use Rattle.channel.specs.Channel.{channelOf, channelIntegers, ChannelAt, ChannelWritten};
 
 pub struct Channel {
     pub software_channel_identifier: SoftwareChannel,
@@ -44,7 +41,7 @@ pub struct Channel {
     pub tuple_attribute: i32,
 }
 
-// What reading gives: the record, and where its remarks stand, or a refusal.
+// What reading gives: the record and the place of its remarks, or a refusal.
 pub enum ChannelRead {
     Read { record: Channel, remarks: Part },
     Refused { code: u8, place: usize },
@@ -53,8 +50,10 @@ pub enum ChannelRead {
 impl Channel {
     pub const CODE: u16 = types::CHANNEL;
 
+    // The bytes of its tuple.
     pub const LENGTH: usize = 108;
 
+    // Where its fields stand, in bytes from the tuple's first.
     pub const SOFTWARE_CHANNEL_IDENTIFIER: usize = 6;
 
     pub const ECHOSOUNDER_DOCUMENT_IDENTIFIER: usize = 8;
@@ -135,7 +134,34 @@ impl Channel {
         bottom_window_max: u32,
         tuple_attribute: i32,
     ) -> Channel
-        ensures { λ r. ⌜ r ≡ record { «software_channel_identifier» = «software_channel_identifier»; «echosounder_document_identifier» = «echosounder_document_identifier»; «sampling_rate» = «sampling_rate»; «type_of_data_sample» = «type_of_data_sample»; «time_varied_gain_mode» = «time_varied_gain_mode»; «transceiver_channel_number» = «transceiver_channel_number»; «acoustic_frequency» = «acoustic_frequency»; «installation_depth_of_transducer» = «installation_depth_of_transducer»; «alongship_angle_offset_of_the_transducer_face» = «alongship_angle_offset_of_the_transducer_face»; «athwartship_angle_offset_of_the_transducer_face» = «athwartship_angle_offset_of_the_transducer_face»; «alongship_angle_offset_of_the_main_axis_of_the_acoustic_beam» = «alongship_angle_offset_of_the_main_axis_of_the_acoustic_beam»; «athwartship_angle_offset_of_the_main_axis_of_the_acoustic_beam» = «athwartship_angle_offset_of_the_main_axis_of_the_acoustic_beam»; «absorption_of_sound» = «absorption_of_sound»; «pulse_length» = «pulse_length»; bandwidth = bandwidth; «calibration_source_level» = «calibration_source_level»; «beamwidth_3_db_of_the_transducer_beam» = «beamwidth_3_db_of_the_transducer_beam»; «beam_pattern» = «beam_pattern»; «wide_beam_drop_off» = «wide_beam_drop_off»; «calibration_receiving_sensitivity» = «calibration_receiving_sensitivity»; «receiver_gain» = «receiver_gain»; «bottom_detection_minimum_level» = «bottom_detection_minimum_level»; «bottom_window_min» = «bottom_window_min»; «bottom_window_max» = «bottom_window_max»; «tuple_attribute» = «tuple_attribute» } ⌝ }
+        ensures { λ r. ⌜ r ≡ record {
+          «software_channel_identifier» = «software_channel_identifier»;
+          «echosounder_document_identifier» = «echosounder_document_identifier»;
+          «sampling_rate» = «sampling_rate»;
+          «type_of_data_sample» = «type_of_data_sample»;
+          «time_varied_gain_mode» = «time_varied_gain_mode»;
+          «transceiver_channel_number» = «transceiver_channel_number»;
+          «acoustic_frequency» = «acoustic_frequency»;
+          «installation_depth_of_transducer» = «installation_depth_of_transducer»;
+          «alongship_angle_offset_of_the_transducer_face» = «alongship_angle_offset_of_the_transducer_face»;
+          «athwartship_angle_offset_of_the_transducer_face» = «athwartship_angle_offset_of_the_transducer_face»;
+          «alongship_angle_offset_of_the_main_axis_of_the_acoustic_beam» = «alongship_angle_offset_of_the_main_axis_of_the_acoustic_beam»;
+          «athwartship_angle_offset_of_the_main_axis_of_the_acoustic_beam» =
+              «athwartship_angle_offset_of_the_main_axis_of_the_acoustic_beam»;
+          «absorption_of_sound» = «absorption_of_sound»;
+          «pulse_length» = «pulse_length»;
+          bandwidth = bandwidth;
+          «calibration_source_level» = «calibration_source_level»;
+          «beamwidth_3_db_of_the_transducer_beam» = «beamwidth_3_db_of_the_transducer_beam»;
+          «beam_pattern» = «beam_pattern»;
+          «wide_beam_drop_off» = «wide_beam_drop_off»;
+          «calibration_receiving_sensitivity» = «calibration_receiving_sensitivity»;
+          «receiver_gain» = «receiver_gain»;
+          «bottom_detection_minimum_level» = «bottom_detection_minimum_level»;
+          «bottom_window_min» = «bottom_window_min»;
+          «bottom_window_max» = «bottom_window_max»;
+          «tuple_attribute» = «tuple_attribute»;
+        } ⌝ }
     {
         Channel {
             software_channel_identifier,
@@ -166,161 +192,130 @@ impl Channel {
         }
     }
 
-    // The fields of the tuple at a place.
-    fn at(file: &[u8], place: usize, msb: bool) -> Channel
-        requires { ⌜ place + 108 ≤ length (now file) ⌝ }
-        ensures { λ r. ⌜ r ≡ channelOf (valuesOf msb (rowOf 1000 108) (drop (place + 6) (now (file .entry)))) ⌝ }
+    // The places of its fields in the row's order, then its length, and 0: it has no other.
+    pub fn places() -> [usize; 28]
+        ensures { λ r. ⌜ r ≡ placesOf 1000 ⌝ }
+    {
+        [
+            Channel::SOFTWARE_CHANNEL_IDENTIFIER,
+            Channel::ECHOSOUNDER_DOCUMENT_IDENTIFIER,
+            Channel::SAMPLING_RATE,
+            Channel::TYPE_OF_DATA_SAMPLE,
+            Channel::TIME_VARIED_GAIN_MODE,
+            Channel::TRANSCEIVER_CHANNEL_NUMBER,
+            Channel::ACOUSTIC_FREQUENCY,
+            Channel::INSTALLATION_DEPTH_OF_TRANSDUCER,
+            Channel::ALONGSHIP_ANGLE_OFFSET_OF_THE_TRANSDUCER_FACE,
+            Channel::ATHWARTSHIP_ANGLE_OFFSET_OF_THE_TRANSDUCER_FACE,
+            Channel::ALONGSHIP_ANGLE_OFFSET_OF_THE_MAIN_AXIS_OF_THE_ACOUSTIC_BEAM,
+            Channel::ATHWARTSHIP_ANGLE_OFFSET_OF_THE_MAIN_AXIS_OF_THE_ACOUSTIC_BEAM,
+            Channel::ABSORPTION_OF_SOUND,
+            Channel::PULSE_LENGTH,
+            Channel::BANDWIDTH,
+            Channel::CALIBRATION_SOURCE_LEVEL,
+            Channel::BEAMWIDTH_3_DB_OF_THE_TRANSDUCER_BEAM,
+            Channel::BEAM_PATTERN,
+            Channel::WIDE_BEAM_DROP_OFF,
+            Channel::CALIBRATION_RECEIVING_SENSITIVITY,
+            Channel::RECEIVER_GAIN,
+            Channel::BOTTOM_DETECTION_MINIMUM_LEVEL,
+            Channel::BOTTOM_WINDOW_MIN,
+            Channel::BOTTOM_WINDOW_MAX,
+            Channel::REMARKS,
+            Channel::TUPLE_ATTRIBUTE,
+            Channel::LENGTH,
+            0,
+        ]
+    }
+
+    // The record of a row's numbers, each by the lower bytes of its width.
+    pub fn of(numbers: [u32; 25]) -> Channel
+        ensures { λ r. ⌜ r ≡ channelOf (integersFrom (rowOf 1000 0) numbers 0) ⌝ }
     {
         Channel {
-            software_channel_identifier: SoftwareChannel(order::read2(
-                file,
-                place + Channel::SOFTWARE_CHANNEL_IDENTIFIER,
-                msb,
-            )),
-            echosounder_document_identifier: DocumentId(order::read4(
-                file,
-                place + Channel::ECHOSOUNDER_DOCUMENT_IDENTIFIER,
-                msb,
-            )),
-            sampling_rate: order::read4(file, place + Channel::SAMPLING_RATE, msb),
-            type_of_data_sample: order::read2(file, place + Channel::TYPE_OF_DATA_SAMPLE, msb),
-            time_varied_gain_mode: order::read2(file, place + Channel::TIME_VARIED_GAIN_MODE, msb),
-            transceiver_channel_number: Transceiver(order::read2(
-                file,
-                place + Channel::TRANSCEIVER_CHANNEL_NUMBER,
-                msb,
-            )),
-            acoustic_frequency: order::read4(file, place + Channel::ACOUSTIC_FREQUENCY, msb),
-            installation_depth_of_transducer: order::read4(
-                file,
-                place + Channel::INSTALLATION_DEPTH_OF_TRANSDUCER,
-                msb,
+            software_channel_identifier: SoftwareChannel(rows::unsigned2(numbers[0])),
+            echosounder_document_identifier: DocumentId(rows::unsigned4(numbers[1])),
+            sampling_rate: rows::unsigned4(numbers[2]),
+            type_of_data_sample: rows::unsigned2(numbers[3]),
+            time_varied_gain_mode: rows::unsigned2(numbers[4]),
+            transceiver_channel_number: Transceiver(rows::unsigned2(numbers[5])),
+            acoustic_frequency: rows::unsigned4(numbers[6]),
+            installation_depth_of_transducer: rows::unsigned4(numbers[7]),
+            alongship_angle_offset_of_the_transducer_face: rows::signed2(numbers[8]),
+            athwartship_angle_offset_of_the_transducer_face: rows::signed2(numbers[9]),
+            alongship_angle_offset_of_the_main_axis_of_the_acoustic_beam: rows::signed2(
+                numbers[10],
             ),
-            alongship_angle_offset_of_the_transducer_face: tuples::signed2_at(
-                file,
-                place + Channel::ALONGSHIP_ANGLE_OFFSET_OF_THE_TRANSDUCER_FACE,
-                msb,
+            athwartship_angle_offset_of_the_main_axis_of_the_acoustic_beam: rows::signed2(
+                numbers[11],
             ),
-            athwartship_angle_offset_of_the_transducer_face: tuples::signed2_at(
-                file,
-                place + Channel::ATHWARTSHIP_ANGLE_OFFSET_OF_THE_TRANSDUCER_FACE,
-                msb,
-            ),
-            alongship_angle_offset_of_the_main_axis_of_the_acoustic_beam: tuples::signed2_at(
-                file,
-                place + Channel::ALONGSHIP_ANGLE_OFFSET_OF_THE_MAIN_AXIS_OF_THE_ACOUSTIC_BEAM,
-                msb,
-            ),
-            athwartship_angle_offset_of_the_main_axis_of_the_acoustic_beam: tuples::signed2_at(
-                file,
-                place + Channel::ATHWARTSHIP_ANGLE_OFFSET_OF_THE_MAIN_AXIS_OF_THE_ACOUSTIC_BEAM,
-                msb,
-            ),
-            absorption_of_sound: order::read2(file, place + Channel::ABSORPTION_OF_SOUND, msb),
-            pulse_length: order::read2(file, place + Channel::PULSE_LENGTH, msb),
-            bandwidth: order::read2(file, place + Channel::BANDWIDTH, msb),
-            calibration_source_level: order::read2(
-                file,
-                place + Channel::CALIBRATION_SOURCE_LEVEL,
-                msb,
-            ),
-            beamwidth_3_db_of_the_transducer_beam: order::read2(
-                file,
-                place + Channel::BEAMWIDTH_3_DB_OF_THE_TRANSDUCER_BEAM,
-                msb,
-            ),
-            beam_pattern: order::read2(file, place + Channel::BEAM_PATTERN, msb),
-            wide_beam_drop_off: order::read2(file, place + Channel::WIDE_BEAM_DROP_OFF, msb),
-            calibration_receiving_sensitivity: tuples::signed2_at(
-                file,
-                place + Channel::CALIBRATION_RECEIVING_SENSITIVITY,
-                msb,
-            ),
-            receiver_gain: tuples::signed2_at(file, place + Channel::RECEIVER_GAIN, msb),
-            bottom_detection_minimum_level: tuples::signed2_at(
-                file,
-                place + Channel::BOTTOM_DETECTION_MINIMUM_LEVEL,
-                msb,
-            ),
-            bottom_window_min: order::read4(file, place + Channel::BOTTOM_WINDOW_MIN, msb),
-            bottom_window_max: order::read4(file, place + Channel::BOTTOM_WINDOW_MAX, msb),
-            tuple_attribute: tuples::signed4_at(file, place + Channel::TUPLE_ATTRIBUTE, msb),
+            absorption_of_sound: rows::unsigned2(numbers[12]),
+            pulse_length: rows::unsigned2(numbers[13]),
+            bandwidth: rows::unsigned2(numbers[14]),
+            calibration_source_level: rows::unsigned2(numbers[15]),
+            beamwidth_3_db_of_the_transducer_beam: rows::unsigned2(numbers[16]),
+            beam_pattern: rows::unsigned2(numbers[17]),
+            wide_beam_drop_off: rows::unsigned2(numbers[18]),
+            calibration_receiving_sensitivity: rows::signed2(numbers[19]),
+            receiver_gain: rows::signed2(numbers[20]),
+            bottom_detection_minimum_level: rows::signed2(numbers[21]),
+            bottom_window_min: rows::unsigned4(numbers[22]),
+            bottom_window_max: rows::unsigned4(numbers[23]),
+            tuple_attribute: rows::signed4(numbers[24]),
         }
+    }
+
+    // The numbers of the row, in its order, the attribute last; a signed one as its pattern.
+    pub fn numbers(self) -> [u32; 25]
+        ensures { λ r. ⌜ r ≡ patterns (rowOf 1000 0) (channelIntegers self) ⌝ }
+    {
+        [
+            rows::of_unsigned2(self.software_channel_identifier.0),
+            self.echosounder_document_identifier.0,
+            self.sampling_rate,
+            rows::of_unsigned2(self.type_of_data_sample),
+            rows::of_unsigned2(self.time_varied_gain_mode),
+            rows::of_unsigned2(self.transceiver_channel_number.0),
+            self.acoustic_frequency,
+            self.installation_depth_of_transducer,
+            rows::of_signed2(self.alongship_angle_offset_of_the_transducer_face),
+            rows::of_signed2(self.athwartship_angle_offset_of_the_transducer_face),
+            rows::of_signed2(self.alongship_angle_offset_of_the_main_axis_of_the_acoustic_beam),
+            rows::of_signed2(self.athwartship_angle_offset_of_the_main_axis_of_the_acoustic_beam),
+            rows::of_unsigned2(self.absorption_of_sound),
+            rows::of_unsigned2(self.pulse_length),
+            rows::of_unsigned2(self.bandwidth),
+            rows::of_unsigned2(self.calibration_source_level),
+            rows::of_unsigned2(self.beamwidth_3_db_of_the_transducer_beam),
+            rows::of_unsigned2(self.beam_pattern),
+            rows::of_unsigned2(self.wide_beam_drop_off),
+            rows::of_signed2(self.calibration_receiving_sensitivity),
+            rows::of_signed2(self.receiver_gain),
+            rows::of_signed2(self.bottom_detection_minimum_level),
+            self.bottom_window_min,
+            self.bottom_window_max,
+            rows::of_signed4(self.tuple_attribute),
+        ]
     }
 
     // Reads the tuple at a place of a file.
     pub fn read(file: &[u8], place: usize) -> ChannelRead
         ensures { λ r. ⌜ ChannelAt (now (file .entry)) place r ⌝ }
     {
-        match tuples::open_tuple(file, place, Channel::CODE) {
-            Opened::Refused { code, place } => ChannelRead::Refused { code, place },
-            Opened::Tuple {
-                msb,
-                whole: _,
-                code: _,
-            } => ChannelRead::Read {
-                record: Channel::at(file, place, msb),
-                remarks: Part {
-                    place: place + Channel::REMARKS,
-                    length: turning::REMARK,
-                },
+        let mut numbers = [0u32; 25];
+        match rows::read_row(file, place, Channel::CODE, &mut numbers) {
+            RowRead::Refused { code, place } => ChannelRead::Refused { code, place },
+            RowRead::Read { text } => ChannelRead::Read {
+                record: Channel::of(numbers),
+                remarks: text,
             },
         }
     }
 
-    // The numbers of the row, in its order, the attribute last; a signed one as its pattern.
-    pub fn numbers(self) -> [u32; 25]
-        ensures { λ r. ⌜ r ≡ numbersIn (channelValues self []) ⌝ }
-    {
-        [
-            self.software_channel_identifier.0 as u32,
-            self.echosounder_document_identifier.0,
-            self.sampling_rate,
-            self.type_of_data_sample as u32,
-            self.time_varied_gain_mode as u32,
-            self.transceiver_channel_number.0 as u32,
-            self.acoustic_frequency,
-            self.installation_depth_of_transducer,
-            order::pattern2(self.alongship_angle_offset_of_the_transducer_face) as u32,
-            order::pattern2(self.athwartship_angle_offset_of_the_transducer_face) as u32,
-            order::pattern2(
-                self.alongship_angle_offset_of_the_main_axis_of_the_acoustic_beam,
-            ) as u32,
-            order::pattern2(
-                self.athwartship_angle_offset_of_the_main_axis_of_the_acoustic_beam,
-            ) as u32,
-            self.absorption_of_sound as u32,
-            self.pulse_length as u32,
-            self.bandwidth as u32,
-            self.calibration_source_level as u32,
-            self.beamwidth_3_db_of_the_transducer_beam as u32,
-            self.beam_pattern as u32,
-            self.wide_beam_drop_off as u32,
-            order::pattern2(self.calibration_receiving_sensitivity) as u32,
-            order::pattern2(self.receiver_gain) as u32,
-            order::pattern2(self.bottom_detection_minimum_level) as u32,
-            self.bottom_window_min,
-            self.bottom_window_max,
-            order::pattern4(self.tuple_attribute),
-        ]
-    }
-
-    // Writes the tuple; 9 where the remarks are no thirty characters, then 19.
+    // Writes the tuple; 9 unless there are 30 characters of remarks, then 19.
     pub fn write(self, remarks: &[u8], msb: bool, out: &mut [u8]) -> Answer
         ensures { λ r. ⌜ ChannelWritten msb self (now (remarks .entry)) (now (out .entry)) r (now (out .exit)) ⌝ }
     {
-        if remarks.len() != turning::REMARK {
-            return layout::refuse(codes::UNFIT, 0);
-        }
-        tuples::write_tuple(
-            Channel::CODE,
-            Channel::LENGTH,
-            &self.numbers(),
-            remarks,
-            &[],
-            self.tuple_attribute,
-            msb,
-            out,
-        )
+        rows::write_row(Channel::CODE, &self.numbers(), remarks, msb, out)
     }
 }

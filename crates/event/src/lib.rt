@@ -1,20 +1,15 @@
-// Event marker, type 10110: TR Table 11. Its text, a multiple of four characters, stands beside it.
+// Made from views/records.txt by views/make.
+// Event, type 10110: TR Table 11. An event marker. Its text, a multiple of four characters and not none, stands beside it; to
+// write another is refused by 9 at 0, one that makes the tuple too long by 11 at 0.
 use layout::Answer;
-use layout::codes;
 use layout::types;
-use tuples::Opened;
+use rows::RowRead;
 use tuples::Part;
 ghost use mathlib.Core.Path.{_≡_};
-ghost use mathlib.Core.List.{[]};
-ghost use Prim.Native.Nat.{_+_, _≤_};
-ghost use lib.ListN.{length, drop};
-ghost use Rattle.turning.specs.Rows.{valuesOf};
 ghost use Rattle.tuples.specs.Readers.{rowOf};
-ghost use Rattle.tuples.specs.Writers.{numbersIn};
-ghost use Rattle.event.specs.Event.{eventOf, eventValues, EventAt, EventWritten};
-
-// A text is a multiple of so many characters, and not less.
-const LEAST_TEXT: usize = 4;
+ghost use Rattle.rows.specs.Integers.{integersFrom, patterns};
+ghost use Rattle.rows.specs.Places.{placesOf};
+ghost use Rattle.event.specs.Event.{eventOf, eventIntegers, EventAt, EventWritten};
 
 pub struct Event {
     pub time_fraction: u16,
@@ -22,7 +17,7 @@ pub struct Event {
     pub tuple_attribute: i32,
 }
 
-// What reading gives: the record, and where its text stands, or a refusal.
+// What reading gives: the record and the place of its text, or a refusal.
 pub enum EventRead {
     Read { record: Event, text: Part },
     Refused { code: u8, place: usize },
@@ -31,9 +26,12 @@ pub enum EventRead {
 impl Event {
     pub const CODE: u16 = types::EVENT;
 
-    // The length of an event marker but for its text.
-    pub const FRAMED: usize = 20;
+    // The bytes of its shortest tuple, and by how many another is longer, once or more.
+    pub const LEAST: usize = 24;
 
+    pub const STEP: usize = 4;
+
+    // Where its fields stand, in bytes from the tuple's first.
     pub const TIME_FRACTION: usize = 6;
 
     pub const TIME_CPU: usize = 8;
@@ -42,7 +40,11 @@ impl Event {
 
     // The record of these fields.
     pub fn new(time_fraction: u16, time_cpu: u32, tuple_attribute: i32) -> Event
-        ensures { λ r. ⌜ r ≡ record { «time_fraction» = «time_fraction»; «time_cpu» = «time_cpu»; «tuple_attribute» = «tuple_attribute» } ⌝ }
+        ensures { λ r. ⌜ r ≡ record {
+          «time_fraction» = «time_fraction»;
+          «time_cpu» = «time_cpu»;
+          «tuple_attribute» = «tuple_attribute»;
+        } ⌝ }
     {
         Event {
             time_fraction,
@@ -51,72 +53,60 @@ impl Event {
         }
     }
 
-    // The fields of the tuple at a place.
-    fn at(file: &[u8], place: usize, whole: usize, msb: bool) -> Event
-        requires { ⌜ (24 ≤ whole) × (place + whole ≤ length (now file)) ⌝ }
-        ensures { λ r. ⌜ r ≡ eventOf (valuesOf msb (rowOf 10110 whole) (drop (place + 6) (now (file .entry)))) ⌝ }
+    // The places of its fields in the row's order, in its shortest tuple, then the length of that, and the step to longer ones.
+    pub fn places() -> [usize; 6]
+        ensures { λ r. ⌜ r ≡ placesOf 10110 ⌝ }
+    {
+        [
+            Event::TIME_FRACTION,
+            Event::TIME_CPU,
+            Event::TEXT,
+            Event::LEAST - frame::TAIL,
+            Event::LEAST,
+            Event::STEP,
+        ]
+    }
+
+    // The record of a row's numbers, each by the lower bytes of its width.
+    pub fn of(numbers: [u32; 3]) -> Event
+        ensures { λ r. ⌜ r ≡ eventOf (integersFrom (rowOf 10110 0) numbers 0) ⌝ }
     {
         Event {
-            time_fraction: order::read2(file, place + Event::TIME_FRACTION, msb),
-            time_cpu: order::read4(file, place + Event::TIME_CPU, msb),
-            tuple_attribute: tuples::signed4_at(file, place + whole - frame::TAIL, msb),
+            time_fraction: rows::unsigned2(numbers[0]),
+            time_cpu: rows::unsigned4(numbers[1]),
+            tuple_attribute: rows::signed4(numbers[2]),
         }
+    }
+
+    // The numbers of the row, in its order, the attribute last; a signed one as its pattern.
+    pub fn numbers(self) -> [u32; 3]
+        ensures { λ r. ⌜ r ≡ patterns (rowOf 10110 0) (eventIntegers self) ⌝ }
+    {
+        [
+            rows::of_unsigned2(self.time_fraction),
+            self.time_cpu,
+            rows::of_signed4(self.tuple_attribute),
+        ]
     }
 
     // Reads the tuple at a place of a file.
     pub fn read(file: &[u8], place: usize) -> EventRead
         ensures { λ r. ⌜ EventAt (now (file .entry)) place r ⌝ }
     {
-        match tuples::open_tuple(file, place, Event::CODE) {
-            Opened::Refused { code, place } => EventRead::Refused { code, place },
-            Opened::Tuple {
-                msb,
-                whole,
-                code: _,
-            } => EventRead::Read {
-                record: Event::at(file, place, whole, msb),
-                text: Part {
-                    place: place + Event::TEXT,
-                    length: whole - frame::TAIL - Event::TEXT,
-                },
+        let mut numbers = [0u32; 3];
+        match rows::read_row(file, place, Event::CODE, &mut numbers) {
+            RowRead::Refused { code, place } => EventRead::Refused { code, place },
+            RowRead::Read { text } => EventRead::Read {
+                record: Event::of(numbers),
+                text,
             },
         }
     }
 
-    // The numbers of the row, in its order, the attribute last; a signed one as its pattern.
-    pub fn numbers(self) -> [u32; 3]
-        ensures { λ r. ⌜ r ≡ numbersIn (eventValues self []) ⌝ }
-    {
-        [
-            self.time_fraction as u32,
-            self.time_cpu,
-            order::pattern4(self.tuple_attribute),
-        ]
-    }
-
-    // Writes the tuple; 9 where the text is no multiple of four characters or none, 11 where the tuple would be too long, then 19.
+    // Writes the tuple; 9 unless there are 4 characters of text or more by steps of 4, 11 where the tuple is too long, then 19.
     pub fn write(self, text: &[u8], msb: bool, out: &mut [u8]) -> Answer
         ensures { λ r. ⌜ EventWritten msb self (now (text .entry)) (now (out .entry)) r (now (out .exit)) ⌝ }
     {
-        let n = text.len();
-        if n < LEAST_TEXT {
-            return layout::refuse(codes::UNFIT, 0);
-        }
-        if n % LEAST_TEXT != 0 {
-            return layout::refuse(codes::UNFIT, 0);
-        }
-        if frame::MOST - Event::FRAMED < n {
-            return layout::refuse(codes::OVERFULL, 0);
-        }
-        tuples::write_tuple(
-            Event::CODE,
-            Event::FRAMED + n,
-            &self.numbers(),
-            &[],
-            text,
-            self.tuple_attribute,
-            msb,
-            out,
-        )
+        rows::write_row(Event::CODE, &self.numbers(), text, msb, out)
     }
 }

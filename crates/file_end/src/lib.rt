@@ -1,15 +1,15 @@
-// End of file, type 65534: TR Table 17. Its possible data stand beside it; it is written with two bytes of them, both 0.
+// Made from views/records.txt by views/make.
+// FileEnd, type 65534: TR Table 17. Its possible data, 2 bytes or 6, 10, 14 and so on, stand beside it when it is read. It is
+// written with 2 bytes of them, all 0.
 use layout::Answer;
 use layout::types;
-use tuples::Opened;
+use rows::RowRead;
 use tuples::Part;
 ghost use mathlib.Core.Path.{_≡_};
-ghost use Prim.Native.Nat.{_+_, _≤_};
-ghost use lib.ListN.{length, drop};
-ghost use Rattle.turning.specs.Rows.{valuesOf};
 ghost use Rattle.tuples.specs.Readers.{rowOf};
-ghost use Rattle.tuples.specs.Writers.{numbersIn};
-ghost use Rattle.file_end.specs.FileEnd.{fileEndOf, fileEndValues, FileEndAt, FileEndWritten};
+ghost use Rattle.rows.specs.Integers.{integersFrom, patterns};
+ghost use Rattle.rows.specs.Places.{placesOf};
+ghost use Rattle.file_end.specs.FileEnd.{fileEndOf, fileEndIntegers, FileEndAt, FileEndWritten};
 
 pub struct FileEnd {
     pub time_fraction: u16,
@@ -18,7 +18,7 @@ pub struct FileEnd {
     pub tuple_attribute: i32,
 }
 
-// What reading gives: the record, and where its data stand, or a refusal.
+// What reading gives: the record and the place of its data, or a refusal.
 pub enum FileEndRead {
     Read { record: FileEnd, data: Part },
     Refused { code: u8, place: usize },
@@ -27,8 +27,12 @@ pub enum FileEndRead {
 impl FileEnd {
     pub const CODE: u16 = types::FILE_END;
 
-    pub const LENGTH: usize = 24;
+    // The bytes of its shortest tuple, and by how many another is longer, once or more.
+    pub const LEAST: usize = 24;
 
+    pub const STEP: usize = 4;
+
+    // Where its fields stand, in bytes from the tuple's first.
     pub const TIME_FRACTION: usize = 6;
 
     pub const TIME_CPU: usize = 8;
@@ -44,7 +48,12 @@ impl FileEnd {
         closing_mode: u16,
         tuple_attribute: i32,
     ) -> FileEnd
-        ensures { λ r. ⌜ r ≡ record { «time_fraction» = «time_fraction»; «time_cpu» = «time_cpu»; «closing_mode» = «closing_mode»; «tuple_attribute» = «tuple_attribute» } ⌝ }
+        ensures { λ r. ⌜ r ≡ record {
+          «time_fraction» = «time_fraction»;
+          «time_cpu» = «time_cpu»;
+          «closing_mode» = «closing_mode»;
+          «tuple_attribute» = «tuple_attribute»;
+        } ⌝ }
     {
         FileEnd {
             time_fraction,
@@ -54,64 +63,63 @@ impl FileEnd {
         }
     }
 
-    // The fields of the tuple at a place.
-    fn at(file: &[u8], place: usize, whole: usize, msb: bool) -> FileEnd
-        requires { ⌜ (24 ≤ whole) × (place + whole ≤ length (now file)) ⌝ }
-        ensures { λ r. ⌜ r ≡ fileEndOf (valuesOf msb (rowOf 65534 whole) (drop (place + 6) (now (file .entry)))) ⌝ }
+    // The places of its fields in the row's order, in its shortest tuple, then the length of that, and the step to longer ones.
+    pub fn places() -> [usize; 7]
+        ensures { λ r. ⌜ r ≡ placesOf 65534 ⌝ }
+    {
+        [
+            FileEnd::TIME_FRACTION,
+            FileEnd::TIME_CPU,
+            FileEnd::CLOSING_MODE,
+            FileEnd::DATA,
+            FileEnd::LEAST - frame::TAIL,
+            FileEnd::LEAST,
+            FileEnd::STEP,
+        ]
+    }
+
+    // The record of a row's numbers, each by the lower bytes of its width.
+    pub fn of(numbers: [u32; 4]) -> FileEnd
+        ensures { λ r. ⌜ r ≡ fileEndOf (integersFrom (rowOf 65534 0) numbers 0) ⌝ }
     {
         FileEnd {
-            time_fraction: order::read2(file, place + FileEnd::TIME_FRACTION, msb),
-            time_cpu: order::read4(file, place + FileEnd::TIME_CPU, msb),
-            closing_mode: order::read2(file, place + FileEnd::CLOSING_MODE, msb),
-            tuple_attribute: tuples::signed4_at(file, place + whole - frame::TAIL, msb),
+            time_fraction: rows::unsigned2(numbers[0]),
+            time_cpu: rows::unsigned4(numbers[1]),
+            closing_mode: rows::unsigned2(numbers[2]),
+            tuple_attribute: rows::signed4(numbers[3]),
         }
+    }
+
+    // The numbers of the row, in its order, the attribute last; a signed one as its pattern.
+    pub fn numbers(self) -> [u32; 4]
+        ensures { λ r. ⌜ r ≡ patterns (rowOf 65534 0) (fileEndIntegers self) ⌝ }
+    {
+        [
+            rows::of_unsigned2(self.time_fraction),
+            self.time_cpu,
+            rows::of_unsigned2(self.closing_mode),
+            rows::of_signed4(self.tuple_attribute),
+        ]
     }
 
     // Reads the tuple at a place of a file.
     pub fn read(file: &[u8], place: usize) -> FileEndRead
         ensures { λ r. ⌜ FileEndAt (now (file .entry)) place r ⌝ }
     {
-        match tuples::open_tuple(file, place, FileEnd::CODE) {
-            Opened::Refused { code, place } => FileEndRead::Refused { code, place },
-            Opened::Tuple {
-                msb,
-                whole,
-                code: _,
-            } => FileEndRead::Read {
-                record: FileEnd::at(file, place, whole, msb),
-                data: Part {
-                    place: place + FileEnd::DATA,
-                    length: whole - frame::TAIL - FileEnd::DATA,
-                },
+        let mut numbers = [0u32; 4];
+        match rows::read_row(file, place, FileEnd::CODE, &mut numbers) {
+            RowRead::Refused { code, place } => FileEndRead::Refused { code, place },
+            RowRead::Read { text } => FileEndRead::Read {
+                record: FileEnd::of(numbers),
+                data: text,
             },
         }
     }
 
-    // The numbers of the row, in its order, the attribute last; a signed one as its pattern.
-    pub fn numbers(self) -> [u32; 4]
-        ensures { λ r. ⌜ r ≡ numbersIn (fileEndValues self) ⌝ }
-    {
-        [
-            self.time_fraction as u32,
-            self.time_cpu,
-            self.closing_mode as u32,
-            order::pattern4(self.tuple_attribute),
-        ]
-    }
-
-    // Writes the tuple; 19 alone refuses it.
+    // Writes the tuple with 2 zeros behind its fields; 19 alone refuses it.
     pub fn write(self, msb: bool, out: &mut [u8]) -> Answer
         ensures { λ r. ⌜ FileEndWritten msb self (now (out .entry)) r (now (out .exit)) ⌝ }
     {
-        tuples::write_tuple(
-            FileEnd::CODE,
-            FileEnd::LENGTH,
-            &self.numbers(),
-            &[],
-            &[0u8; 2],
-            self.tuple_attribute,
-            msb,
-            out,
-        )
+        rows::write_row(FileEnd::CODE, &self.numbers(), &[0u8; 2], msb, out)
     }
 }

@@ -1,14 +1,13 @@
+// Made from views/records.txt by views/make.
 // Navigation, type 30: TR Table 9.
 use layout::Answer;
 use layout::types;
-use tuples::Opened;
+use rows::RowRead;
 ghost use mathlib.Core.Path.{_≡_};
-ghost use Prim.Native.Nat.{_+_, _≤_};
-ghost use lib.ListN.{length, drop};
-ghost use Rattle.turning.specs.Rows.{valuesOf};
 ghost use Rattle.tuples.specs.Readers.{rowOf};
-ghost use Rattle.tuples.specs.Writers.{numbersIn};
-ghost use Rattle.navigation.specs.Navigation.{navigationOf, navigationValues, NavigationAt, NavigationWritten};
+ghost use Rattle.rows.specs.Integers.{integersFrom, patterns};
+ghost use Rattle.rows.specs.Places.{placesOf};
+ghost use Rattle.navigation.specs.Navigation.{navigationOf, navigationIntegers, NavigationAt, NavigationWritten};
 
 pub struct Navigation {
     pub time_fraction: u16,
@@ -28,8 +27,10 @@ pub enum NavigationRead {
 impl Navigation {
     pub const CODE: u16 = types::NAVIGATION;
 
+    // The bytes of its tuple.
     pub const LENGTH: usize = 28;
 
+    // Where its fields stand, in bytes from the tuple's first.
     pub const TIME_FRACTION: usize = 6;
 
     pub const TIME_CPU: usize = 8;
@@ -51,7 +52,14 @@ impl Navigation {
         navigation_speed: u16,
         tuple_attribute: i32,
     ) -> Navigation
-        ensures { λ r. ⌜ r ≡ record { «time_fraction» = «time_fraction»; «time_cpu» = «time_cpu»; «navigation_system» = «navigation_system»; heading = heading; «navigation_speed» = «navigation_speed»; «tuple_attribute» = «tuple_attribute» } ⌝ }
+        ensures { λ r. ⌜ r ≡ record {
+          «time_fraction» = «time_fraction»;
+          «time_cpu» = «time_cpu»;
+          «navigation_system» = «navigation_system»;
+          heading = heading;
+          «navigation_speed» = «navigation_speed»;
+          «tuple_attribute» = «tuple_attribute»;
+        } ⌝ }
     {
         Navigation {
             time_fraction,
@@ -63,62 +71,65 @@ impl Navigation {
         }
     }
 
-    // The fields of the tuple at a place.
-    fn at(file: &[u8], place: usize, msb: bool) -> Navigation
-        requires { ⌜ place + 28 ≤ length (now file) ⌝ }
-        ensures { λ r. ⌜ r ≡ navigationOf (valuesOf msb (rowOf 30 28) (drop (place + 6) (now (file .entry)))) ⌝ }
+    // The places of its fields in the row's order, then its length, and 0: it has no other.
+    pub fn places() -> [usize; 8]
+        ensures { λ r. ⌜ r ≡ placesOf 30 ⌝ }
+    {
+        [
+            Navigation::TIME_FRACTION,
+            Navigation::TIME_CPU,
+            Navigation::NAVIGATION_SYSTEM,
+            Navigation::HEADING,
+            Navigation::NAVIGATION_SPEED,
+            Navigation::TUPLE_ATTRIBUTE,
+            Navigation::LENGTH,
+            0,
+        ]
+    }
+
+    // The record of a row's numbers, each by the lower bytes of its width.
+    pub fn of(numbers: [u32; 6]) -> Navigation
+        ensures { λ r. ⌜ r ≡ navigationOf (integersFrom (rowOf 30 0) numbers 0) ⌝ }
     {
         Navigation {
-            time_fraction: order::read2(file, place + Navigation::TIME_FRACTION, msb),
-            time_cpu: order::read4(file, place + Navigation::TIME_CPU, msb),
-            navigation_system: order::read2(file, place + Navigation::NAVIGATION_SYSTEM, msb),
-            heading: tuples::signed2_at(file, place + Navigation::HEADING, msb),
-            navigation_speed: order::read2(file, place + Navigation::NAVIGATION_SPEED, msb),
-            tuple_attribute: tuples::signed4_at(file, place + Navigation::TUPLE_ATTRIBUTE, msb),
+            time_fraction: rows::unsigned2(numbers[0]),
+            time_cpu: rows::unsigned4(numbers[1]),
+            navigation_system: rows::unsigned2(numbers[2]),
+            heading: rows::signed2(numbers[3]),
+            navigation_speed: rows::unsigned2(numbers[4]),
+            tuple_attribute: rows::signed4(numbers[5]),
         }
+    }
+
+    // The numbers of the row, in its order, the attribute last; a signed one as its pattern.
+    pub fn numbers(self) -> [u32; 6]
+        ensures { λ r. ⌜ r ≡ patterns (rowOf 30 0) (navigationIntegers self) ⌝ }
+    {
+        [
+            rows::of_unsigned2(self.time_fraction),
+            self.time_cpu,
+            rows::of_unsigned2(self.navigation_system),
+            rows::of_signed2(self.heading),
+            rows::of_unsigned2(self.navigation_speed),
+            rows::of_signed4(self.tuple_attribute),
+        ]
     }
 
     // Reads the tuple at a place of a file.
     pub fn read(file: &[u8], place: usize) -> NavigationRead
         ensures { λ r. ⌜ NavigationAt (now (file .entry)) place r ⌝ }
     {
-        match tuples::open_tuple(file, place, Navigation::CODE) {
-            Opened::Refused { code, place } => NavigationRead::Refused { code, place },
-            Opened::Tuple {
-                msb,
-                whole: _,
-                code: _,
-            } => NavigationRead::Read(Navigation::at(file, place, msb)),
+        let mut numbers = [0u32; 6];
+        match rows::read_row(file, place, Navigation::CODE, &mut numbers) {
+            RowRead::Refused { code, place } => NavigationRead::Refused { code, place },
+            RowRead::Read { text: _ } => NavigationRead::Read(Navigation::of(numbers)),
         }
-    }
-
-    // The numbers of the row, in its order, the attribute last; a signed one as its pattern.
-    pub fn numbers(self) -> [u32; 6]
-        ensures { λ r. ⌜ r ≡ numbersIn (navigationValues self) ⌝ }
-    {
-        [
-            self.time_fraction as u32,
-            self.time_cpu,
-            self.navigation_system as u32,
-            order::pattern2(self.heading) as u32,
-            self.navigation_speed as u32,
-            order::pattern4(self.tuple_attribute),
-        ]
     }
 
     // Writes the tuple; 19 alone refuses it.
     pub fn write(self, msb: bool, out: &mut [u8]) -> Answer
         ensures { λ r. ⌜ NavigationWritten msb self (now (out .entry)) r (now (out .exit)) ⌝ }
     {
-        tuples::write_tuple(
-            Navigation::CODE,
-            Navigation::LENGTH,
-            &self.numbers(),
-            &[],
-            &[],
-            self.tuple_attribute,
-            msb,
-            out,
-        )
+        rows::write_row(Navigation::CODE, &self.numbers(), &[], msb, out)
     }
 }

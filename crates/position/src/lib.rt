@@ -1,14 +1,13 @@
-// Position, type 20: TR Table 7, whose time fraction is signed.
+// Made from views/records.txt by views/make.
+// Position, type 20: TR Table 7. Its time fraction is signed, here alone.
 use layout::Answer;
 use layout::types;
-use tuples::Opened;
+use rows::RowRead;
 ghost use mathlib.Core.Path.{_≡_};
-ghost use Prim.Native.Nat.{_+_, _≤_};
-ghost use lib.ListN.{length, drop};
-ghost use Rattle.turning.specs.Rows.{valuesOf};
 ghost use Rattle.tuples.specs.Readers.{rowOf};
-ghost use Rattle.tuples.specs.Writers.{numbersIn};
-ghost use Rattle.position.specs.Position.{positionOf, positionValues, PositionAt, PositionWritten};
+ghost use Rattle.rows.specs.Integers.{integersFrom, patterns};
+ghost use Rattle.rows.specs.Places.{placesOf};
+ghost use Rattle.position.specs.Position.{positionOf, positionIntegers, PositionAt, PositionWritten};
 
 pub struct Position {
     pub time_fraction: i16,
@@ -29,8 +28,10 @@ pub enum PositionRead {
 impl Position {
     pub const CODE: u16 = types::POSITION;
 
+    // The bytes of its tuple.
     pub const LENGTH: usize = 36;
 
+    // Where its fields stand, in bytes from the tuple's first.
     pub const TIME_FRACTION: usize = 6;
 
     pub const TIME_CPU: usize = 8;
@@ -55,7 +56,15 @@ impl Position {
         longitude: i32,
         tuple_attribute: i32,
     ) -> Position
-        ensures { λ r. ⌜ r ≡ record { «time_fraction» = «time_fraction»; «time_cpu» = «time_cpu»; «gps_time» = «gps_time»; «positioning_system» = «positioning_system»; latitude = latitude; longitude = longitude; «tuple_attribute» = «tuple_attribute» } ⌝ }
+        ensures { λ r. ⌜ r ≡ record {
+          «time_fraction» = «time_fraction»;
+          «time_cpu» = «time_cpu»;
+          «gps_time» = «gps_time»;
+          «positioning_system» = «positioning_system»;
+          latitude = latitude;
+          longitude = longitude;
+          «tuple_attribute» = «tuple_attribute»;
+        } ⌝ }
     {
         Position {
             time_fraction,
@@ -68,64 +77,68 @@ impl Position {
         }
     }
 
-    // The fields of the tuple at a place.
-    fn at(file: &[u8], place: usize, msb: bool) -> Position
-        requires { ⌜ place + 36 ≤ length (now file) ⌝ }
-        ensures { λ r. ⌜ r ≡ positionOf (valuesOf msb (rowOf 20 36) (drop (place + 6) (now (file .entry)))) ⌝ }
+    // The places of its fields in the row's order, then its length, and 0: it has no other.
+    pub fn places() -> [usize; 9]
+        ensures { λ r. ⌜ r ≡ placesOf 20 ⌝ }
+    {
+        [
+            Position::TIME_FRACTION,
+            Position::TIME_CPU,
+            Position::GPS_TIME,
+            Position::POSITIONING_SYSTEM,
+            Position::LATITUDE,
+            Position::LONGITUDE,
+            Position::TUPLE_ATTRIBUTE,
+            Position::LENGTH,
+            0,
+        ]
+    }
+
+    // The record of a row's numbers, each by the lower bytes of its width.
+    pub fn of(numbers: [u32; 7]) -> Position
+        ensures { λ r. ⌜ r ≡ positionOf (integersFrom (rowOf 20 0) numbers 0) ⌝ }
     {
         Position {
-            time_fraction: tuples::signed2_at(file, place + Position::TIME_FRACTION, msb),
-            time_cpu: order::read4(file, place + Position::TIME_CPU, msb),
-            gps_time: order::read4(file, place + Position::GPS_TIME, msb),
-            positioning_system: order::read2(file, place + Position::POSITIONING_SYSTEM, msb),
-            latitude: tuples::signed4_at(file, place + Position::LATITUDE, msb),
-            longitude: tuples::signed4_at(file, place + Position::LONGITUDE, msb),
-            tuple_attribute: tuples::signed4_at(file, place + Position::TUPLE_ATTRIBUTE, msb),
+            time_fraction: rows::signed2(numbers[0]),
+            time_cpu: rows::unsigned4(numbers[1]),
+            gps_time: rows::unsigned4(numbers[2]),
+            positioning_system: rows::unsigned2(numbers[3]),
+            latitude: rows::signed4(numbers[4]),
+            longitude: rows::signed4(numbers[5]),
+            tuple_attribute: rows::signed4(numbers[6]),
         }
+    }
+
+    // The numbers of the row, in its order, the attribute last; a signed one as its pattern.
+    pub fn numbers(self) -> [u32; 7]
+        ensures { λ r. ⌜ r ≡ patterns (rowOf 20 0) (positionIntegers self) ⌝ }
+    {
+        [
+            rows::of_signed2(self.time_fraction),
+            self.time_cpu,
+            self.gps_time,
+            rows::of_unsigned2(self.positioning_system),
+            rows::of_signed4(self.latitude),
+            rows::of_signed4(self.longitude),
+            rows::of_signed4(self.tuple_attribute),
+        ]
     }
 
     // Reads the tuple at a place of a file.
     pub fn read(file: &[u8], place: usize) -> PositionRead
         ensures { λ r. ⌜ PositionAt (now (file .entry)) place r ⌝ }
     {
-        match tuples::open_tuple(file, place, Position::CODE) {
-            Opened::Refused { code, place } => PositionRead::Refused { code, place },
-            Opened::Tuple {
-                msb,
-                whole: _,
-                code: _,
-            } => PositionRead::Read(Position::at(file, place, msb)),
+        let mut numbers = [0u32; 7];
+        match rows::read_row(file, place, Position::CODE, &mut numbers) {
+            RowRead::Refused { code, place } => PositionRead::Refused { code, place },
+            RowRead::Read { text: _ } => PositionRead::Read(Position::of(numbers)),
         }
-    }
-
-    // The numbers of the row, in its order, the attribute last; a signed one as its pattern.
-    pub fn numbers(self) -> [u32; 7]
-        ensures { λ r. ⌜ r ≡ numbersIn (positionValues self) ⌝ }
-    {
-        [
-            order::pattern2(self.time_fraction) as u32,
-            self.time_cpu,
-            self.gps_time,
-            self.positioning_system as u32,
-            order::pattern4(self.latitude),
-            order::pattern4(self.longitude),
-            order::pattern4(self.tuple_attribute),
-        ]
     }
 
     // Writes the tuple; 19 alone refuses it.
     pub fn write(self, msb: bool, out: &mut [u8]) -> Answer
         ensures { λ r. ⌜ PositionWritten msb self (now (out .entry)) r (now (out .exit)) ⌝ }
     {
-        tuples::write_tuple(
-            Position::CODE,
-            Position::LENGTH,
-            &self.numbers(),
-            &[],
-            &[],
-            self.tuple_attribute,
-            msb,
-            out,
-        )
+        rows::write_row(Position::CODE, &self.numbers(), &[], msb, out)
     }
 }

@@ -2,4 +2,5 @@ pub mod Tuples
 pub mod Rows
 pub mod Written
 pub mod Handed
+pub mod Records
 pub mod Pings

@@ -1,14 +1,13 @@
-// Signature, type 65535: TR Table 18. Its identifier is no field: 44204 and 44201 are read, 44204 is written.
+// Made from views/records.txt by views/make.
+// Signature, type 65535: TR Table 18. Its identifier is no field: 44204 and 44201 are read, and 44204 is written.
 use layout::Answer;
 use layout::types;
-use tuples::Opened;
+use rows::RowRead;
 ghost use mathlib.Core.Path.{_≡_};
-ghost use Prim.Native.Nat.{_+_, _≤_};
-ghost use lib.ListN.{length, drop};
-ghost use Rattle.turning.specs.Rows.{valuesOf};
 ghost use Rattle.tuples.specs.Readers.{rowOf};
-ghost use Rattle.tuples.specs.Writers.{numbersIn};
-ghost use Rattle.signature.specs.Signature.{signatureOf, signatureValues, SignatureAt, SignatureWritten};
+ghost use Rattle.rows.specs.Integers.{integersFrom, patterns};
+ghost use Rattle.rows.specs.Places.{placesOf};
+ghost use Rattle.signature.specs.Signature.{signatureOf, signatureIntegers, SignatureAt, SignatureWritten};
 
 pub struct Signature {
     pub hac_version: u16,
@@ -26,7 +25,11 @@ pub enum SignatureRead {
 impl Signature {
     pub const CODE: u16 = types::SIGNATURE;
 
+    // The bytes of its tuple.
     pub const LENGTH: usize = 24;
+
+    // Where its fields stand, in bytes from the tuple's first.
+    pub const IDENTIFIER: usize = 6;
 
     pub const HAC_VERSION: usize = 8;
 
@@ -43,7 +46,12 @@ impl Signature {
         acquisition_software_identifier: u32,
         tuple_attribute: i32,
     ) -> Signature
-        ensures { λ r. ⌜ r ≡ record { «hac_version» = «hac_version»; «acquisition_software_version» = «acquisition_software_version»; «acquisition_software_identifier» = «acquisition_software_identifier»; «tuple_attribute» = «tuple_attribute» } ⌝ }
+        ensures { λ r. ⌜ r ≡ record {
+          «hac_version» = «hac_version»;
+          «acquisition_software_version» = «acquisition_software_version»;
+          «acquisition_software_identifier» = «acquisition_software_identifier»;
+          «tuple_attribute» = «tuple_attribute»;
+        } ⌝ }
     {
         Signature {
             hac_version,
@@ -53,66 +61,60 @@ impl Signature {
         }
     }
 
-    // The fields of the tuple at a place.
-    fn at(file: &[u8], place: usize, msb: bool) -> Signature
-        requires { ⌜ place + 24 ≤ length (now file) ⌝ }
-        ensures { λ r. ⌜ r ≡ signatureOf (valuesOf msb (rowOf 65535 24) (drop (place + 6) (now (file .entry)))) ⌝ }
+    // The places of its fields in the row's order, then its length, and 0: it has no other.
+    pub fn places() -> [usize; 7]
+        ensures { λ r. ⌜ r ≡ placesOf 65535 ⌝ }
+    {
+        [
+            Signature::IDENTIFIER,
+            Signature::HAC_VERSION,
+            Signature::ACQUISITION_SOFTWARE_VERSION,
+            Signature::ACQUISITION_SOFTWARE_IDENTIFIER,
+            Signature::TUPLE_ATTRIBUTE,
+            Signature::LENGTH,
+            0,
+        ]
+    }
+
+    // The record of a row's numbers, each by the lower bytes of its width.
+    pub fn of(numbers: [u32; 4]) -> Signature
+        ensures { λ r. ⌜ r ≡ signatureOf (integersFrom (rowOf 65535 0) numbers 0) ⌝ }
     {
         Signature {
-            hac_version: order::read2(file, place + Signature::HAC_VERSION, msb),
-            acquisition_software_version: order::read2(
-                file,
-                place + Signature::ACQUISITION_SOFTWARE_VERSION,
-                msb,
-            ),
-            acquisition_software_identifier: order::read4(
-                file,
-                place + Signature::ACQUISITION_SOFTWARE_IDENTIFIER,
-                msb,
-            ),
-            tuple_attribute: tuples::signed4_at(file, place + Signature::TUPLE_ATTRIBUTE, msb),
+            hac_version: rows::unsigned2(numbers[0]),
+            acquisition_software_version: rows::unsigned2(numbers[1]),
+            acquisition_software_identifier: rows::unsigned4(numbers[2]),
+            tuple_attribute: rows::signed4(numbers[3]),
         }
+    }
+
+    // The numbers of the row, in its order, the attribute last; a signed one as its pattern.
+    pub fn numbers(self) -> [u32; 4]
+        ensures { λ r. ⌜ r ≡ patterns (rowOf 65535 0) (signatureIntegers self) ⌝ }
+    {
+        [
+            rows::of_unsigned2(self.hac_version),
+            rows::of_unsigned2(self.acquisition_software_version),
+            self.acquisition_software_identifier,
+            rows::of_signed4(self.tuple_attribute),
+        ]
     }
 
     // Reads the tuple at a place of a file.
     pub fn read(file: &[u8], place: usize) -> SignatureRead
         ensures { λ r. ⌜ SignatureAt (now (file .entry)) place r ⌝ }
     {
-        match tuples::open_tuple(file, place, Signature::CODE) {
-            Opened::Refused { code, place } => SignatureRead::Refused { code, place },
-            Opened::Tuple {
-                msb,
-                whole: _,
-                code: _,
-            } => SignatureRead::Read(Signature::at(file, place, msb)),
+        let mut numbers = [0u32; 4];
+        match rows::read_row(file, place, Signature::CODE, &mut numbers) {
+            RowRead::Refused { code, place } => SignatureRead::Refused { code, place },
+            RowRead::Read { text: _ } => SignatureRead::Read(Signature::of(numbers)),
         }
-    }
-
-    // The numbers of the row, in its order, the attribute last; a signed one as its pattern.
-    pub fn numbers(self) -> [u32; 4]
-        ensures { λ r. ⌜ r ≡ numbersIn (signatureValues self) ⌝ }
-    {
-        [
-            self.hac_version as u32,
-            self.acquisition_software_version as u32,
-            self.acquisition_software_identifier,
-            order::pattern4(self.tuple_attribute),
-        ]
     }
 
     // Writes the tuple; 19 alone refuses it.
     pub fn write(self, msb: bool, out: &mut [u8]) -> Answer
         ensures { λ r. ⌜ SignatureWritten msb self (now (out .entry)) r (now (out .exit)) ⌝ }
     {
-        tuples::write_tuple(
-            Signature::CODE,
-            Signature::LENGTH,
-            &self.numbers(),
-            &[],
-            &[],
-            self.tuple_attribute,
-            msb,
-            out,
-        )
+        rows::write_row(Signature::CODE, &self.numbers(), &[], msb, out)
     }
 }

@@ -1,76 +1,88 @@
--- Echosounder, type 100: TR Table 2. Its remarks, thirty characters, stand beside it. Assumes nothing.
-use mathlib.Core.Path.{_≡_, sym, _∙_}
-use Prim.Native.Nat.{ℕ, _+_}
+-- Made from views/records.txt by views/make.
+-- Sounder, type 100: TR Table 2. An echosounder. Its remarks, 30 characters, stand beside it; to write others is refused by 9 at
+-- 0. Assumes nothing.
+use mathlib.Core.Path.{_≡_, refl, sym, _∙_}
 use mathlib.Core.Bool.{Bool}
 use mathlib.Core.List.{List, [], _∷_}
-use Rattle.order.specs.Order.{signedOf, patternOf}
+use Prim.Native.Nat.{ℕ}
+use lib.IntN.{ℤ, pos}
 use Rattle.layout.specs.declared.Answer.{Answer}
 use Rattle.layout.specs.declared.Answer.the-variants.{Accepted}
 use Rattle.layout.specs.declared.Answer.the-variants as answer
 use Rattle.layout.specs.Answers.{numbers, Tells, accepting}
-use Rattle.turning.specs.Rows.{Value, number, text}
-use Rattle.content.specs.Items.{numberAt}
-use Rattle.tuples.specs.Readers.{only, readAnswer, readValues}
-use Rattle.tuples.specs.Writers.{Written, plainBytes, remarkRules}
+use Rattle.tuples.specs.Readers.{only, readAnswer, rowOf}
 use Rattle.tuples.specs.declared.Part.{Part}
+use Rattle.rows.specs.Readers.{rowText}
+use Rattle.rows.specs.Writers.{RowWritten}
+use Rattle.rows.specs.Integers.{signedAt, unsignedAt, patterns, rowIntegers, Typed}
 use Rattle.sounder.specs.declared.Sounder.{Sounder}
 use Rattle.sounder.specs.declared.SounderRead.{SounderRead}
 use Rattle.sounder.specs.declared.SounderRead.the-variants.{Read, Refused}
 
--- the values of the row under the fields' names
-abbrev pub sounderOf : List Value → Sounder
-sounderOf vs =
+-- the integers of the row under the fields' names
+abbrev pub sounderOf : List ℤ → Sounder
+sounderOf zs =
     record {
-      «number_of_software_channels» = numberAt vs 0;
-      «echosounder_document_identifier» = record { 0 = numberAt vs 1 };
-      «sound_speed» = numberAt vs 2;
-      «ping_interval» = numberAt vs 3;
-      «transmitter_attenuation_setting» = signedOf 2 (numberAt vs 4);
-      «multiplexing_mode» = numberAt vs 5;
-      «blanking_at_tvg_max_range» = signedOf 2 (numberAt vs 6);
-      «tvg_max_range» = numberAt vs 7;
-      «blanking_up_to_range» = numberAt vs 8;
-      «calibrator_signal» = signedOf 2 (numberAt vs 9);
-      «calibrator_mode» = numberAt vs 10;
-      «calibrator_separator» = numberAt vs 11;
-      «tuple_attribute» = signedOf 4 (numberAt vs 13);
+      «number_of_software_channels» = unsignedAt zs 0;
+      «echosounder_document_identifier» = record { 0 = unsignedAt zs 1 };
+      «sound_speed» = unsignedAt zs 2;
+      «ping_interval» = unsignedAt zs 3;
+      «transmitter_attenuation_setting» = signedAt zs 4;
+      «multiplexing_mode» = unsignedAt zs 5;
+      «blanking_at_tvg_max_range» = signedAt zs 6;
+      «tvg_max_range» = unsignedAt zs 7;
+      «blanking_up_to_range» = unsignedAt zs 8;
+      «calibrator_signal» = signedAt zs 9;
+      «calibrator_mode» = unsignedAt zs 10;
+      «calibrator_separator» = unsignedAt zs 11;
+      «tuple_attribute» = signedAt zs 12;
     }
 
--- and the fields as the values of the row
-abbrev pub sounderValues : Sounder → List ℕ → List Value
-sounderValues r t =
-    number (r .«number_of_software_channels»)
-    ∷ number (r .«echosounder_document_identifier» .0)
-    ∷ number (r .«sound_speed»)
-    ∷ number (r .«ping_interval»)
-    ∷ number (patternOf 2 (r .«transmitter_attenuation_setting»))
-    ∷ number (r .«multiplexing_mode»)
-    ∷ number (patternOf 2 (r .«blanking_at_tvg_max_range»))
-    ∷ number (r .«tvg_max_range»)
-    ∷ number (r .«blanking_up_to_range»)
-    ∷ number (patternOf 2 (r .«calibrator_signal»))
-    ∷ number (r .«calibrator_mode»)
-    ∷ number (r .«calibrator_separator»)
-    ∷ text t
-    ∷ number (patternOf 4 (r .«tuple_attribute»))
+-- and the fields as the integers of the row
+abbrev pub sounderIntegers : Sounder → List ℤ
+sounderIntegers r =
+    pos (r .«number_of_software_channels»)
+    ∷ pos (r .«echosounder_document_identifier» .0)
+    ∷ pos (r .«sound_speed»)
+    ∷ pos (r .«ping_interval»)
+    ∷ r .«transmitter_attenuation_setting»
+    ∷ pos (r .«multiplexing_mode»)
+    ∷ r .«blanking_at_tvg_max_range»
+    ∷ pos (r .«tvg_max_range»)
+    ∷ pos (r .«blanking_up_to_range»)
+    ∷ r .«calibrator_signal»
+    ∷ pos (r .«calibrator_mode»)
+    ∷ pos (r .«calibrator_separator»)
+    ∷ r .«tuple_attribute»
     ∷ []
 
--- ---- reading: 01's answer in each case, and the promise, which settles the outcome
+-- the fields of these integers are those that they were taken from
+pub sounder-inverse : (r : Sounder) → sounderOf (sounderIntegers r) ≡ r
+sounder-inverse r = refl
+
+-- each field is in the range of its width and sign, as the fields of every value of the struct are
+abbrev pub SounderTyped : Sounder → Type 0
+SounderTyped r = Typed (rowOf 100 0) (sounderIntegers r)
+
+-- ---- reading: 01's answer in each case
 abbrev pub answerOf : SounderRead → Answer
 answerOf (Read r t) = accepting 1 0
 answerOf (Refused c p) = answer.Refused c p
 
+-- what is given for an answer: the record and the place of its remarks, or the refusal
 abbrev pub answered : Answer → Sounder → Part → SounderRead
 answered (Accepted n) r t = Read r t
 answered (answer.Refused c p) r t = Refused c p
 
+-- the promise: 01's answer, and what is given for it
 pub record SounderAt (f : List ℕ) (p : ℕ) (r : SounderRead) : Type 0 where
   pub answer : Tells numbers (answerOf r) (readAnswer (only 100) f p)
-  pub outcome : r ≡ answered (readAnswer (only 100) f p) (sounderOf (readValues f p)) (record { place = p + 32; length = 30 })
+  pub outcome : r ≡ answered (readAnswer (only 100) f p) (sounderOf (rowIntegers 100 f p)) (rowText 100 f p)
 
+-- which settles what is given
 pub sounder-settled : {f : List ℕ} {p : ℕ} {r t : SounderRead} → SounderAt f p r → SounderAt f p t → r ≡ t
 sounder-settled a b = a .outcome ∙ sym (b .outcome)
 
--- ---- writing
+-- ---- writing: the row of the fields and the characters t, by the rules of rows
 abbrev pub SounderWritten : Bool → Sounder → List ℕ → List ℕ → Answer → List ℕ → Type 0
-SounderWritten o r t out a left = Written (remarkRules t) (plainBytes o 100 (sounderValues r t)) out a left
+SounderWritten o r t out a left = RowWritten 100 (patterns (rowOf 100 0) (sounderIntegers r)) t o out a left

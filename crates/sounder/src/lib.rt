@@ -1,18 +1,16 @@
-// Echosounder, type 100: TR Table 2. Its remarks, thirty characters, stand beside it.
+// Made from views/records.txt by views/make.
+// Sounder, type 100: TR Table 2. An echosounder. Its remarks, 30 characters, stand beside it; to write others is refused by 9 at
+// 0.
 use layout::Answer;
 use layout::DocumentId;
-use layout::codes;
 use layout::types;
-use tuples::Opened;
+use rows::RowRead;
 use tuples::Part;
 ghost use mathlib.Core.Path.{_≡_};
-ghost use mathlib.Core.List.{[]};
-ghost use Prim.Native.Nat.{_+_, _≤_};
-ghost use lib.ListN.{length, drop};
-ghost use Rattle.turning.specs.Rows.{valuesOf};
 ghost use Rattle.tuples.specs.Readers.{rowOf};
-ghost use Rattle.tuples.specs.Writers.{numbersIn};
-ghost use Rattle.sounder.specs.Sounder.{sounderOf, sounderValues, SounderAt, SounderWritten};
+ghost use Rattle.rows.specs.Integers.{integersFrom, patterns};
+ghost use Rattle.rows.specs.Places.{placesOf};
+ghost use Rattle.sounder.specs.Sounder.{sounderOf, sounderIntegers, SounderAt, SounderWritten};
 
 pub struct Sounder {
     pub number_of_software_channels: u16,
@@ -30,7 +28,7 @@ pub struct Sounder {
     pub tuple_attribute: i32,
 }
 
-// What reading gives: the record, and where its remarks stand, or a refusal.
+// What reading gives: the record and the place of its remarks, or a refusal.
 pub enum SounderRead {
     Read { record: Sounder, remarks: Part },
     Refused { code: u8, place: usize },
@@ -39,8 +37,10 @@ pub enum SounderRead {
 impl Sounder {
     pub const CODE: u16 = types::SOUNDER;
 
+    // The bytes of its tuple.
     pub const LENGTH: usize = 72;
 
+    // Where its fields stand, in bytes from the tuple's first.
     pub const NUMBER_OF_SOFTWARE_CHANNELS: usize = 6;
 
     pub const ECHOSOUNDER_DOCUMENT_IDENTIFIER: usize = 8;
@@ -85,7 +85,21 @@ impl Sounder {
         calibrator_separator: u16,
         tuple_attribute: i32,
     ) -> Sounder
-        ensures { λ r. ⌜ r ≡ record { «number_of_software_channels» = «number_of_software_channels»; «echosounder_document_identifier» = «echosounder_document_identifier»; «sound_speed» = «sound_speed»; «ping_interval» = «ping_interval»; «transmitter_attenuation_setting» = «transmitter_attenuation_setting»; «multiplexing_mode» = «multiplexing_mode»; «blanking_at_tvg_max_range» = «blanking_at_tvg_max_range»; «tvg_max_range» = «tvg_max_range»; «blanking_up_to_range» = «blanking_up_to_range»; «calibrator_signal» = «calibrator_signal»; «calibrator_mode» = «calibrator_mode»; «calibrator_separator» = «calibrator_separator»; «tuple_attribute» = «tuple_attribute» } ⌝ }
+        ensures { λ r. ⌜ r ≡ record {
+          «number_of_software_channels» = «number_of_software_channels»;
+          «echosounder_document_identifier» = «echosounder_document_identifier»;
+          «sound_speed» = «sound_speed»;
+          «ping_interval» = «ping_interval»;
+          «transmitter_attenuation_setting» = «transmitter_attenuation_setting»;
+          «multiplexing_mode» = «multiplexing_mode»;
+          «blanking_at_tvg_max_range» = «blanking_at_tvg_max_range»;
+          «tvg_max_range» = «tvg_max_range»;
+          «blanking_up_to_range» = «blanking_up_to_range»;
+          «calibrator_signal» = «calibrator_signal»;
+          «calibrator_mode» = «calibrator_mode»;
+          «calibrator_separator» = «calibrator_separator»;
+          «tuple_attribute» = «tuple_attribute»;
+        } ⌝ }
     {
         Sounder {
             number_of_software_channels,
@@ -104,101 +118,90 @@ impl Sounder {
         }
     }
 
-    // The fields of the tuple at a place.
-    fn at(file: &[u8], place: usize, msb: bool) -> Sounder
-        requires { ⌜ place + 72 ≤ length (now file) ⌝ }
-        ensures { λ r. ⌜ r ≡ sounderOf (valuesOf msb (rowOf 100 72) (drop (place + 6) (now (file .entry)))) ⌝ }
+    // The places of its fields in the row's order, then its length, and 0: it has no other.
+    pub fn places() -> [usize; 16]
+        ensures { λ r. ⌜ r ≡ placesOf 100 ⌝ }
+    {
+        [
+            Sounder::NUMBER_OF_SOFTWARE_CHANNELS,
+            Sounder::ECHOSOUNDER_DOCUMENT_IDENTIFIER,
+            Sounder::SOUND_SPEED,
+            Sounder::PING_INTERVAL,
+            Sounder::TRANSMITTER_ATTENUATION_SETTING,
+            Sounder::MULTIPLEXING_MODE,
+            Sounder::BLANKING_AT_TVG_MAX_RANGE,
+            Sounder::TVG_MAX_RANGE,
+            Sounder::BLANKING_UP_TO_RANGE,
+            Sounder::CALIBRATOR_SIGNAL,
+            Sounder::CALIBRATOR_MODE,
+            Sounder::CALIBRATOR_SEPARATOR,
+            Sounder::REMARKS,
+            Sounder::TUPLE_ATTRIBUTE,
+            Sounder::LENGTH,
+            0,
+        ]
+    }
+
+    // The record of a row's numbers, each by the lower bytes of its width.
+    pub fn of(numbers: [u32; 13]) -> Sounder
+        ensures { λ r. ⌜ r ≡ sounderOf (integersFrom (rowOf 100 0) numbers 0) ⌝ }
     {
         Sounder {
-            number_of_software_channels: order::read2(
-                file,
-                place + Sounder::NUMBER_OF_SOFTWARE_CHANNELS,
-                msb,
-            ),
-            echosounder_document_identifier: DocumentId(order::read4(
-                file,
-                place + Sounder::ECHOSOUNDER_DOCUMENT_IDENTIFIER,
-                msb,
-            )),
-            sound_speed: order::read2(file, place + Sounder::SOUND_SPEED, msb),
-            ping_interval: order::read2(file, place + Sounder::PING_INTERVAL, msb),
-            transmitter_attenuation_setting: tuples::signed2_at(
-                file,
-                place + Sounder::TRANSMITTER_ATTENUATION_SETTING,
-                msb,
-            ),
-            multiplexing_mode: order::read2(file, place + Sounder::MULTIPLEXING_MODE, msb),
-            blanking_at_tvg_max_range: tuples::signed2_at(
-                file,
-                place + Sounder::BLANKING_AT_TVG_MAX_RANGE,
-                msb,
-            ),
-            tvg_max_range: order::read2(file, place + Sounder::TVG_MAX_RANGE, msb),
-            blanking_up_to_range: order::read2(file, place + Sounder::BLANKING_UP_TO_RANGE, msb),
-            calibrator_signal: tuples::signed2_at(file, place + Sounder::CALIBRATOR_SIGNAL, msb),
-            calibrator_mode: order::read2(file, place + Sounder::CALIBRATOR_MODE, msb),
-            calibrator_separator: order::read2(file, place + Sounder::CALIBRATOR_SEPARATOR, msb),
-            tuple_attribute: tuples::signed4_at(file, place + Sounder::TUPLE_ATTRIBUTE, msb),
+            number_of_software_channels: rows::unsigned2(numbers[0]),
+            echosounder_document_identifier: DocumentId(rows::unsigned4(numbers[1])),
+            sound_speed: rows::unsigned2(numbers[2]),
+            ping_interval: rows::unsigned2(numbers[3]),
+            transmitter_attenuation_setting: rows::signed2(numbers[4]),
+            multiplexing_mode: rows::unsigned2(numbers[5]),
+            blanking_at_tvg_max_range: rows::signed2(numbers[6]),
+            tvg_max_range: rows::unsigned2(numbers[7]),
+            blanking_up_to_range: rows::unsigned2(numbers[8]),
+            calibrator_signal: rows::signed2(numbers[9]),
+            calibrator_mode: rows::unsigned2(numbers[10]),
+            calibrator_separator: rows::unsigned2(numbers[11]),
+            tuple_attribute: rows::signed4(numbers[12]),
         }
+    }
+
+    // The numbers of the row, in its order, the attribute last; a signed one as its pattern.
+    pub fn numbers(self) -> [u32; 13]
+        ensures { λ r. ⌜ r ≡ patterns (rowOf 100 0) (sounderIntegers self) ⌝ }
+    {
+        [
+            rows::of_unsigned2(self.number_of_software_channels),
+            self.echosounder_document_identifier.0,
+            rows::of_unsigned2(self.sound_speed),
+            rows::of_unsigned2(self.ping_interval),
+            rows::of_signed2(self.transmitter_attenuation_setting),
+            rows::of_unsigned2(self.multiplexing_mode),
+            rows::of_signed2(self.blanking_at_tvg_max_range),
+            rows::of_unsigned2(self.tvg_max_range),
+            rows::of_unsigned2(self.blanking_up_to_range),
+            rows::of_signed2(self.calibrator_signal),
+            rows::of_unsigned2(self.calibrator_mode),
+            rows::of_unsigned2(self.calibrator_separator),
+            rows::of_signed4(self.tuple_attribute),
+        ]
     }
 
     // Reads the tuple at a place of a file.
     pub fn read(file: &[u8], place: usize) -> SounderRead
         ensures { λ r. ⌜ SounderAt (now (file .entry)) place r ⌝ }
     {
-        match tuples::open_tuple(file, place, Sounder::CODE) {
-            Opened::Refused { code, place } => SounderRead::Refused { code, place },
-            Opened::Tuple {
-                msb,
-                whole: _,
-                code: _,
-            } => SounderRead::Read {
-                record: Sounder::at(file, place, msb),
-                remarks: Part {
-                    place: place + Sounder::REMARKS,
-                    length: turning::REMARK,
-                },
+        let mut numbers = [0u32; 13];
+        match rows::read_row(file, place, Sounder::CODE, &mut numbers) {
+            RowRead::Refused { code, place } => SounderRead::Refused { code, place },
+            RowRead::Read { text } => SounderRead::Read {
+                record: Sounder::of(numbers),
+                remarks: text,
             },
         }
     }
 
-    // The numbers of the row, in its order, the attribute last; a signed one as its pattern.
-    pub fn numbers(self) -> [u32; 13]
-        ensures { λ r. ⌜ r ≡ numbersIn (sounderValues self []) ⌝ }
-    {
-        [
-            self.number_of_software_channels as u32,
-            self.echosounder_document_identifier.0,
-            self.sound_speed as u32,
-            self.ping_interval as u32,
-            order::pattern2(self.transmitter_attenuation_setting) as u32,
-            self.multiplexing_mode as u32,
-            order::pattern2(self.blanking_at_tvg_max_range) as u32,
-            self.tvg_max_range as u32,
-            self.blanking_up_to_range as u32,
-            order::pattern2(self.calibrator_signal) as u32,
-            self.calibrator_mode as u32,
-            self.calibrator_separator as u32,
-            order::pattern4(self.tuple_attribute),
-        ]
-    }
-
-    // Writes the tuple; 9 where the remarks are no thirty characters, then 19.
+    // Writes the tuple; 9 unless there are 30 characters of remarks, then 19.
     pub fn write(self, remarks: &[u8], msb: bool, out: &mut [u8]) -> Answer
         ensures { λ r. ⌜ SounderWritten msb self (now (remarks .entry)) (now (out .entry)) r (now (out .exit)) ⌝ }
     {
-        if remarks.len() != turning::REMARK {
-            return layout::refuse(codes::UNFIT, 0);
-        }
-        tuples::write_tuple(
-            Sounder::CODE,
-            Sounder::LENGTH,
-            &self.numbers(),
-            remarks,
-            &[],
-            self.tuple_attribute,
-            msb,
-            out,
-        )
+        rows::write_row(Sounder::CODE, &self.numbers(), remarks, msb, out)
     }
 }

@@ -1,45 +1,66 @@
+-- Made from views/records.txt by views/make.
 -- `attitude::Attitude::numbers` meets its contract: the fields in order, the signed ones by their patterns. Assumes nothing.
-use mathlib.Core.Path.{ap, _∙_}
+use mathlib.Core.Path.{_≡_, ap, _∙_}
 use mathlib.Core.List.{[], _∷_}
+use Prim.Native.Nat.{ℕ, _^_, _<_}
 use borrow.Author.Needs.{needs}
-use mir.Syntax.{w16, w32}
+use lib.IntN.{ℤ}
+use lib.Signed.{mag}
+use mir.Syntax.{Width, w16, w32}
+use mir.Val.{hbits, toZ, ofZ}
 use mir.Facts.{toZ-ofZ}
 use Rattle.order.specs.Order.{patternOf}
+use Rattle.layout.specs.Types.{classes, inClass, kindOf, listingOf}
 use Rattle.attitude.proofs.Attitude.numbers.Statement.{statement}
 use Rattle.attitude.proofs.Attitude.numbers.Tie as tie
 
+-- a signed number that a struct holds has its own pattern
+held : (w : Width) (b : ℕ) (z : ℤ) {n : ℕ} → mag z < 2 ^ hbits w → n ≡ patternOf b (toZ w (ofZ w z)) → n ≡ patternOf b z
+held w b z f e = e ∙ ap (patternOf b) (toZ-ofZ {w = w} {z = z} (record { sfits = f }))
+
+-- n0 and so on: the place behind the call on a field; f0 and so on: what the struct tells of a signed field and those behind it
 returns : tie.Need-returns
-returns c =
-    let r = c .before .before .before .before .before .before .before .before .before .before .before .before .before .before .before .args .self in
+unfolding kindOf inClass classes listingOf
+returns n9 =
+    let n8 = n9 .before .before in
+    let n7 = n8 .before .before in
+    let n6 = n7 .before .before in
+    let n5 = n6 .before .before in
+    let n4 = n5 .before .before in
+    let n3 = n4 .before .before in
+    let n2 = n3 .before in
+    let n0 = n2 .before in
+    let r = n0 .before .args .self in
+    let f4 = n9 .before .struct-told6 .given .1 .1 .1 .1 in
+    let f5 = f4 .1 in
+    let f6 = f5 .1 in
+    let f7 = f6 .1 in
+    let f8 = f7 .1 in
+    let f9 = f8 .1 in
     λ i.
-    r .«time_fraction»
+    n0 .of-unsigned2 .ensures i
     ∷ r .«time_cpu»
-    ∷ r .«software_channel_identifier» .0
-    ∷ r .«platform_referred_to»
-    ∷ (c .before .before .before .before .before .before .before .before .before .before .pattern2 .ensures ∙ ap (patternOf 2) (toZ-ofZ {w = w16} {z = r .«alongship_offset»} (record { sfits = c .before .before .before .before .before .before .before .before .before .before .before .struct-told .given .1 .1 .1 .1 .0 .1 }))) i
-    ∷ (c .before .before .before .before .before .before .before .before .pattern22 .ensures ∙ ap (patternOf 2) (toZ-ofZ {w = w16} {z = r .«athwartship_offset»} (record { sfits = c .before .before .before .before .before .before .before .before .before .struct-told2 .given .1 .1 .1 .1 .1 .0 .1 }))) i
-    ∷ (c .before .before .before .before .before .before .pattern23 .ensures ∙ ap (patternOf 2) (toZ-ofZ {w = w16} {z = r .pitch} (record { sfits = c .before .before .before .before .before .before .before .struct-told3 .given .1 .1 .1 .1 .1 .1 .0 .1 }))) i
-    ∷ (c .before .before .before .before .pattern24 .ensures ∙ ap (patternOf 2) (toZ-ofZ {w = w16} {z = r .roll} (record { sfits = c .before .before .before .before .before .struct-told4 .given .1 .1 .1 .1 .1 .1 .1 .0 .1 }))) i
-    ∷ (c .before .before .pattern25 .ensures ∙ ap (patternOf 2) (toZ-ofZ {w = w16} {z = r .heave} (record { sfits = c .before .before .before .struct-told5 .given .1 .1 .1 .1 .1 .1 .1 .1 .0 .1 }))) i
-    ∷ (c .pattern4 .ensures ∙ ap (patternOf 4) (toZ-ofZ {w = w32} {z = r .«tuple_attribute»} (record { sfits = c .before .struct-told6 .given .1 .1 .1 .1 .1 .1 .1 .1 .1 .0 .1 }))) i
+    ∷ n2 .of-unsigned22 .ensures i
+    ∷ n3 .of-unsigned23 .ensures i
+    ∷ held w16 2 (r .«alongship_offset») (f4 .0 .1) (n4 .of-signed2 .ensures) i
+    ∷ held w16 2 (r .«athwartship_offset») (f5 .0 .1) (n5 .of-signed22 .ensures) i
+    ∷ held w16 2 (r .pitch) (f6 .0 .1) (n6 .of-signed23 .ensures) i
+    ∷ held w16 2 (r .roll) (f7 .0 .1) (n7 .of-signed24 .ensures) i
+    ∷ held w16 2 (r .heave) (f8 .0 .1) (n8 .of-signed25 .ensures) i
+    ∷ held w32 4 (r .«tuple_attribute») (f9 .0 .1) (n9 .of-signed4 .ensures) i
     ∷ []
 
 pub numbers-spec : {M : Type 1} → statement M
 numbers-spec =
     tie.close
     (tie.spec
-    (λ c. search needs)
-    (λ c. search needs)
-    (λ c. search needs)
     (λ c κs. search needs)
-    (λ c. search needs)
     (λ c κs. search needs)
-    (λ c. search needs)
     (λ c κs. search needs)
-    (λ c. search needs)
     (λ c κs. search needs)
-    (λ c. search needs)
     (λ c κs. search needs)
-    (λ c. search needs)
+    (λ c κs. search needs)
+    (λ c κs. search needs)
+    (λ c κs. search needs)
     (λ c κs. search needs)
     returns)

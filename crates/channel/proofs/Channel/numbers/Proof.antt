@@ -1,71 +1,103 @@
+-- Made from views/records.txt by views/make.
 -- `channel::Channel::numbers` meets its contract: the fields in order, the signed ones by their patterns. Assumes nothing.
-use mathlib.Core.Path.{ap, _∙_}
+use mathlib.Core.Path.{_≡_, ap, _∙_}
 use mathlib.Core.List.{[], _∷_}
-use mir.Syntax.{w16, w32}
-use mir.Facts.{fits-widen, toZ-ofZ}
+use Prim.Native.Nat.{ℕ, _^_, _<_}
+use borrow.Author.Needs.{needs}
+use lib.IntN.{ℤ}
+use lib.Signed.{mag}
+use mir.Syntax.{Width, w16, w32}
+use mir.Val.{hbits, toZ, ofZ}
+use mir.Facts.{toZ-ofZ}
 use Rattle.order.specs.Order.{patternOf}
+use Rattle.layout.specs.Types.{classes, inClass, kindOf, listingOf}
 use Rattle.channel.proofs.Channel.numbers.Statement.{statement}
 use Rattle.channel.proofs.Channel.numbers.Tie as tie
 
+-- a signed number that a struct holds has its own pattern
+held : (w : Width) (b : ℕ) (z : ℤ) {n : ℕ} → mag z < 2 ^ hbits w → n ≡ patternOf b (toZ w (ofZ w z)) → n ≡ patternOf b z
+held w b z f e = e ∙ ap (patternOf b) (toZ-ofZ {w = w} {z = z} (record { sfits = f }))
+
+-- n0 and so on: the place behind the call on a field; f0 and so on: what the struct tells of a signed field and those behind it
 returns : tie.Need-returns
-returns c =
-    let r = c .before .before .before .before .before .before .before .before .before .before .before .before .before .before .before .before .before .before .before .before .before .before .before .before .before .before .before .args .self in
+unfolding kindOf inClass classes listingOf
+returns n24 =
+    let n21 = n24 .before .before in
+    let n20 = n21 .before .before in
+    let n19 = n20 .before .before in
+    let n18 = n19 .before .before in
+    let n17 = n18 .before in
+    let n16 = n17 .before in
+    let n15 = n16 .before in
+    let n14 = n15 .before in
+    let n13 = n14 .before in
+    let n12 = n13 .before in
+    let n11 = n12 .before in
+    let n10 = n11 .before .before in
+    let n9 = n10 .before .before in
+    let n8 = n9 .before .before in
+    let n5 = n8 .before .before in
+    let n4 = n5 .before in
+    let n3 = n4 .before in
+    let n0 = n3 .before in
+    let r = n0 .before .args .self in
+    let f8 = n24 .before .struct-told8 .given .1 .1 .1 .1 .1 .1 .1 .1 in
+    let f9 = f8 .1 in
+    let f10 = f9 .1 in
+    let f11 = f10 .1 in
+    let f19 = f11 .1 .1 .1 .1 .1 .1 .1 .1 in
+    let f20 = f19 .1 in
+    let f21 = f20 .1 in
+    let f24 = f21 .1 .1 .1 in
     λ i.
-    r .«software_channel_identifier» .0
+    n0 .of-unsigned2 .ensures i
     ∷ r .«echosounder_document_identifier» .0
     ∷ r .«sampling_rate»
-    ∷ r .«type_of_data_sample»
-    ∷ r .«time_varied_gain_mode»
-    ∷ r .«transceiver_channel_number» .0
+    ∷ n3 .of-unsigned22 .ensures i
+    ∷ n4 .of-unsigned23 .ensures i
+    ∷ n5 .of-unsigned24 .ensures i
     ∷ r .«acoustic_frequency»
     ∷ r .«installation_depth_of_transducer»
-    ∷ (c .before .before .before .before .before .before .before .before .before .before .before .before .before .before .before .before .before .before .before .before .before .pattern2 .ensures ∙ ap (patternOf 2) (toZ-ofZ {w = w16} {z = r .«alongship_angle_offset_of_the_transducer_face»} (record { sfits = c .before .before .before .before .before .before .before .before .before .before .before .before .before .before .before .before .before .before .before .before .before .before .struct-told .given .1 .1 .1 .1 .1 .1 .1 .1 .0 .1 }))) i
-    ∷ (c .before .before .before .before .before .before .before .before .before .before .before .before .before .before .before .before .before .before .before .pattern22 .ensures ∙ ap (patternOf 2) (toZ-ofZ {w = w16} {z = r .«athwartship_angle_offset_of_the_transducer_face»} (record { sfits = c .before .before .before .before .before .before .before .before .before .before .before .before .before .before .before .before .before .before .before .before .struct-told2 .given .1 .1 .1 .1 .1 .1 .1 .1 .1 .0 .1 }))) i
-    ∷ (c .before .before .before .before .before .before .before .before .before .before .before .before .before .before .before .before .before .pattern23 .ensures ∙ ap (patternOf 2) (toZ-ofZ {w = w16} {z = r .«alongship_angle_offset_of_the_main_axis_of_the_acoustic_beam»} (record { sfits = c .before .before .before .before .before .before .before .before .before .before .before .before .before .before .before .before .before .before .struct-told3 .given .1 .1 .1 .1 .1 .1 .1 .1 .1 .1 .0 .1 }))) i
-    ∷ (c .before .before .before .before .before .before .before .before .before .before .before .before .before .before .before .pattern24 .ensures ∙ ap (patternOf 2) (toZ-ofZ {w = w16} {z = r .«athwartship_angle_offset_of_the_main_axis_of_the_acoustic_beam»} (record { sfits = c .before .before .before .before .before .before .before .before .before .before .before .before .before .before .before .before .struct-told4 .given .1 .1 .1 .1 .1 .1 .1 .1 .1 .1 .1 .0 .1 }))) i
-    ∷ r .«absorption_of_sound»
-    ∷ r .«pulse_length»
-    ∷ r .bandwidth
-    ∷ r .«calibration_source_level»
-    ∷ r .«beamwidth_3_db_of_the_transducer_beam»
-    ∷ r .«beam_pattern»
-    ∷ r .«wide_beam_drop_off»
-    ∷ (c .before .before .before .before .before .before .pattern25 .ensures ∙ ap (patternOf 2) (toZ-ofZ {w = w16} {z = r .«calibration_receiving_sensitivity»} (record { sfits = c .before .before .before .before .before .before .before .struct-told5 .given .1 .1 .1 .1 .1 .1 .1 .1 .1 .1 .1 .1 .1 .1 .1 .1 .1 .1 .1 .0 .1 }))) i
-    ∷ (c .before .before .before .before .pattern26 .ensures ∙ ap (patternOf 2) (toZ-ofZ {w = w16} {z = r .«receiver_gain»} (record { sfits = c .before .before .before .before .before .struct-told6 .given .1 .1 .1 .1 .1 .1 .1 .1 .1 .1 .1 .1 .1 .1 .1 .1 .1 .1 .1 .1 .0 .1 }))) i
-    ∷ (c .before .before .pattern27 .ensures ∙ ap (patternOf 2) (toZ-ofZ {w = w16} {z = r .«bottom_detection_minimum_level»} (record { sfits = c .before .before .before .struct-told7 .given .1 .1 .1 .1 .1 .1 .1 .1 .1 .1 .1 .1 .1 .1 .1 .1 .1 .1 .1 .1 .1 .0 .1 }))) i
+    ∷ held w16 2 (r .«alongship_angle_offset_of_the_transducer_face») (f8 .0 .1) (n8 .of-signed2 .ensures) i
+    ∷ held w16 2 (r .«athwartship_angle_offset_of_the_transducer_face») (f9 .0 .1) (n9 .of-signed22 .ensures) i
+    ∷ held w16 2 (r .«alongship_angle_offset_of_the_main_axis_of_the_acoustic_beam») (f10 .0 .1) (n10 .of-signed23 .ensures) i
+    ∷ held w16 2 (r .«athwartship_angle_offset_of_the_main_axis_of_the_acoustic_beam») (f11 .0 .1) (n11 .of-signed24 .ensures) i
+    ∷ n12 .of-unsigned25 .ensures i
+    ∷ n13 .of-unsigned26 .ensures i
+    ∷ n14 .of-unsigned27 .ensures i
+    ∷ n15 .of-unsigned28 .ensures i
+    ∷ n16 .of-unsigned29 .ensures i
+    ∷ n17 .of-unsigned210 .ensures i
+    ∷ n18 .of-unsigned211 .ensures i
+    ∷ held w16 2 (r .«calibration_receiving_sensitivity») (f19 .0 .1) (n19 .of-signed25 .ensures) i
+    ∷ held w16 2 (r .«receiver_gain») (f20 .0 .1) (n20 .of-signed26 .ensures) i
+    ∷ held w16 2 (r .«bottom_detection_minimum_level») (f21 .0 .1) (n21 .of-signed27 .ensures) i
     ∷ r .«bottom_window_min»
     ∷ r .«bottom_window_max»
-    ∷ (c .pattern4 .ensures ∙ ap (patternOf 4) (toZ-ofZ {w = w32} {z = r .«tuple_attribute»} (record { sfits = c .before .struct-told8 .given .1 .1 .1 .1 .1 .1 .1 .1 .1 .1 .1 .1 .1 .1 .1 .1 .1 .1 .1 .1 .1 .1 .1 .1 .0 .1 }))) i
+    ∷ held w32 4 (r .«tuple_attribute») (f24 .0 .1) (n24 .of-signed4 .ensures) i
     ∷ []
 
 pub numbers-spec : {M : Type 1} → statement M
 numbers-spec =
     tie.close
     (tie.spec
-    (λ c. fits-widen tt (c .struct-known .given .0 .0))
-    (λ c. fits-widen tt (c .struct-known2 .given .1 .1 .1 .0))
-    (λ c. fits-widen tt (c .struct-known3 .given .1 .1 .1 .1 .0))
-    (λ c. fits-widen tt (c .struct-known4 .given .1 .1 .1 .1 .1 .0 .0))
-    (λ c κs. tt)
-    (λ c. fits-widen {w = w16} tt (record { fits = c .pattern2 .ok }))
-    (λ c κs. tt)
-    (λ c. fits-widen {w = w16} tt (record { fits = c .pattern22 .ok }))
-    (λ c κs. tt)
-    (λ c. fits-widen {w = w16} tt (record { fits = c .pattern23 .ok }))
-    (λ c κs. tt)
-    (λ c. fits-widen {w = w16} tt (record { fits = c .pattern24 .ok }))
-    (λ c. fits-widen tt (c .struct-known5 .given .1 .1 .1 .1 .1 .1 .1 .1 .1 .1 .1 .1 .0))
-    (λ c. fits-widen tt (c .struct-known6 .given .1 .1 .1 .1 .1 .1 .1 .1 .1 .1 .1 .1 .1 .0))
-    (λ c. fits-widen tt (c .struct-known7 .given .1 .1 .1 .1 .1 .1 .1 .1 .1 .1 .1 .1 .1 .1 .0))
-    (λ c. fits-widen tt (c .struct-known8 .given .1 .1 .1 .1 .1 .1 .1 .1 .1 .1 .1 .1 .1 .1 .1 .0))
-    (λ c. fits-widen tt (c .struct-known9 .given .1 .1 .1 .1 .1 .1 .1 .1 .1 .1 .1 .1 .1 .1 .1 .1 .0))
-    (λ c. fits-widen tt (c .struct-known10 .given .1 .1 .1 .1 .1 .1 .1 .1 .1 .1 .1 .1 .1 .1 .1 .1 .1 .0))
-    (λ c. fits-widen tt (c .struct-known11 .given .1 .1 .1 .1 .1 .1 .1 .1 .1 .1 .1 .1 .1 .1 .1 .1 .1 .1 .0))
-    (λ c κs. tt)
-    (λ c. fits-widen {w = w16} tt (record { fits = c .pattern25 .ok }))
-    (λ c κs. tt)
-    (λ c. fits-widen {w = w16} tt (record { fits = c .pattern26 .ok }))
-    (λ c κs. tt)
-    (λ c. fits-widen {w = w16} tt (record { fits = c .pattern27 .ok }))
-    (λ c κs. tt)
+    (λ c κs. search needs)
+    (λ c κs. search needs)
+    (λ c κs. search needs)
+    (λ c κs. search needs)
+    (λ c κs. search needs)
+    (λ c κs. search needs)
+    (λ c κs. search needs)
+    (λ c κs. search needs)
+    (λ c κs. search needs)
+    (λ c κs. search needs)
+    (λ c κs. search needs)
+    (λ c κs. search needs)
+    (λ c κs. search needs)
+    (λ c κs. search needs)
+    (λ c κs. search needs)
+    (λ c κs. search needs)
+    (λ c κs. search needs)
+    (λ c κs. search needs)
+    (λ c κs. search needs)
     returns)

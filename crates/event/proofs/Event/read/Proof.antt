@@ -1,77 +1,61 @@
--- `event::Event::read` meets its contract: the reader's refusal, or the fields of the tuple that was opened, and the place of
--- its text. Assumes nothing.
-use mathlib.Core.Path.{_≡_, refl, sym, ap, _∙_}
-use mathlib.Core.List.{List}
-use Prim.Native.Nat.{_+_, _-_}
-use native.Mathlib.Omega.{arith}
+-- Made from views/records.txt by views/make.
+-- `event::Event::read` meets its contract: the reader's refusal, or the record of the numbers that were read. Assumes nothing.
+use mathlib.Core.Path.{refl, ap, _∙_}
 use borrow.Author.Needs.{needs}
-use lib.ListN.{length}
-use Rattle.layout.specs.Answers.{tells}
+use Rattle.order.proofs.Laws.{bytes-of}
 use Rattle.layout.specs.declared.Answer.{Answer}
+use Rattle.layout.specs.Answers.{tells}
 use Rattle.layout.specs.Types.{classes, inClass, kindOf, listingOf}
-use Rattle.turning.specs.Rows.{Value}
-use Rattle.tuples.specs.Readers.{readValues, textAt}
-use Rattle.tuples.proofs.Fields.{in-file, at-least, values-there, values-placed, length-part}
+use Rattle.tuples.specs.declared.Part.{Part}
+use Rattle.rows.specs.Readers.{rowText}
+use Rattle.rows.specs.Integers.{rowIntegers}
+use Rattle.rows.proofs.Views.{read-text, view-refused, view-accepted, view-integers}
+use Rattle.event.specs.declared.Event.{Event}
 use Rattle.event.specs.declared.EventRead.the-variants.{Read}
 use Rattle.event.specs.Event.{eventOf, answered}
 use Rattle.event.proofs.Event.read.Statement.{statement}
 use Rattle.event.proofs.Event.read.Tie as tie
 
-at-requires : tie.Need-at-requires
-unfolding kindOf inClass classes listingOf
-at-requires c κs =
-    let r = rw (c .before .msb .given .1) at (c .before .before .before .open-tuple .ensures) in
-    (at-least 10110 r 24 4 refl, in-file 10110 r)
+-- ---- places: from where the row is read back to what is known of the file, and to the start
+abbrev known : tie.After-numbers2 → tie.After-shared-slice-known
+known d = d .before .before .before
+
+abbrev start : tie.After-numbers2 → tie.Start
+start d = known d .before
+
+-- the record there
+abbrev there : tie.After-numbers2 → Event
+there d = eventOf (rowIntegers 10110 (start d .args .file .now) (start d .args .place))
+
+-- and the place of its text
+abbrev stands : tie.After-numbers2 → Part
+stands d = rowText 10110 (start d .args .file .now) (start d .args .place)
 
 returns : tie.Need-returns
+unfolding kindOf inClass classes listingOf
 returns c =
-    let a = c .before .before .before .before .before .args in
-    let e = rw (c .before .code .given .1) at (c .before .before .before .open-tuple .ensures) in
-    record { answer = tells e; outcome = ap (λ (x : Answer). answered x (eventOf (readValues (a .file .now) (a .place))) (record { place = a .place + 12; length = length (textAt (readValues (a .file .now) (a .place)) 2) })) e }
+    let d = c .before .before .before in
+    let e = view-refused 10110 refl refl (rw (c .before .code .given .1) at (d .before .read-row .ensures)) in
+    record { answer = tells e; outcome = ap (λ (x : Answer). answered x (there d) (stands d)) e }
 
 returns-2 : tie.Need-returns-2
 unfolding kindOf inClass classes listingOf
 returns-2 c =
-    let a = c .before .before .before .before .before .before .args in
-    let r = rw (c .before .before .msb .given .1) at (c .before .before .before .before .open-tuple .ensures) in
-    let n = c .before .before .msb .given .0 .1 .0 in
-    let z : n - 8 - 12 ≡ n - 10 - 10 = omega (arith, at-least 10110 r 24 4 refl) in
-    let t = length-part (a .file .now) (a .place + 12) (n - 10 - 10) (omega (arith, in-file 10110 r, at-least 10110 r 24 4 refl)) in
-    let many = z ∙ sym (ap (λ (vs : List Value). length (textAt vs 2)) (values-placed 10110 r tt) ∙ t) in
-    record {
-      answer = tells (r .answer);
-      outcome = (λ i. Read ((c .at .ensures ∙ ap eventOf (sym (values-there 10110 r tt))) i) (record { place = a .place + 12; length = many i })) ∙ ap (λ (x : Answer). answered x (eventOf (readValues (a .file .now) (a .place))) (record { place = a .place + 12; length = length (textAt (readValues (a .file .now) (a .place)) 2) })) (r .answer);
-    }
-
--- the text stands in the file
-add-t10 : tie.Need-add-t10
-unfolding kindOf inClass classes listingOf
-add-t10 c =
-    let r = rw (c .before .before .msb .given .1) at (c .before .before .before .before .open-tuple .ensures) in
-    omega (arith, in-file 10110 r, at-least 10110 r 24 4 refl)
-
-sub-t11 : tie.Need-sub-t11
-unfolding kindOf inClass classes listingOf
-sub-t11 c =
-    let r = rw (c .before .before .msb .given .1) at (c .before .before .before .before .open-tuple .ensures) in
-    omega (arith, in-file 10110 r, at-least 10110 r 24 4 refl)
-
-sub-t12 : tie.Need-sub-t12
-unfolding kindOf inClass classes listingOf
-sub-t12 c =
-    let r = rw (c .before .before .msb .given .1) at (c .before .before .before .before .open-tuple .ensures) in
-    omega (arith, in-file 10110 r, at-least 10110 r 24 4 refl)
+    let d = c .before .before .before .before in
+    let r = rw (c .before .before .text .given .1) at (d .before .read-row .ensures) in
+    let e = view-accepted 10110 refl refl r in
+    let bytes = bytes-of (start d .args .file .now) (λ i. known d .shared-slice-known .given i .fits) in
+    let fields = c .of .ensures ∙ ap eventOf (view-integers 10110 refl refl r bytes) in
+    record { answer = tells e; outcome = (λ i. Read (fields i) (read-text r i)) ∙ ap (λ (x : Answer). answered x (there d) (stands d)) e }
 
 pub read-spec : {M : Type 1} → statement M
 read-spec =
     tie.close
     (tie.spec
+    (λ c. search needs)
     (λ c κs. search needs)
     (λ c. search needs)
     (λ c. search needs)
-    at-requires
-    add-t10
-    sub-t11
-    sub-t12
+    (λ c κs. search needs)
     returns
     returns-2)

@@ -1,33 +1,50 @@
+-- Made from views/records.txt by views/make.
 -- `navigation::Navigation::numbers` meets its contract: the fields in order, the signed ones by their patterns. Assumes nothing.
-use mathlib.Core.Path.{ap, _∙_}
+use mathlib.Core.Path.{_≡_, ap, _∙_}
 use mathlib.Core.List.{[], _∷_}
+use Prim.Native.Nat.{ℕ, _^_, _<_}
 use borrow.Author.Needs.{needs}
-use mir.Syntax.{w16, w32}
+use lib.IntN.{ℤ}
+use lib.Signed.{mag}
+use mir.Syntax.{Width, w16, w32}
+use mir.Val.{hbits, toZ, ofZ}
 use mir.Facts.{toZ-ofZ}
 use Rattle.order.specs.Order.{patternOf}
+use Rattle.layout.specs.Types.{classes, inClass, kindOf, listingOf}
 use Rattle.navigation.proofs.Navigation.numbers.Statement.{statement}
 use Rattle.navigation.proofs.Navigation.numbers.Tie as tie
 
+-- a signed number that a struct holds has its own pattern
+held : (w : Width) (b : ℕ) (z : ℤ) {n : ℕ} → mag z < 2 ^ hbits w → n ≡ patternOf b (toZ w (ofZ w z)) → n ≡ patternOf b z
+held w b z f e = e ∙ ap (patternOf b) (toZ-ofZ {w = w} {z = z} (record { sfits = f }))
+
+-- n0 and so on: the place behind the call on a field; f0 and so on: what the struct tells of a signed field and those behind it
 returns : tie.Need-returns
-returns c =
-    let r = c .before .before .before .before .before .before .before .args .self in
+unfolding kindOf inClass classes listingOf
+returns n5 =
+    let n4 = n5 .before .before in
+    let n3 = n4 .before in
+    let n2 = n3 .before .before in
+    let n0 = n2 .before in
+    let r = n0 .before .args .self in
+    let f3 = n5 .before .struct-told2 .given .1 .1 .1 in
+    let f5 = f3 .1 .1 in
     λ i.
-    r .«time_fraction»
+    n0 .of-unsigned2 .ensures i
     ∷ r .«time_cpu»
-    ∷ r .«navigation_system»
-    ∷ (c .before .before .before .pattern2 .ensures ∙ ap (patternOf 2) (toZ-ofZ {w = w16} {z = r .heading} (record { sfits = c .before .before .before .before .struct-told .given .1 .1 .1 .0 .1 }))) i
-    ∷ r .«navigation_speed»
-    ∷ (c .pattern4 .ensures ∙ ap (patternOf 4) (toZ-ofZ {w = w32} {z = r .«tuple_attribute»} (record { sfits = c .before .struct-told2 .given .1 .1 .1 .1 .1 .0 .1 }))) i
+    ∷ n2 .of-unsigned22 .ensures i
+    ∷ held w16 2 (r .heading) (f3 .0 .1) (n3 .of-signed2 .ensures) i
+    ∷ n4 .of-unsigned23 .ensures i
+    ∷ held w32 4 (r .«tuple_attribute») (f5 .0 .1) (n5 .of-signed4 .ensures) i
     ∷ []
 
 pub numbers-spec : {M : Type 1} → statement M
 numbers-spec =
     tie.close
     (tie.spec
-    (λ c. search needs)
-    (λ c. search needs)
     (λ c κs. search needs)
-    (λ c. search needs)
-    (λ c. search needs)
+    (λ c κs. search needs)
+    (λ c κs. search needs)
+    (λ c κs. search needs)
     (λ c κs. search needs)
     returns)

@@ -1,28 +1,30 @@
--- `navigation::Navigation::write` meets its contract: the numbers handed over are the values of the row. Assumes nothing.
-use mathlib.Core.Path.{refl, ap}
+-- Made from views/records.txt by views/make.
+-- `navigation::Navigation::write` meets its contract: the numbers of the record, written. Assumes nothing.
+use mathlib.Core.Path.{refl}
 use mathlib.Core.List.{[]}
-use native.Mathlib.Omega.{arith}
 use borrow.Author.Needs.{needs}
-use mir.Syntax.{w32}
-use mir.Facts.{toZ-ofZ}
-use Rattle.order.specs.Order.{patternOf}
-use Rattle.layout.specs.Types.{classes, inClass, kindOf, listingOf, shapeOf}
-use Rattle.tuples.specs.inner.Framing.{handedValues}
-use Rattle.tuples.proofs.Writing.{as-values}
+use Rattle.layout.specs.Types.{classes, inClass, kindOf, listingOf}
+use Rattle.tuples.specs.Readers.{rowOf}
+use Rattle.rows.specs.Integers.{patterns}
+use Rattle.rows.proofs.Views.{only-room}
+use Rattle.navigation.specs.Navigation.{navigationIntegers}
 use Rattle.navigation.proofs.Navigation.write.Statement.{statement}
 use Rattle.navigation.proofs.Navigation.write.Tie as tie
 
-write-tuple-requires : tie.Need-write-tuple-requires
-unfolding kindOf inClass classes listingOf
-write-tuple-requires c κs = (refl, refl, refl, omega arith)
+-- ---- places: from where the row is written back to its numbers, and to the start
+abbrev numbered : tie.After-write-row → tie.After-numbers
+numbered w = w .before .before .before .before
+
+abbrev start : tie.After-write-row → tie.Start
+start w = numbered w .before .before
 
 returns : tie.Need-returns
 unfolding kindOf inClass classes listingOf
 returns c =
-    let a = c .before .before .before .before .before .before .before .before .before .before .args in
-    let n = c .before .before .before .before .before .before .before .before .numbers .ensures in
-    let t = toZ-ofZ {w = w32} {z = a .self .«tuple_attribute»} (record { sfits = c .before .before .before .struct-told .given .1 .1 .1 .1 .1 .0 .1 }) in
-    as-values (a .msb) 30 (λ i. handedValues (shapeOf 30) (n i) [] [] (patternOf 4 (t i))) (c .before .before .write-tuple .ensures)
+    let w = c .before .before in
+    let a = start w .args in
+    only-room 30 (a .msb) (patterns (rowOf 30 0) (navigationIntegers (a .self))) [] refl refl refl refl
+    (rw (numbered w .numbers .ensures) at (w .write-row .ensures))
 
 pub write-spec : {M : Type 1} → statement M
 write-spec =
@@ -31,7 +33,6 @@ write-spec =
     (λ c κs. search needs)
     (λ c. search needs)
     (λ c. search needs)
-    (λ c. search needs)
-    write-tuple-requires
+    (λ c κs. search needs)
     (λ c. search needs)
     returns)

@@ -1,48 +1,73 @@
+-- Made from views/records.txt by views/make.
 -- `sounder::Sounder::numbers` meets its contract: the fields in order, the signed ones by their patterns. Assumes nothing.
-use mathlib.Core.Path.{ap, _∙_}
+use mathlib.Core.Path.{_≡_, ap, _∙_}
 use mathlib.Core.List.{[], _∷_}
-use mir.Syntax.{w16, w32}
-use mir.Facts.{fits-widen, toZ-ofZ}
+use Prim.Native.Nat.{ℕ, _^_, _<_}
+use borrow.Author.Needs.{needs}
+use lib.IntN.{ℤ}
+use lib.Signed.{mag}
+use mir.Syntax.{Width, w16, w32}
+use mir.Val.{hbits, toZ, ofZ}
+use mir.Facts.{toZ-ofZ}
 use Rattle.order.specs.Order.{patternOf}
+use Rattle.layout.specs.Types.{classes, inClass, kindOf, listingOf}
 use Rattle.sounder.proofs.Sounder.numbers.Statement.{statement}
 use Rattle.sounder.proofs.Sounder.numbers.Tie as tie
 
+-- a signed number that a struct holds has its own pattern
+held : (w : Width) (b : ℕ) (z : ℤ) {n : ℕ} → mag z < 2 ^ hbits w → n ≡ patternOf b (toZ w (ofZ w z)) → n ≡ patternOf b z
+held w b z f e = e ∙ ap (patternOf b) (toZ-ofZ {w = w} {z = z} (record { sfits = f }))
+
+-- n0 and so on: the place behind the call on a field; f0 and so on: what the struct tells of a signed field and those behind it
 returns : tie.Need-returns
-returns c =
-    let r = c .before .before .before .before .before .before .before .before .before .before .before .before .before .before .before .before .args .self in
+unfolding kindOf inClass classes listingOf
+returns n12 =
+    let n11 = n12 .before .before in
+    let n10 = n11 .before in
+    let n9 = n10 .before in
+    let n8 = n9 .before .before in
+    let n7 = n8 .before in
+    let n6 = n7 .before in
+    let n5 = n6 .before .before in
+    let n4 = n5 .before in
+    let n3 = n4 .before .before in
+    let n2 = n3 .before in
+    let n0 = n2 .before in
+    let r = n0 .before .args .self in
+    let f4 = n12 .before .struct-told4 .given .1 .1 .1 .1 in
+    let f6 = f4 .1 .1 in
+    let f9 = f6 .1 .1 .1 in
+    let f12 = f9 .1 .1 .1 in
     λ i.
-    r .«number_of_software_channels»
+    n0 .of-unsigned2 .ensures i
     ∷ r .«echosounder_document_identifier» .0
-    ∷ r .«sound_speed»
-    ∷ r .«ping_interval»
-    ∷ (c .before .before .before .before .before .before .before .before .before .before .before .pattern2 .ensures ∙ ap (patternOf 2) (toZ-ofZ {w = w16} {z = r .«transmitter_attenuation_setting»} (record { sfits = c .before .before .before .before .before .before .before .before .before .before .before .before .struct-told .given .1 .1 .1 .1 .0 .1 }))) i
-    ∷ r .«multiplexing_mode»
-    ∷ (c .before .before .before .before .before .before .before .before .pattern22 .ensures ∙ ap (patternOf 2) (toZ-ofZ {w = w16} {z = r .«blanking_at_tvg_max_range»} (record { sfits = c .before .before .before .before .before .before .before .before .before .struct-told2 .given .1 .1 .1 .1 .1 .1 .0 .1 }))) i
-    ∷ r .«tvg_max_range»
-    ∷ r .«blanking_up_to_range»
-    ∷ (c .before .before .before .before .pattern23 .ensures ∙ ap (patternOf 2) (toZ-ofZ {w = w16} {z = r .«calibrator_signal»} (record { sfits = c .before .before .before .before .before .struct-told3 .given .1 .1 .1 .1 .1 .1 .1 .1 .1 .0 .1 }))) i
-    ∷ r .«calibrator_mode»
-    ∷ r .«calibrator_separator»
-    ∷ (c .pattern4 .ensures ∙ ap (patternOf 4) (toZ-ofZ {w = w32} {z = r .«tuple_attribute»} (record { sfits = c .before .struct-told4 .given .1 .1 .1 .1 .1 .1 .1 .1 .1 .1 .1 .1 .0 .1 }))) i
+    ∷ n2 .of-unsigned22 .ensures i
+    ∷ n3 .of-unsigned23 .ensures i
+    ∷ held w16 2 (r .«transmitter_attenuation_setting») (f4 .0 .1) (n4 .of-signed2 .ensures) i
+    ∷ n5 .of-unsigned24 .ensures i
+    ∷ held w16 2 (r .«blanking_at_tvg_max_range») (f6 .0 .1) (n6 .of-signed22 .ensures) i
+    ∷ n7 .of-unsigned25 .ensures i
+    ∷ n8 .of-unsigned26 .ensures i
+    ∷ held w16 2 (r .«calibrator_signal») (f9 .0 .1) (n9 .of-signed23 .ensures) i
+    ∷ n10 .of-unsigned27 .ensures i
+    ∷ n11 .of-unsigned28 .ensures i
+    ∷ held w32 4 (r .«tuple_attribute») (f12 .0 .1) (n12 .of-signed4 .ensures) i
     ∷ []
 
 pub numbers-spec : {M : Type 1} → statement M
 numbers-spec =
     tie.close
     (tie.spec
-    (λ c. fits-widen tt (c .struct-known .given .0))
-    (λ c. fits-widen tt (c .struct-known2 .given .1 .1 .0))
-    (λ c. fits-widen tt (c .struct-known3 .given .1 .1 .1 .0))
-    (λ c κs. tt)
-    (λ c. fits-widen {w = w16} tt (record { fits = c .pattern2 .ok }))
-    (λ c. fits-widen tt (c .struct-known4 .given .1 .1 .1 .1 .1 .0))
-    (λ c κs. tt)
-    (λ c. fits-widen {w = w16} tt (record { fits = c .pattern22 .ok }))
-    (λ c. fits-widen tt (c .struct-known5 .given .1 .1 .1 .1 .1 .1 .1 .0))
-    (λ c. fits-widen tt (c .struct-known6 .given .1 .1 .1 .1 .1 .1 .1 .1 .0))
-    (λ c κs. tt)
-    (λ c. fits-widen {w = w16} tt (record { fits = c .pattern23 .ok }))
-    (λ c. fits-widen tt (c .struct-known7 .given .1 .1 .1 .1 .1 .1 .1 .1 .1 .1 .0))
-    (λ c. fits-widen tt (c .struct-known8 .given .1 .1 .1 .1 .1 .1 .1 .1 .1 .1 .1 .0))
-    (λ c κs. tt)
+    (λ c κs. search needs)
+    (λ c κs. search needs)
+    (λ c κs. search needs)
+    (λ c κs. search needs)
+    (λ c κs. search needs)
+    (λ c κs. search needs)
+    (λ c κs. search needs)
+    (λ c κs. search needs)
+    (λ c κs. search needs)
+    (λ c κs. search needs)
+    (λ c κs. search needs)
+    (λ c κs. search needs)
     returns)

@@ -1,56 +1,62 @@
--- `sounder::Sounder::read` meets its contract: the reader's refusal, or the fields of the tuple that was opened, and the place of
--- its remarks. Assumes nothing.
-use mathlib.Core.Path.{refl, sym, ap, _∙_}
-use Prim.Native.Nat.{_+_}
-use native.Mathlib.Omega.{arith}
+-- Made from views/records.txt by views/make.
+-- `sounder::Sounder::read` meets its contract: the reader's refusal, or the record of the numbers that were read. Assumes
+-- nothing.
+use mathlib.Core.Path.{refl, ap, _∙_}
 use borrow.Author.Needs.{needs}
-use Rattle.layout.specs.Answers.{tells}
+use Rattle.order.proofs.Laws.{bytes-of}
 use Rattle.layout.specs.declared.Answer.{Answer}
+use Rattle.layout.specs.Answers.{tells}
 use Rattle.layout.specs.Types.{classes, inClass, kindOf, listingOf}
-use Rattle.tuples.specs.Readers.{readValues}
-use Rattle.tuples.proofs.Fields.{in-file, exact, values-there}
+use Rattle.tuples.specs.declared.Part.{Part}
+use Rattle.rows.specs.Readers.{rowText}
+use Rattle.rows.specs.Integers.{rowIntegers}
+use Rattle.rows.proofs.Views.{read-text, view-refused, view-accepted, view-integers}
+use Rattle.sounder.specs.declared.Sounder.{Sounder}
 use Rattle.sounder.specs.declared.SounderRead.the-variants.{Read}
 use Rattle.sounder.specs.Sounder.{sounderOf, answered}
 use Rattle.sounder.proofs.Sounder.read.Statement.{statement}
 use Rattle.sounder.proofs.Sounder.read.Tie as tie
 
-at-requires : tie.Need-at-requires
-unfolding kindOf inClass classes listingOf
-at-requires c κs =
-    let r = rw (c .before .msb .given .1) at (c .before .before .before .open-tuple .ensures) in
-    omega (arith, in-file 100 r, exact 100 r 72 refl)
+-- ---- places: from where the row is read back to what is known of the file, and to the start
+abbrev known : tie.After-numbers2 → tie.After-shared-slice-known
+known d = d .before .before .before
+
+abbrev start : tie.After-numbers2 → tie.Start
+start d = known d .before
+
+-- the record there
+abbrev there : tie.After-numbers2 → Sounder
+there d = sounderOf (rowIntegers 100 (start d .args .file .now) (start d .args .place))
+
+-- and the place of its remarks
+abbrev stands : tie.After-numbers2 → Part
+stands d = rowText 100 (start d .args .file .now) (start d .args .place)
 
 returns : tie.Need-returns
+unfolding kindOf inClass classes listingOf
 returns c =
-    let a = c .before .before .before .before .before .args in
-    let e = rw (c .before .code .given .1) at (c .before .before .before .open-tuple .ensures) in
-    record { answer = tells e; outcome = ap (λ (x : Answer). answered x (sounderOf (readValues (a .file .now) (a .place))) (record { place = a .place + 32; length = 30 })) e }
+    let d = c .before .before .before in
+    let e = view-refused 100 refl refl (rw (c .before .code .given .1) at (d .before .read-row .ensures)) in
+    record { answer = tells e; outcome = ap (λ (x : Answer). answered x (there d) (stands d)) e }
 
 returns-2 : tie.Need-returns-2
 unfolding kindOf inClass classes listingOf
 returns-2 c =
-    let a = c .before .before .before .before .before .before .args in
-    let r = rw (c .before .before .msb .given .1) at (c .before .before .before .before .open-tuple .ensures) in
-    record {
-      answer = tells (r .answer);
-      outcome = (λ i. Read ((c .at .ensures ∙ ap sounderOf (sym (values-there 100 r tt))) i) (record { place = a .place + 32; length = 30 })) ∙ ap (λ (x : Answer). answered x (sounderOf (readValues (a .file .now) (a .place))) (record { place = a .place + 32; length = 30 })) (r .answer);
-    }
-
--- the remarks stand in the file
-add-t9 : tie.Need-add-t9
-unfolding kindOf inClass classes listingOf
-add-t9 c =
-    let r = rw (c .before .before .msb .given .1) at (c .before .before .before .before .open-tuple .ensures) in
-    omega (arith, in-file 100 r, exact 100 r 72 refl)
+    let d = c .before .before .before .before in
+    let r = rw (c .before .before .text .given .1) at (d .before .read-row .ensures) in
+    let e = view-accepted 100 refl refl r in
+    let bytes = bytes-of (start d .args .file .now) (λ i. known d .shared-slice-known .given i .fits) in
+    let fields = c .of .ensures ∙ ap sounderOf (view-integers 100 refl refl r bytes) in
+    record { answer = tells e; outcome = (λ i. Read (fields i) (read-text r i)) ∙ ap (λ (x : Answer). answered x (there d) (stands d)) e }
 
 pub read-spec : {M : Type 1} → statement M
 read-spec =
     tie.close
     (tie.spec
+    (λ c. search needs)
     (λ c κs. search needs)
     (λ c. search needs)
     (λ c. search needs)
-    at-requires
-    add-t9
+    (λ c κs. search needs)
     returns
     returns-2)
