@@ -15,7 +15,9 @@ use Rattle.archive.specs.Numbers.{five}
 module _ {O M : Type 0} (n : ℕ) (numbers : O → List ℕ) (promise : O → M → Type 0) (lent : List ℕ) (memory : M) where
   -- too few entries
   pub untold : length lent < head + n → Said n numbers promise lent memory 19 lent memory
-  untold h = subst (λ (b : Bool). SaidIf b numbers promise lent memory 19 lent memory) (sym (lt-ltb (length lent) (head + n) h)) (record { said = refl; entries = refl; stays = refl })
+  untold h =
+      subst (λ (b : Bool). SaidIf b numbers promise lent memory 19 lent memory) (sym (lt-ltb (length lent) (head + n) h))
+      (record { said = refl; entries = refl; stays = refl })
 
   -- entries enough, and an outcome told in them
   pub told : (o : O) (code : ℕ) (left : List ℕ) (kept : M) → head + n ≤ length lent → length (numbers o) ≤ head + n → promise o kept
@@ -23,7 +25,14 @@ module _ {O M : Type 0} (n : ℕ) (numbers : O → List ℕ) (promise : O → M 
   told o code left kept h k p c e =
       let z : 0 + length (numbers o) ≡ length (numbers o) = omega arith in
       subst (λ (b : Bool). SaidIf b numbers promise lent memory code left kept) (sym (le-ltb (length lent) (head + n) h))
-      (record { outcome = o; promised = p; said = c; entries = e ∙ sets-eq (numbers o) lent 0 (omega arith) ∙ ap (λ (i : ℕ). numbers o ++ drop i lent) z })
+      (record {
+        outcome = o;
+        promised = p;
+        said = c;
+        entries = e
+            ∙ sets-eq (numbers o) lent 0 (omega arith)
+            ∙ ap (λ (i : ℕ). numbers o ++ drop i lent) z;
+      })
 
   -- an outcome, with the numbers that were told for it
   pub told-as : (o : O) (ws : List ℕ) (code : ℕ) (left : List ℕ) (kept : M) → head + n ≤ length lent → length ws ≤ head + n → promise o kept

@@ -20,7 +20,8 @@ use Rattle.layout.specs.declared.Answer.the-variants.{Accepted}
 use Rattle.layout.specs.declared.Kind.{Kind}
 use Rattle.layout.specs.Answers.{accepting, leftBy}
 use Rattle.layout.specs.Fields.{Field, num, txt, gap, ident, s, size, many, bareSize}
-use Rattle.layout.specs.Types.{Shape, indexed, row, pairs, words, unlisted, Length, exactly, upward, free, fitting, kindOf, shapeOf, lengthsOf, lengthFrom, listed, listingOf, placeIn}
+use Rattle.layout.specs.Types.{Shape, indexed, row, pairs, words, unlisted, Length, exactly, upward, free, fitting, kindOf, shapeOf}
+use Rattle.layout.specs.Types.{lengthsOf, lengthFrom, listed, listingOf, placeIn}
 use Rattle.layout.proofs.Tables.{at-listed}
 use Rattle.frame.specs.Frames.{allowed}
 use Rattle.frame.proofs.Frames.{allowed-of}
@@ -57,7 +58,8 @@ test : map (λ (q : Kind). byFours (listingOf q .shape)) listed ≡ map (λ (q :
 unfolding listed listingOf
 test = refl
 
-allowed-row : (fs : List Field) (x : Option ℕ) (n : ℕ) → byFours (row fs x) ≡ true → fitting (lengthFrom (row fs x)) n ≡ true → n ≤ 262144 → allowed n ≡ true
+allowed-row : (fs : List Field) (x : Option ℕ) (n : ℕ) → byFours (row fs x) ≡ true → fitting (lengthFrom (row fs x)) n ≡ true → n ≤ 262144
+    → allowed n ≡ true
 allowed-row fs none n e f h =
     let p = both-true (eqb ((size fs + 14) % 4) 0) _ e in
     let is : n ≡ size fs + 14 = eqb-true n (size fs + 14) f in
@@ -125,7 +127,8 @@ text-fixed : (fs : List Field) (ns t : List ℕ) (n : ℕ) → fitting (lengthFr
 text-fixed fs ns t n e l true b = text-none fs ns t b ∙ no-length t (omega (arith, fixed-length fs n e, none-bare fs b, l))
 text-fixed fs ns t n e l false b = text-woven fs ns t b
 
-text-back : (q : Shape) (ns t : List ℕ) (n : ℕ) → IsRow q → Textual q → fitting (lengthFrom q) n ≡ true → n ≡ bareSize (fieldsBy q) + length t + 14
+text-back : (q : Shape) (ns t : List ℕ) (n : ℕ) → IsRow q → Textual q → fitting (lengthFrom q) n ≡ true
+    → n ≡ bareSize (fieldsBy q) + length t + 14
     → textIn (woven (rowBy q 0) ns t) ≡ t
 text-back indexed ns t n z x e l = absurd z
 text-back (row fs none) ns t n z x e l = text-fixed fs ns t n e l (noText fs) refl
@@ -222,7 +225,8 @@ module _ {k : ℕ} {ns t : List ℕ} (w : Taken k ns t) (g : RowSound k ns t) wh
     row-back = record { numbers = numbers-back; read = read-back; characters = characters-back }
 
 -- what the writer of rows wrote, its reader reads back
-pub row-again : {k : ℕ} {ns t : List ℕ} {o : Bool} {out left f : List ℕ} {p : ℕ} {n : Counts} → RowSound k ns t → RowWritten k ns t o out (Accepted n) left
+pub row-again : {k : ℕ} {ns t : List ℕ} {o : Bool} {out left f : List ℕ} {p : ℕ} {n : Counts} → RowSound k ns t
+    → RowWritten k ns t o out (Accepted n) left
     → Holds f p o (take (n .written) left) → RowBack k ns t f p
 row-again {o = o} g w h = row-back (taken o w) g (written-held (refl, (refl, (refl, (refl, (refl, tt))))) w h)
 
@@ -268,11 +272,13 @@ widened-last (gap w ∷ fs) a m e = ap (λ (l : List Field). gap w ∷ l) (widen
 widened-last (ident ∷ fs) a m e = ap (λ (l : List Field). ident ∷ l) (widened-last fs a m e)
 
 -- so is the row of a type, in the tuple that its characters make
-as-wide : (q : Shape) (t : List ℕ) (n : ℕ) → IsRow q → Textual q → fitting (lengthFrom q) n ≡ true → n ≡ bareSize (fieldsBy q) + length t + 14
+as-wide : (q : Shape) (t : List ℕ) (n : ℕ) → IsRow q → Textual q → fitting (lengthFrom q) n ≡ true
+    → n ≡ bareSize (fieldsBy q) + length t + 14
     → widened (rowBy q 0) (length t) ≡ rowBy q (n - 10)
 as-wide indexed t n z x e l = absurd z
 as-wide (row fs none) t n z x e l =
-    let m : length t ≡ length (replicate {A = ℕ} (size fs - bareSize fs) 0) = omega (arith, l, fixed-length fs n e, length-replicate {A = ℕ} (size fs - bareSize fs) 0) in
+    let m : length t ≡ length (replicate {A = ℕ} (size fs - bareSize fs) 0) =
+    omega (arith, l, fixed-length fs n e, length-replicate {A = ℕ} (size fs - bareSize fs) 0) in
     widened-fit fs t (fits-by fs t (replicate (size fs - bareSize fs) 0) m ∙ x .1)
 as-wide (row fs (some least)) t n z x e l =
     let m : length t ≡ n - 10 - (size fs + 4) = omega (arith, l, none-bare fs x) in
@@ -312,7 +318,8 @@ pub record Viewed (k : ℕ) (zs : List ℤ) (t f : List ℕ) (p : ℕ) : Type 0 
   pub integers : rowIntegers k f p ≡ zs
   pub characters : charactersAt f (rowText k f p) ≡ t
 
-module _ (k : ℕ) (zs : List ℤ) (t : List ℕ) (c : k < 65536) (g : Typed (rowOf k 0) zs) (b : Bytes t) (w : Taken k (patterns (rowOf k 0) zs) t) where
+module _ (k : ℕ) (zs : List ℤ) (t : List ℕ) (c : k < 65536) (g : Typed (rowOf k 0) zs) (b : Bytes t)
+    (w : Taken k (patterns (rowOf k 0) zs) t) where
   abbrev ns : List ℕ
   ns = patterns (rowOf k 0) zs
 
@@ -320,7 +327,11 @@ module _ (k : ℕ) (zs : List ℤ) (t : List ℕ) (c : k < 65536) (g : Typed (ro
   sound =
       let n = rowLength k t in
       let wide = as-wide (shapeOf k) t n (is-row (shapeOf k) (w .type)) (textual (kindOf k)) (lengths-row k n (w .fits)) refl in
-      record { code = c; values = subst (λ (fs : List Field). Fit fs (rowValues k ns t)) wide (fit-widened (rowOf k 0) zs t g); characters = b }
+      record {
+        code = c;
+        values = subst (λ (fs : List Field). Fit fs (rowValues k ns t)) wide (fit-widened (rowOf k 0) zs t g);
+        characters = b;
+      }
 
   pub viewed : {f : List ℕ} {p : ℕ} {o : Bool} → Holds f p o (plainBytes o k (rowValues k (patterns (rowOf k 0) zs) t)) → Viewed k zs t f p
   viewed h =
@@ -339,7 +350,8 @@ again-row k zs t c g b o w h = viewed k zs t c g b (taken o w) (written-held (re
 
 pub again-plain : (k : ℕ) (zs : List ℤ) (t : List ℕ) → k < 65536 → Typed (rowOf k 0) zs → Bytes t
     → not (isRecord k) ≡ false → not (fitting (lengthsOf k) (rowLength k t)) ≡ false → ltb 262144 (rowLength k t) ≡ false
-    → (o : Bool) {out left f : List ℕ} {p : ℕ} {n : Counts} → Written [] (plainBytes o k (rowValues k (patterns (rowOf k 0) zs) t)) out (Accepted n) left
+    → (o : Bool) {out left f : List ℕ} {p : ℕ} {n : Counts}
+    → Written [] (plainBytes o k (rowValues k (patterns (rowOf k 0) zs) t)) out (Accepted n) left
     → Holds f p o (take (n .written) left) → Viewed k zs t f p
 again-plain k zs t c g b e f l o w h =
     viewed k zs t c g b

@@ -61,7 +61,8 @@ values-paired : (ns : List ℕ) (vs : List ℤ) → length vs ≡ length ns → 
 values-paired [] [] e f = refl
 values-paired [] (v ∷ vs) e f = absurd (omega arith)
 values-paired (n ∷ ns) [] e f = absurd (omega arith)
-values-paired (n ∷ ns) (v ∷ vs) e f = ap₂ (λ (x : ℤ) (l : List ℤ). x ∷ l) (signed-pattern 3 v (f .0)) (values-paired ns vs (omega arith) (f .1))
+values-paired (n ∷ ns) (v ∷ vs) e f =
+    ap₂ (λ (x : ℤ) (l : List ℤ). x ∷ l) (signed-pattern 3 v (f .0)) (values-paired ns vs (omega arith) (f .1))
 
 -- the fewest words are one at least
 some-words : (s : List Sample) → 1 ≤ length (fewest radix s)
@@ -96,7 +97,9 @@ module _ {h : PingHeader} {a : ℤ} {ns : List ℕ} {vs : List ℤ} (g : PingTyp
   good =
       let i = g .header in
       record {
-        head = fit-num (i .0) (fit-num (i .1) (fit-num (i .2) (fit-num (i .3) (fit-num (i .4) (fit-num (pattern-below 3 (h .«detected_bottom_range») (i .5)) fit-end)))));
+        head =
+            fit-num (i .0) (fit-num (i .1)
+            (fit-num (i .2) (fit-num (i .3) (fit-num (i .4) (fit-num (pattern-below 3 (h .«detected_bottom_range») (i .5)) fit-end)))));
         lettered = tt;
         within = paired-within ns vs (g .numbers) (ints vs (g .values));
         attr = pattern-below 3 a (g .attribute);
@@ -113,10 +116,20 @@ module _ {h : PingHeader} {a : ℤ} {ns : List ℕ} {vs : List ℤ} (g : PingTyp
         let f = l .few in
         let m = many in
         record {
-          framed = record { kind = lit< tt; bytes = bytes-U o c good; allowed = allowed-of (length d + 10) (omega arith) (omega arith) (omega arith) };
-          head = head-fine o (tupleU o c) pairs refl (rw (le-leb 40 (length d + 10) (omega arith), eq-eqb ((length d + 10 - 40) % 8) 0 (omega arith))) refl;
-          inner = inner-fine o (tupleU o c) pairs refl (passed (pairRules (contentU o d .samples))
-              (ap (λ (p : Ping). ltb (firstDrop 0 (p .samples)) (length (p .samples))) (content-U o c good) ∙ le-ltb (firstDrop 0 (paired ns vs)) (length (paired ns vs)) (omega (arith, l .rising)), tt));
+          framed =
+              record {
+                kind = lit< tt;
+                bytes = bytes-U o c good;
+                allowed = allowed-of (length d + 10) (omega arith) (omega arith) (omega arith);
+              };
+          head =
+              head-fine o (tupleU o c) pairs refl
+              (rw (le-leb 40 (length d + 10) (omega arith), eq-eqb ((length d + 10 - 40) % 8) 0 (omega arith))) refl;
+          inner = inner-fine o (tupleU o c) pairs refl (passed (pairRules (contentU o d .samples)) (
+            ap (λ (p : Ping). ltb (firstDrop 0 (p .samples)) (length (p .samples))) (content-U o c good)
+                ∙ le-ltb (firstDrop 0 (paired ns vs)) (length (paired ns vs)) (omega (arith, l .rising)),
+            tt,
+          ));
         }
 
     pub item-U : itemOf o (tupleU o (handedPing h a ns vs)) ≡ some (ping (handedPing h a ns vs))
@@ -137,8 +150,15 @@ module _ {h : PingHeader} {a : ℤ} {ns : List ℕ} {vs : List ℤ} (g : PingTyp
           let n = length-C o c good ws below in
           let k = some-words (paired ns vs) in
           record {
-            framed = record { kind = lit< tt; bytes = bytes-C o c good ws below; allowed = allowed-of (length d + 10) (omega arith) (omega arith) (omega (arith, w .short)) };
-            head = head-fine o (tupleC o c) words refl (rw (le-leb 40 (length d + 10) (omega arith), eq-eqb ((length d + 10 - 40) % 4) 0 (omega arith))) refl;
+            framed =
+                record {
+                  kind = lit< tt;
+                  bytes = bytes-C o c good ws below;
+                  allowed = allowed-of (length d + 10) (omega arith) (omega arith) (omega (arith, w .short));
+                };
+            head =
+                head-fine o (tupleC o c) words refl
+                (rw (le-leb 40 (length d + 10) (omega arith), eq-eqb ((length d + 10 - 40) % 4) 0 (omega arith))) refl;
             inner = inner-fine o (tupleC o c) words refl
                 (ap₂ (λ (k : ℕ) (us : List ℕ). judged (wordRules k us)) (count-C o c good ws below) (words-C o c good ws below)
                 ∙ words-pass (paired ns vs) (l .rising ∙ sym many) (w .worded ∙ sym many) (good .few));
@@ -146,12 +166,16 @@ module _ {h : PingHeader} {a : ℤ} {ns : List ℕ} {vs : List ℤ} (g : PingTyp
 
       pub item-C : itemOf o (tupleC o (handedPing h a ns vs)) ≡ some (ping (handedPing h a ns vs))
       unfolding itemOf classes inClass kindOf listingOf
-      item-C = ap (λ (p : Ping). some (ping p)) (content-C o c good ws below (words-back (paired ns vs) (l .rising ∙ sym many) (w .worded ∙ sym many)))
+      item-C =
+          ap (λ (p : Ping). some (ping p))
+          (content-C o c good ws below (words-back (paired ns vs) (l .rising ∙ sym many) (w .worded ∙ sym many)))
 
-  pub says-U : {o : Bool} {f : List ℕ} {p : ℕ} → 0 < length ns → Holds f p o (bytesU o (handedPing h a ns vs)) → Says (handedPing h a ns vs) 10000 f p
+  pub says-U : {o : Bool} {f : List ℕ} {p : ℕ} → 0 < length ns → Holds f p o (bytesU o (handedPing h a ns vs))
+      → Says (handedPing h a ns vs) 10000 f p
   says-U {o} any b = record { order = o; tuple = tupleU o c; sound = sound-U o any; item = item-U o; kind = refl; there = b }
 
-  pub says-C : {o : Bool} {f : List ℕ} {p : ℕ} → Worded ns vs → Holds f p o (bytesC o (handedPing h a ns vs)) → Says (handedPing h a ns vs) 10010 f p
+  pub says-C : {o : Bool} {f : List ℕ} {p : ℕ} → Worded ns vs → Holds f p o (bytesC o (handedPing h a ns vs))
+      → Says (handedPing h a ns vs) 10010 f p
   says-C {o} w b = record { order = o; tuple = tupleC o c; sound = sound-C o w; item = item-C o w; kind = refl; there = b }
 
   -- ---- read by both readers
@@ -168,17 +192,24 @@ module _ {h : PingHeader} {a : ℤ} {ns : List ℕ} {vs : List ℤ} (g : PingTyp
         ap₂ fieldsBy (ap pingBy (says-item s)) (ap (λ (u : Tup). u .kind) (read-tuple (s .sound) (s .there)) ∙ s .kind)
         ∙ (λ j. Read (header-back h (g .header) j) (signed-pattern 3 a (g .attribute) j) (kindOfPing k) (many j))
 
-    says-handed : (numbers ms : List ℕ) (values us : List ℤ) (r : Answer) → length ns ≤ length numbers → length ns ≤ length values → SamplesRead f p numbers values r ms us
+    says-handed : (numbers ms : List ℕ) (values us : List ℤ) (r : Answer) → length ns ≤ length numbers → length ns ≤ length values
+        → SamplesRead f p numbers values r ms us
         → (r ≡ accepting 1 (length ns)) × (ms ≡ ns ++ drop (length ns) numbers) × (us ≡ vs ++ drop (length ns) values)
     unfolding sampleAnswer
     says-handed numbers ms values us r m n e =
         let room : handAnswer (length (paired ns vs)) (length numbers) (length values) ≡ accepting 1 (length ns) =
-        ap (λ (i : ℕ). handAnswer i (length numbers) (length values)) many ∙ rw (le-ltb (length numbers) (length ns) m, le-ltb (length values) (length ns) n) in
+        ap (λ (i : ℕ). handAnswer i (length numbers) (length values)) many
+        ∙ rw (le-ltb (length numbers) (length ns) m, le-ltb (length values) (length ns) n) in
         let is : sampleAnswer f p (length numbers) (length values) ≡ accepting 1 (length ns) =
-        ap₂ (λ (x : List Sample) (y : Answer). behindRead (length x) (length numbers) (length values) y) says-samples says-answer ∙ room in (
+        ap₂ (λ (x : List Sample) (y : Answer). behindRead (length x) (length numbers) (length values) y) says-samples says-answer
+        ∙ room in (
           e .answer .is ∙ is,
-          e .numbersLeft ∙ ap₂ (λ (y : Answer) (x : List Sample). leftBy y (numbersOf x) numbers) is says-samples ∙ ap (λ (x : List ℕ). x ++ drop (length x) numbers) (numbers-paired ns vs (l .equal)),
-          e .valuesLeft ∙ ap₂ (λ (y : Answer) (x : List Sample). leftBy y (valuesOf x) values) is says-samples ∙ ap (λ (x : List ℤ). x ++ drop (length x) values) (values-paired ns vs (l .equal) (g .values))
+          e .numbersLeft
+              ∙ ap₂ (λ (y : Answer) (x : List Sample). leftBy y (numbersOf x) numbers) is says-samples
+              ∙ ap (λ (x : List ℕ). x ++ drop (length x) numbers) (numbers-paired ns vs (l .equal)),
+          e .valuesLeft
+              ∙ ap₂ (λ (y : Answer) (x : List Sample). leftBy y (valuesOf x) values) is says-samples
+              ∙ ap (λ (x : List ℤ). x ++ drop (length x) values) (values-paired ns vs (l .equal) (g .values))
               ∙ ap (λ (i : ℕ). vs ++ drop i values) (l .equal),
         )
 
@@ -194,16 +225,22 @@ module _ {h : PingHeader} {a : ℤ} {ns : List ℕ} {vs : List ℤ} (g : PingTyp
     back-C w b = says-back refl (says-C w b)
 
   -- ---- where both can be written, the U-32 and the C-32 ping have one content, samples, header and attribute
-  pub same-samples : {x y : Bool} {e f : List ℕ} {p q : ℕ} → 0 < length ns → Worded ns vs → Holds e p x (bytesU x (handedPing h a ns vs)) → Holds f q y (bytesC y (handedPing h a ns vs))
+  pub same-samples : {x y : Bool} {e f : List ℕ} {p q : ℕ} → 0 < length ns → Worded ns vs → Holds e p x (bytesU x (handedPing h a ns vs))
+      → Holds f q y (bytesC y (handedPing h a ns vs))
       → (readItem e p ≡ readItem f q) × (samplesAt e p ≡ samplesAt f q)
   same-samples any w b d = let same = says-item (says-U any b) ∙ sym (says-item (says-C w d)) in (same, ap samplesBy same)
 
 -- ---- what an acceptance tells of the lists handed over
-listed : (ns : List ℕ) (vs : List ℤ) → not (eqb (length ns) (length vs)) ≡ false → ltb most (length ns) ≡ false → ltb (firstDrop 0 (paired ns vs)) (length (paired ns vs)) ≡ false → Listed ns vs
+listed : (ns : List ℕ) (vs : List ℤ) → not (eqb (length ns) (length vs)) ≡ false → ltb most (length ns) ≡ false
+    → ltb (firstDrop 0 (paired ns vs)) (length (paired ns vs)) ≡ false → Listed ns vs
 listed ns vs e m d =
     let same : length ns ≡ length vs = eqb-true _ _ (not-false _ e) in
     let many = length-paired ns vs (sym same) in
-    record { equal = sym same; few = ltb-false _ _ m; rising = omega (arith, ltb-false (firstDrop 0 (paired ns vs)) (length (paired ns vs)) d, drop-most (paired ns vs) 0) }
+    record {
+      equal = sym same;
+      few = ltb-false _ _ m;
+      rising = omega (arith, ltb-false (firstDrop 0 (paired ns vs)) (length (paired ns vs)) d, drop-most (paired ns vs) 0);
+    }
 
 wordless-most : (s : List Sample) → firstWordless s ≤ length s
 wordless-most [] = unfold firstWordless in omega arith

@@ -43,7 +43,8 @@ use Rattle.position.specs.Position as positions
 use Rattle.navigation.specs.declared.Navigation.{Navigation}
 use Rattle.navigation.specs.declared.NavigationRead.{NavigationRead}
 use Rattle.navigation.specs.declared.NavigationRead.the-variants as navigation
-use Rattle.navigation.specs.Navigation.{navigationOf, navigationIntegers, navigation-inverse, NavigationTyped, NavigationAt, NavigationWritten}
+use Rattle.navigation.specs.Navigation.{navigationOf, navigationIntegers, navigation-inverse, NavigationTyped, NavigationAt}
+use Rattle.navigation.specs.Navigation.{NavigationWritten}
 use Rattle.navigation.specs.Navigation as navigations
 use Rattle.attitude.specs.declared.Attitude.{Attitude}
 use Rattle.attitude.specs.declared.AttitudeRead.{AttitudeRead}

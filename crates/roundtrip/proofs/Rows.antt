@@ -62,9 +62,15 @@ module _ {k : ℕ} {vs : List Value} (g : Filled k vs) (o : Bool) where
   pub sound-row : Sound o (plainTuple o k vs)
   sound-row =
       record {
-        framed = record { kind = g .code; bytes = subst Bytes (sym body-row) (bytes-encode o (g .fit) (g .lettered)); allowed = rw length-row (g .whole) };
+        framed =
+            record {
+              kind = g .code;
+              bytes = subst Bytes (sym body-row) (bytes-encode o (g .fit) (g .lettered));
+              allowed = rw length-row (g .whole);
+            };
         head = head-fine o (plainTuple o k vs) (row (g .fields) (g .characters)) (g .shape) (rw length-row (g .fits))
-            (ap₂ (λ (n : ℕ) (b : List ℕ). identified o (rowIn (g .fields) (g .characters) n) b) length-row body-row ∙ identified-encode o (g .fit));
+            (ap₂ (λ (n : ℕ) (b : List ℕ). identified o (rowIn (g .fields) (g .characters) n) b) length-row body-row
+            ∙ identified-encode o (g .fit));
         inner = inner-fine o (plainTuple o k vs) (row (g .fields) (g .characters)) (g .shape) refl;
       }
 

@@ -44,7 +44,8 @@ module _ {f : List ℕ} {p : ℕ} {o : Bool} {t : Tup} (g : Sound o t) (h : Hold
   kind-there = ap₂ kindAt (h .order) (h .there) ∙ kind-frame o t (g .framed) (h .rest)
 
   stands-there : Stands f p (lenAt (isMsb f) (drop p f)) (t .kind)
-  stands-there = record { small = h .small; mark = h .mark; from = h .from; whole = framing-whole (isMsb f) f p framed-there; kind = kind-there }
+  stands-there =
+      record { small = h .small; mark = h .mark; from = h .from; whole = framing-whole (isMsb f) f p framed-there; kind = kind-there }
 
   found-there : Found f p (lenAt (isMsb f) (drop p f)) (t .kind)
   found-there = record { walk = record { at = p + lenAt (isMsb f) (drop p f) }; step = stands-forward f stands-there }
@@ -57,7 +58,8 @@ module _ {f : List ℕ} {p : ℕ} {o : Bool} {t : Tup} (g : Sound o t) (h : Hold
   read-item = ap₂ itemOf (h .order) read-tuple
 
 -- ---- bytes behind a mark and behind other bytes stand in the file
-pub held : (o : Bool) (before bytes rest : List ℕ) → length (fileWith o before bytes rest) ≤ limit → Holds (fileWith o before bytes rest) (4 + length before) o bytes
+pub held : (o : Bool) (before bytes rest : List ℕ) → length (fileWith o before bytes rest) ≤ limit
+    → Holds (fileWith o before bytes rest) (4 + length before) o bytes
 held o before bytes rest l =
     let tail = before ++ (bytes ++ rest) in
     record {
@@ -66,5 +68,8 @@ held o before bytes rest l =
       order = msb-mark o tail;
       from = omega arith;
       rest = rest;
-      there = sym (drop-drop (length before) 4 (mark o ++ tail)) ∙ ap (drop (length before)) (drop-at (mark o) tail 4 (length-mark o)) ∙ drop-at before (bytes ++ rest) (length before) refl;
+      there =
+          sym (drop-drop (length before) 4 (mark o ++ tail))
+          ∙ ap (drop (length before)) (drop-at (mark o) tail 4 (length-mark o))
+          ∙ drop-at before (bytes ++ rest) (length before) refl;
     }

@@ -21,7 +21,8 @@ abbrev pub allRules : List (Rule Answer) → List ℕ → List ℕ → List (Rul
 allRules rs bytes out = rs ++ ((ltb (length out) (length bytes) ⇒ Refused 19 0) ∷ [])
 
 -- a writer whose rules all refuse, and that accepts
-module _ {rs : List (Rule Answer)} {bytes out left : List ℕ} {n : Counts} (q : Silent isAccepted (allRules rs bytes out)) (w : Written rs bytes out (Accepted n) left) where
+module _ {rs : List (Rule Answer)} {bytes out left : List ℕ} {n : Counts} (q : Silent isAccepted (allRules rs bytes out))
+    (w : Written rs bytes out (Accepted n) left) where
   cleared : AllPass (allRules rs bytes out) × (accepting 1 (length bytes) ≡ Accepted n)
   cleared = clear isAccepted (allRules rs bytes out) (accepting 1 (length bytes)) (Accepted n) q (sym (w .answer .is)) refl
 
@@ -31,7 +32,8 @@ module _ {rs : List (Rule Answer)} {bytes out left : List ℕ} {n : Counts} (q :
   pub written-bytes : take (n .written) left ≡ bytes
   written-bytes =
       let long : length bytes ≡ n .written = cc (cleared .1) in
-      ap (take (n .written)) (w .memory ∙ ap (λ (a : Answer). leftBy a bytes out) (sym (w .answer .is))) ∙ take-at bytes (drop (length bytes) out) (n .written) long
+      ap (take (n .written)) (w .memory ∙ ap (λ (a : Answer). leftBy a bytes out) (sym (w .answer .is)))
+      ∙ take-at bytes (drop (length bytes) out) (n .written) long
 
   pub written-held : {f : List ℕ} {p : ℕ} {o : Bool} → Holds f p o (take (n .written) left) → Holds f p o bytes
   written-held {f} {p} {o} h = subst (λ (l : List ℕ). Holds f p o l) written-bytes h

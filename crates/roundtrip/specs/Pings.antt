@@ -21,7 +21,9 @@ use Rattle.roundtrip.specs.Held.{U16, U32, I32}
 
 -- a header of the program
 abbrev pub HeaderTyped : PingHeader → Type 0
-HeaderTyped h = U16 (h .«time_fraction») × U32 (h .«time_cpu») × U16 (h .«software_channel_identifier» .0) × U16 (h .«transmitter_mode») × U32 (h .«ping_number») × I32 (h .«detected_bottom_range»)
+HeaderTyped h =
+    U16 (h .«time_fraction») × U32 (h .«time_cpu») × U16 (h .«software_channel_identifier» .0) × U16 (h .«transmitter_mode»)
+    × U32 (h .«ping_number») × I32 (h .«detected_bottom_range»)
 
 abbrev pub EachI32 : List ℤ → Type 0
 EachI32 [] = Unit {0}
@@ -50,5 +52,6 @@ pub record Worded (ns : List ℕ) (vs : List ℤ) : Type 0 where
 pub record PingBack (h : PingHeader) (a : ℤ) (ns : List ℕ) (vs : List ℤ) (kind : PingKind) (f : List ℕ) (p : ℕ) : Type 0 where
   pub fields : (out : PingRead) → PingAt f p out → out ≡ Read h a kind (length ns)
   pub samples : samplesAt f p ≡ paired ns vs
-  pub handed : (numbers ms : List ℕ) (values us : List ℤ) (r : Answer) → length ns ≤ length numbers → length ns ≤ length values → SamplesRead f p numbers values r ms us
+  pub handed : (numbers ms : List ℕ) (values us : List ℤ) (r : Answer) → length ns ≤ length numbers → length ns ≤ length values
+      → SamplesRead f p numbers values r ms us
       → (r ≡ accepting 1 (length ns)) × (ms ≡ ns ++ drop (length ns) numbers) × (us ≡ vs ++ drop (length ns) values)

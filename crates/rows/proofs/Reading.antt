@@ -30,26 +30,33 @@ use Rattle.tuples.proofs.Fields.{IsRow, fits, in-file, whole-there, values-ther
 use Rattle.rows.specs.Readers.{countOf, fieldsBy, lentBy, rowAnswer, rowNumbers, rowText, charactersAt, answered, RowAt}
 use Rattle.rows.specs.declared.RowRead.{RowRead}
 use Rattle.rows.specs.declared.RowRead.the-variants.{Read, Refused}
-use Rattle.rows.proofs.Shapes.{is-row, firstText, Textual, textual, text-behind, none-bare, bare-size, many-append, row-many, fixed-length, least-length, long-enough}
+use Rattle.rows.proofs.Shapes.{is-row, firstText, Textual, textual, text-behind, none-bare, bare-size, many-append, row-many}
+use Rattle.rows.proofs.Shapes.{fixed-length, least-length, long-enough}
 
 -- ---- a row and what stands behind it
-numbers-append : (o : Bool) (fs gs : List Field) (bs : List ℕ) → numbersIn (valuesOf o (fs ++ gs) bs) ≡ numbersIn (valuesOf o fs bs) ++ numbersIn (valuesOf o gs (drop (size fs) bs))
+numbers-append : (o : Bool) (fs gs : List Field) (bs : List ℕ)
+    → numbersIn (valuesOf o (fs ++ gs) bs) ≡ numbersIn (valuesOf o fs bs) ++ numbersIn (valuesOf o gs (drop (size fs) bs))
 numbers-append o [] gs bs = refl
 numbers-append o (f ∷ fs) gs bs =
     let rest = drop (widthOf f) bs in
     numbers-cons o f (fs ++ gs) bs
-    ∙ ap (λ (l : List ℕ). fieldNumbers o f bs ++ l) (numbers-append o fs gs (drop (widthOf f) bs) ∙ ap (λ (l : List ℕ). numbersIn (valuesOf o fs (drop (widthOf f) bs)) ++ numbersIn (valuesOf o gs l)) (drop-drop (size fs) (widthOf f) bs))
+    ∙ ap (λ (l : List ℕ). fieldNumbers o f bs ++ l)
+    (numbers-append o fs gs (drop (widthOf f) bs)
+    ∙ ap (λ (l : List ℕ). numbersIn (valuesOf o fs (drop (widthOf f) bs)) ++ numbersIn (valuesOf o gs l))
+    (drop-drop (size fs) (widthOf f) bs))
     ∙ sym (append-assoc (fieldNumbers o f bs) (numbersIn (valuesOf o fs rest)) (numbersIn (valuesOf o gs (drop (widthOf f + size fs) bs))))
     ∙ ap (λ (l : List ℕ). l ++ numbersIn (valuesOf o gs (drop (widthOf f + size fs) bs))) (sym (numbers-cons o f fs bs))
 
 -- the fields' numbers, then the attribute, which stands before the backlink
 numbers-row : (o : Bool) (f : List ℕ) (p n : ℕ) (q : Shape) → IsRow q → fitting (lengthFrom q) n ≡ true
-    → numbersIn (valuesOf o (rowBy q (n - 10)) (drop (p + 6) f)) ≡ numbersIn (valuesOf o (fieldsBy q) (drop (p + 6) f)) ++ (numOf o (take 4 (drop (p + n - 8) f)) ∷ [])
+    → numbersIn (valuesOf o (rowBy q (n - 10)) (drop (p + 6) f))
+    ≡ numbersIn (valuesOf o (fieldsBy q) (drop (p + 6) f)) ++ (numOf o (take 4 (drop (p + n - 8) f)) ∷ [])
 numbers-row o f p n indexed z e = absurd z
 numbers-row o f p n (row fs none) z e =
     let at : p + 6 + size fs ≡ p + n - 8 = omega (arith, fixed-length fs n e) in
     numbers-append o fs (s 4 ∷ []) (drop (p + 6) f)
-    ∙ ap (λ (l : List ℕ). numbersIn (valuesOf o fs (drop (p + 6) f)) ++ (numOf o (take 4 l) ∷ [])) (drop-drop (size fs) (p + 6) f ∙ ap (λ (i : ℕ). drop i f) at)
+    ∙ ap (λ (l : List ℕ). numbersIn (valuesOf o fs (drop (p + 6) f)) ++ (numOf o (take 4 l) ∷ []))
+    (drop-drop (size fs) (p + 6) f ∙ ap (λ (i : ℕ). drop i f) at)
 numbers-row o f p n (row fs (some l)) z e =
     let m = n - 10 - (size fs + 4) in
     let at : p + 6 + size fs + (n - 10 - (size fs + 4)) ≡ p + n - 8 = omega (arith, least-length fs l n e) in
@@ -105,21 +112,27 @@ text-length o (gap w ∷ fs) bs h = text-length o fs (drop w bs) (simp length-dr
 text-length o (ident ∷ fs) bs h = text-length o fs (drop 2 bs) (simp length-drop (omega arith))
 
 -- they stand behind the bytes before them
-text-fixed : (o : Bool) (fs : List Field) (bs : List ℕ) → textIn (valuesOf o (fs ++ (s 4 ∷ [])) bs) ≡ take (firstText (fs ++ (s 4 ∷ []))) (drop (beforeText fs) bs)
+text-fixed : (o : Bool) (fs : List Field) (bs : List ℕ)
+    → textIn (valuesOf o (fs ++ (s 4 ∷ [])) bs) ≡ take (firstText (fs ++ (s 4 ∷ []))) (drop (beforeText fs) bs)
 text-fixed o [] bs = refl
 text-fixed o (num g w ∷ fs) bs = text-fixed o fs (drop w bs) ∙ ap (take (firstText (fs ++ (s 4 ∷ [])))) (drop-drop (beforeText fs) w bs)
 text-fixed o (txt w ∷ fs) bs = refl
 text-fixed o (gap w ∷ fs) bs = text-fixed o fs (drop w bs) ∙ ap (take (firstText (fs ++ (s 4 ∷ [])))) (drop-drop (beforeText fs) w bs)
 text-fixed o (ident ∷ fs) bs = text-fixed o fs (drop 2 bs) ∙ ap (take (firstText (fs ++ (s 4 ∷ [])))) (drop-drop (beforeText fs) 2 bs)
 
-text-last : (o : Bool) (m : ℕ) (fs : List Field) (bs : List ℕ) → textIn (valuesOf o (fs ++ (txt m ∷ s 4 ∷ [])) bs) ≡ take (firstText (fs ++ (txt m ∷ s 4 ∷ []))) (drop (beforeText fs) bs)
+text-last : (o : Bool) (m : ℕ) (fs : List Field) (bs : List ℕ)
+    → textIn (valuesOf o (fs ++ (txt m ∷ s 4 ∷ [])) bs) ≡ take (firstText (fs ++ (txt m ∷ s 4 ∷ []))) (drop (beforeText fs) bs)
 text-last o m [] bs = refl
-text-last o m (num g w ∷ fs) bs = text-last o m fs (drop w bs) ∙ ap (take (firstText (fs ++ (txt m ∷ s 4 ∷ [])))) (drop-drop (beforeText fs) w bs)
+text-last o m (num g w ∷ fs) bs =
+    text-last o m fs (drop w bs) ∙ ap (take (firstText (fs ++ (txt m ∷ s 4 ∷ [])))) (drop-drop (beforeText fs) w bs)
 text-last o m (txt w ∷ fs) bs = refl
-text-last o m (gap w ∷ fs) bs = text-last o m fs (drop w bs) ∙ ap (take (firstText (fs ++ (txt m ∷ s 4 ∷ [])))) (drop-drop (beforeText fs) w bs)
-text-last o m (ident ∷ fs) bs = text-last o m fs (drop 2 bs) ∙ ap (take (firstText (fs ++ (txt m ∷ s 4 ∷ [])))) (drop-drop (beforeText fs) 2 bs)
+text-last o m (gap w ∷ fs) bs =
+    text-last o m fs (drop w bs) ∙ ap (take (firstText (fs ++ (txt m ∷ s 4 ∷ [])))) (drop-drop (beforeText fs) w bs)
+text-last o m (ident ∷ fs) bs =
+    text-last o m fs (drop 2 bs) ∙ ap (take (firstText (fs ++ (txt m ∷ s 4 ∷ [])))) (drop-drop (beforeText fs) 2 bs)
 
-text-stands : (o : Bool) (n : ℕ) (q : Shape) (bs : List ℕ) → IsRow q → textIn (valuesOf o (rowBy q n) bs) ≡ take (firstText (rowBy q n)) (drop (beforeText (fieldsBy q)) bs)
+text-stands : (o : Bool) (n : ℕ) (q : Shape) (bs : List ℕ) → IsRow q
+    → textIn (valuesOf o (rowBy q n) bs) ≡ take (firstText (rowBy q n)) (drop (beforeText (fieldsBy q)) bs)
 text-stands o n indexed bs z = absurd z
 text-stands o n (row fs none) bs z = text-fixed o fs bs
 text-stands o n (row fs (some l)) bs z = text-last o (n - (size fs + 4)) fs bs
@@ -127,10 +140,12 @@ text-stands o n pairs bs z = absurd z
 text-stands o n words bs z = absurd z
 text-stands o n unlisted bs z = absurd z
 
-row-text : (n : ℕ) (q : Shape) → IsRow q → Textual q → fitting (lengthFrom q) n ≡ true → n - 14 - bareSize (fieldsBy q) ≡ firstText (rowBy q (n - 10))
+row-text : (n : ℕ) (q : Shape) → IsRow q → Textual q → fitting (lengthFrom q) n ≡ true
+    → n - 14 - bareSize (fieldsBy q) ≡ firstText (rowBy q (n - 10))
 row-text n indexed z t e = absurd z
 row-text n (row fs none) z t e = omega (arith, fixed-length fs n e, t .0)
-row-text n (row fs (some l)) z t e = omega (arith, least-length fs l n e, none-bare fs t, text-behind fs (s 4 ∷ []) (n - 10 - (size fs + 4)) t)
+row-text n (row fs (some l)) z t e =
+    omega (arith, least-length fs l n e, none-bare fs t, text-behind fs (s 4 ∷ []) (n - 10 - (size fs + 4)) t)
 row-text n pairs z t e = absurd z
 row-text n words z t e = absurd z
 row-text n unlisted z t e = absurd z
@@ -169,9 +184,16 @@ module _ {k : ℕ} {f : List ℕ} {p : ℕ} {o : Bool} {n : ℕ} (r : Readable (
   filled : size (rowBy (shapeOf k) (n - 10)) ≤ length (drop (p + 6) f)
   filled =
       let e : n - 10 + 10 ≡ n = omega (arith, opened-long) in
-      omega (arith, whole-row n (shapeOf k) opened-row (ap (fitting (lengthFrom (shapeOf k))) e ∙ opened-fits), length-drop (p + 6) f, opened-in, opened-long)
+      omega (
+        arith,
+        whole-row n (shapeOf k) opened-row (ap (fitting (lengthFrom (shapeOf k))) e ∙ opened-fits),
+        length-drop (p + 6) f,
+        opened-in,
+        opened-long,
+      )
 
-  numbers-there : rowNumbers f p ≡ numbersIn (valuesOf o (fieldsBy (shapeOf k)) (drop (p + 6) f)) ++ (numOf o (take 4 (drop (p + n - 8) f)) ∷ [])
+  numbers-there : rowNumbers f p
+      ≡ numbersIn (valuesOf o (fieldsBy (shapeOf k)) (drop (p + 6) f)) ++ (numOf o (take 4 (drop (p + n - 8) f)) ∷ [])
   numbers-there = ap numbersIn there ∙ numbers-row o f p n (shapeOf k) opened-row opened-fits
 
   pub count-there : length (rowNumbers f p) ≡ countOf k
@@ -197,7 +219,11 @@ module _ {k : ℕ} {f : List ℕ} {p : ℕ} {o : Bool} {n : ℕ} (r : Readable (
     untaken h =
         let short = lt-ltb (length lent) (countOf k) (omega (arith, few)) in
         let e : answer.Refused 19 0 ≡ rowAnswer k f p (length lent) = ap₂ lentBy (sym short) (r .answer) in
-        record { answer = tells e; outcome = ap (λ (x : Answer). answered x (rowText k f p)) e; memory = ap (λ (x : Answer). leftBy x (rowNumbers f p) lent) e }
+        record {
+          answer = tells e;
+          outcome = ap (λ (x : Answer). answered x (rowText k f p)) e;
+          memory = ap (λ (x : Answer). leftBy x (rowNumbers f p) lent) e;
+        }
 
     -- enough are
     module _ (room : held < length lent) where
@@ -205,11 +231,14 @@ module _ {k : ℕ} {f : List ℕ} {p : ℕ} {o : Bool} {n : ℕ} (r : Readable (
       unfolding rowAnswer
       accepted = ap₂ lentBy (sym (le-ltb (length lent) (countOf k) (omega (arith, few)))) (r .answer)
 
-      stored : sets (sets lent 0 (numbersIn (valuesOf o (fieldsBy (shapeOf k)) (drop (p + 6) f)))) held (numOf o (take 4 (drop (p + n - 8) f)) ∷ []) ≡ rowNumbers f p ++ drop (length (rowNumbers f p)) lent
+      stored : sets (sets lent 0 (numbersIn (valuesOf o (fieldsBy (shapeOf k)) (drop (p + 6) f)))) held
+          (numOf o (take 4 (drop (p + n - 8) f)) ∷ [])
+          ≡ rowNumbers f p ++ drop (length (rowNumbers f p)) lent
       stored =
           let xs = numbersIn (valuesOf o (fieldsBy (shapeOf k)) (drop (p + 6) f)) in
           let v = numOf o (take 4 (drop (p + n - 8) f)) in
-          let l : held ≡ 0 + length (numbersIn (valuesOf o (fieldsBy (shapeOf k)) (drop (p + 6) f))) = omega (arith, is, length-numbers o (fieldsBy (shapeOf k)) (drop (p + 6) f)) in
+          let l : held ≡ 0 + length (numbersIn (valuesOf o (fieldsBy (shapeOf k)) (drop (p + 6) f))) =
+          omega (arith, is, length-numbers o (fieldsBy (shapeOf k)) (drop (p + 6) f)) in
           let z : 0 + length (rowNumbers f p) ≡ length (rowNumbers f p) = omega arith in
           ap (λ (i : ℕ). sets (sets lent 0 xs) i (v ∷ [])) l
           ∙ sym (sets-append xs (v ∷ []) lent 0)
@@ -218,7 +247,8 @@ module _ {k : ℕ} {f : List ℕ} {p : ℕ} {o : Bool} {n : ℕ} (r : Readable (
           ∙ ap (λ (i : ℕ). rowNumbers f p ++ drop i lent) z
 
       pub taken : (t : Part) (left : List ℕ) → t ≡ rowText k f p
-          → left ≡ sets (sets lent 0 (numbersIn (valuesOf o (fieldsBy (shapeOf k)) (drop (p + 6) f)))) held (numOf o (take 4 (drop (p + n - 8) f)) ∷ [])
+          → left ≡ sets (sets lent 0 (numbersIn (valuesOf o (fieldsBy (shapeOf k)) (drop (p + 6) f)))) held
+          (numOf o (take 4 (drop (p + n - 8) f)) ∷ [])
           → RowAt k f p lent (Read t) left
       taken t left e h =
           record {
@@ -233,7 +263,8 @@ module _ {k : ℕ} {f : List ℕ} {p : ℕ} {o : Bool} {n : ℕ} (r : Readable (
       let at = p + 6 in
       let before = beforeText (fieldsBy (shapeOf k)) in
       let fs = rowBy (shapeOf k) (n - 10) in
-      ap (λ (i : ℕ). take i (drop (at + before) f)) (ap (λ (vs : List Value). length (textIn vs)) there ∙ text-length o fs (drop at f) filled)
+      ap (λ (i : ℕ). take i (drop (at + before) f))
+      (ap (λ (vs : List Value). length (textIn vs)) there ∙ text-length o fs (drop at f) filled)
       ∙ ap (take (firstText fs)) (sym (drop-drop before at f))
       ∙ sym (text-stands o (n - 10) (shapeOf k) (drop at f) opened-row)
       ∙ ap textIn (sym there)
@@ -242,15 +273,22 @@ module _ {k : ℕ} {f : List ℕ} {p : ℕ} {o : Bool} {n : ℕ} (r : Readable (
   pub each-within : Bytes f → Within (rowOf k 0) (rowNumbers f p)
   each-within b =
       let w = within o (rowBy (shapeOf k) (n - 10)) (drop (p + 6) f) (bytes-drop (p + 6) f b) filled in
-      bare-within (shapeOf k) (n - 10) (rowNumbers f p) (subst (λ (vs : List Value). Within (rowBy (shapeOf k) (n - 10)) (numbersIn vs)) (sym there) w)
+      bare-within (shapeOf k) (n - 10) (rowNumbers f p)
+      (subst (λ (vs : List Value). Within (rowBy (shapeOf k) (n - 10)) (numbersIn vs)) (sym there) w)
 
 -- ---- a refusal that the opening gave
-pub unopened : (k : ℕ) (f : List ℕ) (p : ℕ) (lent : List ℕ) (c q : ℕ) → answer.Refused c q ≡ readAnswer (recordsOf k) f p → RowAt k f p lent (Refused c q) lent
+pub unopened : (k : ℕ) (f : List ℕ) (p : ℕ) (lent : List ℕ) (c q : ℕ) → answer.Refused c q ≡ readAnswer (recordsOf k) f p
+    → RowAt k f p lent (Refused c q) lent
 unfolding rowAnswer
 unopened k f p lent c q h =
     let e : answer.Refused c q ≡ rowAnswer k f p (length lent) = ap (lentBy (ltb (length lent) (countOf k))) h in
-    record { answer = tells e; outcome = ap (λ (x : Answer). answered x (rowText k f p)) e; memory = ap (λ (x : Answer). leftBy x (rowNumbers f p) lent) e }
+    record {
+      answer = tells e;
+      outcome = ap (λ (x : Answer). answered x (rowText k f p)) e;
+      memory = ap (λ (x : Answer). leftBy x (rowNumbers f p) lent) e;
+    }
 
 -- the tuple's type is the one asked for
 pub opened-as : {k : ℕ} {f : List ℕ} {p : ℕ} {o : Bool} {n i : ℕ} → Readable (recordsOf k) f p o n i → Readable (recordsOf k) f p o n k
-opened-as {k} {f} {p} {o} {n} {i} r = subst (λ (j : ℕ). Readable (recordsOf k) f p o n j) (eqb-true i k (both-true (isRecord k) (eqb i k) (r .asks) .1)) r
+opened-as {k} {f} {p} {o} {n} {i} r =
+    subst (λ (j : ℕ). Readable (recordsOf k) f p o n j) (eqb-true i k (both-true (isRecord k) (eqb i k) (r .asks) .1)) r

@@ -10,7 +10,8 @@ use lib.Dec.{eqb, leb}
 use lib.ListN.{length, replicate, getD}
 use Rattle.rules.proofs.Bools.{both-true}
 use Rattle.layout.specs.declared.Kind.{Kind}
-use Rattle.layout.specs.declared.Kind.the-variants.{Signature, Sounder, Channel, Position, Navigation, Attitude, Threshold, Event, PingU, PingC, RunStart, RunEnd, FileEnd, Index, Unlisted}
+use Rattle.layout.specs.declared.Kind.the-variants.{Signature, Sounder, Channel, Position, Navigation, Attitude, Threshold, Event, PingU}
+use Rattle.layout.specs.declared.Kind.the-variants.{PingC, RunStart, RunEnd, FileEnd, Index, Unlisted}
 use Rattle.layout.specs.Fields.{Field, num, txt, gap, ident, s, size, many, bareSize, beforeText}
 use Rattle.layout.specs.Types.{Shape, indexed, row, pairs, words, unlisted, kindOf, shapeOf, listingOf, placeIn, fitting, lengthFrom}
 use Rattle.layout.specs.inner.Codes.{fieldsOf, rowCodes, measures, measured}
@@ -55,7 +56,8 @@ module _ (k : ℕ) (z : IsRow (shapeOf k)) where
   pub row-little : size (fieldsBy (shapeOf k)) ≤ 255
   row-little =
       leb-true (size (fieldsBy (shapeOf k))) 255
-      (ap (λ (fs : List Field). leb (size fs) 255) (sym (in-fields (shapeOf k) z)) ∙ sym (ap (λ (x : Said). x .little) (tabled (kindOf k) row-listed)))
+      (ap (λ (fs : List Field). leb (size fs) 255) (sym (in-fields (shapeOf k) z))
+      ∙ sym (ap (λ (x : Said). x .little) (tabled (kindOf k) row-listed)))
 
 -- ---- the characters of a row
 -- how many the first of its fields of characters has

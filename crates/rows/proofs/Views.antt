@@ -81,7 +81,8 @@ module _ {k : ℕ} {f : List ℕ} {p : ℕ} {lent left : List ℕ} {t : Part} (r
   read-characters = ap (charactersAt f) read-text ∙ there-characters k f p read-accepted
 
 -- ---- the lower bytes of a number below its width are the number
-from-integers : (fs : List Field) (ns : List ℕ) (i : ℕ) → Within fs (drop i ns) → i + many fs ≤ length ns → integersFrom fs ns i ≡ integers fs (drop i ns)
+from-integers : (fs : List Field) (ns : List ℕ) (i : ℕ) → Within fs (drop i ns) → i + many fs ≤ length ns
+    → integersFrom fs ns i ≡ integers fs (drop i ns)
 from-integers [] ns i h l = refl
 from-integers (num g w ∷ fs) ns i h l =
     let c = drop-cons ns i 0 (omega arith) in
@@ -114,13 +115,15 @@ module _ (k : ℕ) (e : isRecord k ≡ true) {f : List ℕ} {p : ℕ} {lent left
     all-lent : left ≡ rowNumbers f p
     all-lent =
         read-memory r
-        ∙ ap (λ (x : List ℕ). rowNumbers f p ++ x) (drop-of-length-le lent {i = length (rowNumbers f p)} (omega (arith, l, there-count k f p (read-accepted r))))
+        ∙ ap (λ (x : List ℕ). rowNumbers f p ++ x)
+        (drop-of-length-le lent {i = length (rowNumbers f p)} (omega (arith, l, there-count k f p (read-accepted r))))
         ∙ append-nil (rowNumbers f p)
 
     pub view-integers : Bytes f → integersFrom (rowOf k 0) left 0 ≡ rowIntegers k f p
     view-integers b =
         ap (λ (ns : List ℕ). integersFrom (rowOf k 0) ns 0) all-lent
-        ∙ from-integers (rowOf k 0) (rowNumbers f p) 0 (there-within k f p (read-accepted r) b) (omega (arith, there-count k f p (read-accepted r)))
+        ∙ from-integers (rowOf k 0) (rowNumbers f p) 0 (there-within k f p (read-accepted r) b)
+        (omega (arith, there-count k f p (read-accepted r)))
 
 -- ---- a writer whose rules are all kept refuses by 19 alone
 past-false : (b : Bool) (x : Answer) (rs : List (Rule Answer)) (bytes out : List ℕ) {a : Answer} {left : List ℕ}
@@ -130,7 +133,8 @@ past-false b x rs bytes out {a} {left} e w =
     record { answer = v .answer; memory = v .memory }
 
 pub only-room : (k : ℕ) (o : Bool) (ns t : List ℕ) {out left : List ℕ} {a : Answer}
-    → not (isRecord k) ≡ false → ltb (length ns) (countOf k) ≡ false → not (fitting (lengthsOf k) (rowLength k t)) ≡ false → ltb 262144 (rowLength k t) ≡ false
+    → not (isRecord k) ≡ false → ltb (length ns) (countOf k) ≡ false → not (fitting (lengthsOf k) (rowLength k t)) ≡ false
+    → ltb 262144 (rowLength k t) ≡ false
     → RowWritten k ns t o out a left → Written [] (plainBytes o k (rowValues k ns t)) out a left
 only-room k o ns t {out} {left} {a} e f g h w =
     let bytes = plainBytes o k (rowValues k ns t) in

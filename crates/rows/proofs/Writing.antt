@@ -23,7 +23,8 @@ use Rattle.tuples.proofs.Writing.{refused-first, written-past, as-values}
 use Rattle.rows.specs.Readers.{countOf, fieldsBy}
 use Rattle.rows.specs.Writers.{rowValues, rowLength, RowWritten}
 use Rattle.tuples.proofs.Fields.{IsRow}
-use Rattle.rows.proofs.Shapes.{is-row, row-many, noText, Textual, textual, none-bare, none-fits, bare-size, fits-by, fixed-length, least-length}
+use Rattle.rows.proofs.Shapes.{is-row, row-many, noText, Textual, textual, none-bare, none-fits, bare-size, fits-by, fixed-length}
+use Rattle.rows.proofs.Shapes.{least-length}
 
 -- ---- values woven from numbers
 behind-takes : (f : Field) (ns : List ℕ) → behindField f ns ≡ drop (takes f) ns
@@ -43,7 +44,8 @@ woven-append [] gs ns t = refl
 woven-append (f ∷ fs) gs ns t =
     ap (wovenField f (getD ns 0 0) t)
     (woven-append fs gs (behindField f ns) t
-    ∙ ap (λ (l : List ℕ). woven fs (behindField f ns) t ++ woven gs l t) (ap (drop (many fs)) (behind-takes f ns) ∙ drop-drop (many fs) (takes f) ns))
+    ∙ ap (λ (l : List ℕ). woven fs (behindField f ns) t ++ woven gs l t)
+    (ap (drop (many fs)) (behind-takes f ns) ∙ drop-drop (many fs) (takes f) ns))
     ∙ field-append f (getD ns 0 0) t (woven fs (behindField f ns) t) (woven gs (drop (takes f + many fs) ns) t)
 
 -- a row without characters has no use for a text
@@ -64,11 +66,13 @@ no-length (x ∷ t) e = absurd (omega (arith, e))
 
 -- ---- the characters are the row's own ..
 module _ (ns t : List ℕ) (n : ℕ) (is : n ≤ 262144) where
-  pub own : (q : Shape) → IsRow q → Textual q → fitting (lengthFrom q) n ≡ true → n ≡ bareSize (fieldsBy q) + length t + 14 → bareSize (fieldsBy q) < size (fieldsBy q)
+  pub own : (q : Shape) → IsRow q → Textual q → fitting (lengthFrom q) n ≡ true → n ≡ bareSize (fieldsBy q) + length t + 14
+      → bareSize (fieldsBy q) < size (fieldsBy q)
       → Handable q ns t [] n × (handedValues q ns t [] (getD ns (many (fieldsBy q)) 0) ≡ woven (rowBy q 0) ns t)
   own indexed z x e l h = absurd z
   own (row fs none) z x e l h =
-      let m : length t ≡ length (replicate {A = ℕ} (size fs - bareSize fs) 0) = omega (arith, l, fixed-length fs n e, length-replicate {A = ℕ} (size fs - bareSize fs) 0) in (
+      let m : length t ≡ length (replicate {A = ℕ} (size fs - bareSize fs) 0) =
+      omega (arith, l, fixed-length fs n e, length-replicate {A = ℕ} (size fs - bareSize fs) 0) in (
         (fits-by fs t (replicate (size fs - bareSize fs) 0) m ∙ x .1, refl, omega (arith, fixed-length fs n e), is),
         ap (λ (a : ℕ). woven fs ns t ++ (number a ∷ [])) (attribute fs ns) ∙ sym (woven-append fs (s 4 ∷ []) ns t),
       )
@@ -78,18 +82,23 @@ module _ (ns t : List ℕ) (n : ℕ) (is : n ≤ 262144) where
   own unlisted z x e l h = absurd z
 
   -- .. or stand behind its fields
-  pub behind : (q : Shape) → IsRow q → Textual q → fitting (lengthFrom q) n ≡ true → n ≡ bareSize (fieldsBy q) + length t + 14 → size (fieldsBy q) ≤ bareSize (fieldsBy q)
+  pub behind : (q : Shape) → IsRow q → Textual q → fitting (lengthFrom q) n ≡ true → n ≡ bareSize (fieldsBy q) + length t + 14
+      → size (fieldsBy q) ≤ bareSize (fieldsBy q)
       → Handable q ns [] t n × (handedValues q ns [] t (getD ns (many (fieldsBy q)) 0) ≡ woven (rowBy q 0) ns t)
   behind indexed z x e l h = absurd z
   behind (row fs none) z x e l h =
       let none-there = no-length t (omega (arith, l, fixed-length fs n e, bare-size fs)) in
-      let m : length {A = ℕ} [] ≡ length (replicate {A = ℕ} (size fs - bareSize fs) 0) = omega (arith, length-replicate {A = ℕ} (size fs - bareSize fs) 0) in (
+      let m : length {A = ℕ} []
+      ≡ length (replicate {A = ℕ} (size fs - bareSize fs) 0) = omega (arith, length-replicate {A = ℕ} (size fs - bareSize fs) 0) in (
         (fits-by fs [] (replicate (size fs - bareSize fs) 0) m ∙ x .1, none-there, omega (arith, l, bare-size fs), is),
-        ap (λ (a : ℕ). woven fs ns [] ++ (number a ∷ [])) (attribute fs ns) ∙ sym (woven-append fs (s 4 ∷ []) ns []) ∙ ap (woven (fs ++ (s 4 ∷ [])) ns) (sym none-there),
+        ap (λ (a : ℕ). woven fs ns [] ++ (number a ∷ [])) (attribute fs ns)
+            ∙ sym (woven-append fs (s 4 ∷ []) ns [])
+            ∙ ap (woven (fs ++ (s 4 ∷ [])) ns) (sym none-there),
       )
   behind (row fs (some least)) z x e l h = (
     (none-fits fs [] x, omega (arith, l, none-bare fs x), is),
-    ap₂ (λ (vs : List Value) (a : ℕ). vs ++ (text t ∷ number a ∷ [])) (no-use fs ns [] t x) (attribute fs ns) ∙ sym (woven-append fs (txt (0 - (size fs + 4)) ∷ s 4 ∷ []) ns t),
+    ap₂ (λ (vs : List Value) (a : ℕ). vs ++ (text t ∷ number a ∷ [])) (no-use fs ns [] t x) (attribute fs ns)
+        ∙ sym (woven-append fs (txt (0 - (size fs + 4)) ∷ s 4 ∷ []) ns t),
   )
   behind pairs z x e l h = absurd z
   behind words z x e l h = absurd z
@@ -126,7 +135,8 @@ module _ (k : ℕ) (ns t : List ℕ) (o : Bool) (out : List ℕ) where
 
     pub too-few : length ns ≤ held → RowWritten k ns t o out (Refused 9 0) out
     too-few h =
-        past (refused-first (ltb (length ns) (countOf k)) 9 0 (unfitted ∷ overlong ∷ []) bytes out (lt-ltb (length ns) (countOf k) (omega (arith, with-attribute))))
+        past (refused-first (ltb (length ns) (countOf k)) 9 0 (unfitted ∷ overlong ∷ []) bytes out
+        (lt-ltb (length ns) (countOf k) (omega (arith, with-attribute))))
 
     -- they are there, and its tuple would have n bytes
     module _ (room : held < length ns) {n : ℕ} (whole : n ≡ rowLength k t) where
@@ -151,11 +161,14 @@ module _ (k : ℕ) (ns t : List ℕ) (o : Bool) (out : List ℕ) where
             (ap not (ap (fitting (lengthsOf k)) (sym whole) ∙ fit)) w)
 
         pub over : 262144 < n → RowWritten k ns t o out (Refused 11 0) out
-        over h = past-unfit (refused-first (ltb 262144 (rowLength k t)) 11 0 [] bytes out (lt-ltb 262144 (rowLength k t) (omega (arith, whole))))
+        over h =
+            past-unfit (refused-first (ltb 262144 (rowLength k t)) 11 0 [] bytes out (lt-ltb 262144 (rowLength k t) (omega (arith, whole))))
 
-        by-tuple : n ≤ 262144 → {r : Answer} {left : List ℕ} → Written [] (plainBytes o k (rowValues k ns t)) out r left → RowWritten k ns t o out r left
+        by-tuple : n ≤ 262144 → {r : Answer} {left : List ℕ} → Written [] (plainBytes o k (rowValues k ns t)) out r left
+            → RowWritten k ns t o out r left
         by-tuple most w =
-            past-unfit (written-past (ltb 262144 (rowLength k t)) (Refused 11 0) [] bytes out (le-ltb 262144 (rowLength k t) (omega (arith, whole))) w)
+            past-unfit (written-past (ltb 262144 (rowLength k t)) (Refused 11 0) [] bytes out
+            (le-ltb 262144 (rowLength k t) (omega (arith, whole))) w)
 
 -- ---- all rules are kept: a type of records, so many numbers before the attribute, all there, a length that fits and isn't too long
 pub record Kept (k : ℕ) (ns t : List ℕ) (held n : ℕ) : Type 0 where
@@ -175,7 +188,8 @@ module _ {k : ℕ} {ns t : List ℕ} {held n : ℕ} (c : Kept k ns t held n) whe
 
   -- what is handed over as the row's own characters ..
   module _ (less : bareSize (fieldsBy (shapeOf k)) < size (fieldsBy (shapeOf k))) where
-    both-own : Handable (shapeOf k) ns t [] n × (handedValues (shapeOf k) ns t [] (getD ns (many (fieldsBy (shapeOf k))) 0) ≡ woven (rowBy (shapeOf k) 0) ns t)
+    both-own : Handable (shapeOf k) ns t [] n
+        × (handedValues (shapeOf k) ns t [] (getD ns (many (fieldsBy (shapeOf k))) 0) ≡ woven (rowBy (shapeOf k) 0) ns t)
     both-own = own ns t n (c .most) q is (textual (kindOf k)) (lengths-row k n (c .fits)) (c .whole) less
 
     pub own-handable : Handable (shapeOf k) ns t [] n
@@ -183,7 +197,8 @@ module _ {k : ℕ} {ns t : List ℕ} {held n : ℕ} (c : Kept k ns t held n) whe
 
   -- .. or as those behind its fields
   module _ (full : size (fieldsBy (shapeOf k)) ≤ bareSize (fieldsBy (shapeOf k))) where
-    both-behind : Handable (shapeOf k) ns [] t n × (handedValues (shapeOf k) ns [] t (getD ns (many (fieldsBy (shapeOf k))) 0) ≡ woven (rowBy (shapeOf k) 0) ns t)
+    both-behind : Handable (shapeOf k) ns [] t n
+        × (handedValues (shapeOf k) ns [] t (getD ns (many (fieldsBy (shapeOf k))) 0) ≡ woven (rowBy (shapeOf k) 0) ns t)
     both-behind = behind ns t n (c .most) q is (textual (kindOf k)) (lengths-row k n (c .fits)) (c .whole) full
 
     pub behind-handable : Handable (shapeOf k) ns [] t n

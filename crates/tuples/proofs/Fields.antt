@@ -8,7 +8,8 @@ use borrow.Author.Tests.{eqb-true, leb-true}
 use lib.Dec.{eqb, leb}
 use lib.ListN.{length, take, drop, length-drop}
 use lib.Seq.{length-take-le}
-use Rattle.layout.specs.Types.{Shape, indexed, row, pairs, words, unlisted, kindOf, listingOf, shapeOf, Length, exactly, upward, fitting, lengthFrom}
+use Rattle.layout.specs.Types.{Shape, indexed, row, pairs, words, unlisted, kindOf, listingOf, shapeOf, Length, exactly, upward, fitting}
+use Rattle.layout.specs.Types.{lengthFrom}
 use Rattle.layout.proofs.Tables.{lengths-from}
 use Rattle.layout.proofs.Verdicts.{both-left}
 use Rattle.turning.specs.Rows.{valuesOf}
@@ -52,7 +53,10 @@ module _ (k : ℕ) {f : List ℕ} {p : ℕ} {o : Bool} {n i : ℕ} (r : Readable
   fits-i = head-fits h (eqb i 65535) refl (both-left _ (innerVerdict (isMsb f) (tupleThere f p)) (own-parts h ∙ r .own))
 
   pub fits : fitting (lengthFrom (shapeOf k)) n ≡ true
-  fits = ap (λ (l : Length). fitting l n) (sym (lengths-from (kindOf k))) ∙ ap (λ (j : ℕ). fitting (listingOf (kindOf j) .length) n) (sym same-type) ∙ fits-i
+  fits =
+      ap (λ (l : Length). fitting l n) (sym (lengths-from (kindOf k)))
+      ∙ ap (λ (j : ℕ). fitting (listingOf (kindOf j) .length) n) (sym same-type)
+      ∙ fits-i
 
   -- a type of one length
   pub exact : (m : ℕ) → lengthFrom (shapeOf k) ≡ exactly m → n ≡ m
@@ -67,7 +71,8 @@ module _ (k : ℕ) {f : List ℕ} {p : ℕ} {o : Bool} {n i : ℕ} (r : Readable
     data-long : n - 10 + 10 ≡ n
     data-long = omega (arith, whole-there .long)
 
-    by-row : (q : Shape) → IsRow q → fitting (lengthFrom q) (n - 10 + 10) ≡ true → valuesBy (itemBy q (isMsb f) (tupleThere f p)) ≡ valuesOf (isMsb f) (rowBy q (n - 10)) (drop (p + 6) f)
+    by-row : (q : Shape) → IsRow q → fitting (lengthFrom q) (n - 10 + 10) ≡ true
+        → valuesBy (itemBy q (isMsb f) (tupleThere f p)) ≡ valuesOf (isMsb f) (rowBy q (n - 10)) (drop (p + 6) f)
     by-row indexed a e = absurd a
     by-row (row fs x) a e =
         ap (λ (m : ℕ). valuesOf (isMsb f) (rowIn fs x m) (tupleThere f p .body)) (length-body (isMsb f) f p n whole-there)

@@ -59,7 +59,11 @@ module _ {f : List ℕ} {p n k : ℕ} (g : Found f p n k) where
   most = leb-true n 262144 (both-true (eqb (n % 4) 0 && leb 16 n) (leb n 262144) (stands .whole .allowed) .1)
 
   -- by what is asked for and by its own rules
-  by-own : (asked : ℕ → Bool) → firstOf (saying (refusedAt p) ((not (asked k) ⇒ 9 byte 0) ∷ headRules (isMsb f) (tupleThere f p) ++ innerRules (isMsb f) (tupleThere f p))) (accepting 1 0) ≡ readAnswer asked f p
+  by-own : (asked : ℕ → Bool)
+      → firstOf (saying (refusedAt p)
+      ((not (asked k) ⇒ 9 byte 0) ∷ headRules (isMsb f) (tupleThere f p) ++ innerRules (isMsb f) (tupleThere f p)))
+      (accepting 1 0)
+      ≡ readAnswer asked f p
   unfolding readAnswer
   by-own asked = rw (g .step, stands .kind)
 
@@ -70,13 +74,18 @@ module _ {f : List ℕ} {p n k : ℕ} (g : Found f p n k) where
   pub fault-near : (c q : ℕ) → ownVerdict (isMsb f) (tupleThere f p) ≡ Fault c q → p + q ≤ limit + far
   fault-near c q e = omega (arith, near-fault far (own-near (isMsb f) (drop p f) (here .framed)) e, stands .whole .fits, stands .small)
 
-  pub faulty : (asked : ℕ → Bool) (c q : ℕ) → asked k ≡ true → ownVerdict (isMsb f) (tupleThere f p) ≡ Fault c q → Refused c (p + q) ≡ readAnswer asked f p
+  pub faulty : (asked : ℕ → Bool) (c q : ℕ) → asked k ≡ true → ownVerdict (isMsb f) (tupleThere f p) ≡ Fault c q
+      → Refused c (p + q) ≡ readAnswer asked f p
   unfolding ownVerdict
-  faulty asked c q a e = sym (said (refusedAt p) (headRules (isMsb f) (tupleThere f p) ++ innerRules (isMsb f) (tupleThere f p)) (accepting 1 0) c q e) ∙ rw a at (by-own asked)
+  faulty asked c q a e =
+      sym (said (refusedAt p) (headRules (isMsb f) (tupleThere f p) ++ innerRules (isMsb f) (tupleThere f p)) (accepting 1 0) c q e)
+      ∙ rw a at (by-own asked)
 
   pub fine : (asked : ℕ → Bool) → asked k ≡ true → ownVerdict (isMsb f) (tupleThere f p) ≡ Fine → accepting 1 0 ≡ readAnswer asked f p
   unfolding ownVerdict
-  fine asked a e = sym (unsaid (refusedAt p) (headRules (isMsb f) (tupleThere f p) ++ innerRules (isMsb f) (tupleThere f p)) (accepting 1 0) e) ∙ rw a at (by-own asked)
+  fine asked a e =
+      sym (unsaid (refusedAt p) (headRules (isMsb f) (tupleThere f p) ++ innerRules (isMsb f) (tupleThere f p)) (accepting 1 0) e)
+      ∙ rw a at (by-own asked)
 
 -- ---- and the other way round: where a reader accepts, it reads a tuple that was asked for and keeps its own rules
 pub record Opens (asked : ℕ → Bool) (f : List ℕ) (p : ℕ) : Type 0 where
@@ -98,7 +107,10 @@ module _ (asked : ℕ → Bool) {f : List ℕ} {p : ℕ} (e : accepting 1 0 ≡ 
   by-step (step.Tuple q n k w) h g =
       let o = isMsb f in
       let t = tupleThere f p in
-      let c = kept p (ownRules asked o t) (clear isAccepted (saying (refusedAt p) (ownRules asked o t)) (accepting 1 0) (accepting 1 0) (silent p (ownRules asked o t)) (sym g) refl .0) in
+      let c =
+      kept p (ownRules asked o t)
+      (clear isAccepted (saying (refusedAt p) (ownRules asked o t)) (accepting 1 0) (accepting 1 0) (silent p (ownRules asked o t))
+      (sym g) refl .0) in
       let d = found-by f p q n k w h in
       record {
         size = n;

@@ -11,7 +11,8 @@ use Rattle.order.proofs.Stores.{sets-append}
 pub length-three : (x y z : List ℕ) (i j k : ℕ) → length x ≡ i → length y ≡ j → length z ≡ k → length (x ++ (y ++ z)) ≡ i + j + k
 length-three x y z i j k a b c = omega (arith, length-append x (y ++ z), length-append y z)
 
-pub in-three : (x y z out : List ℕ) (i j : ℕ) → length x ≡ i → length y ≡ j → sets (sets (sets out 0 x) i y) (i + j) z ≡ sets out 0 (x ++ (y ++ z))
+pub in-three : (x y z out : List ℕ) (i j : ℕ) → length x ≡ i → length y ≡ j
+    → sets (sets (sets out 0 x) i y) (i + j) z ≡ sets out 0 (x ++ (y ++ z))
 in-three x y z out i j a b =
     let first : 0 + length x ≡ i = omega arith in
     sym
@@ -20,7 +21,8 @@ in-three x y z out i j a b =
     ∙ sets-append y z (sets out 0 x) i
     ∙ ap (λ (n : ℕ). sets (sets (sets out 0 x) i y) (i + n) z) b)
 
-pub length-four : (x y z w : List ℕ) (i j k l : ℕ) → length x ≡ i → length y ≡ j → length z ≡ k → length w ≡ l → length (x ++ (y ++ (z ++ w))) ≡ i + j + k + l
+pub length-four : (x y z w : List ℕ) (i j k l : ℕ) → length x ≡ i → length y ≡ j → length z ≡ k → length w ≡ l
+    → length (x ++ (y ++ (z ++ w))) ≡ i + j + k + l
 length-four x y z w i j k l a b c d = omega (arith, length-append x (y ++ (z ++ w)), length-append y (z ++ w), length-append z w)
 
 pub in-four : (x y z w out : List ℕ) (i j k : ℕ) → length x ≡ i → length y ≡ j → length z ≡ k

@@ -38,33 +38,41 @@ module _ (rs : List (Rule Answer)) (bytes out : List ℕ) where
   pub unwritten : (c q : ℕ) → Refused c q ≡ writeAnswer rs bytes (length out) → Written rs bytes out (Refused c q) out
   unwritten c q e = record { answer = tells e; memory = rw (← e) }
 
-  pub all-written : (n : ℕ) (left : List ℕ) → length bytes ≡ n → n ≤ length out → accepting 1 n ≡ writeAnswer rs bytes (length out) → left ≡ sets out 0 bytes → Written rs bytes out (accepting 1 n) left
+  pub all-written : (n : ℕ) (left : List ℕ) → length bytes ≡ n → n ≤ length out → accepting 1 n ≡ writeAnswer rs bytes (length out)
+      → left ≡ sets out 0 bytes → Written rs bytes out (accepting 1 n) left
   all-written n left l h e s =
       let z : 0 + length bytes ≡ length bytes = omega arith in
       record { answer = tells e; memory = rw (← e) (s ∙ sets-eq bytes out 0 (omega arith) ∙ ap (λ (k : ℕ). bytes ++ drop k out) z) }
 
 -- a first rule that is broken, and one that isn't
-pub refused-first : (b : Bool) (c q : ℕ) (rs : List (Rule Answer)) (bytes out : List ℕ) → b ≡ true → Written ((b ⇒ Refused c q) ∷ rs) bytes out (Refused c q) out
+pub refused-first : (b : Bool) (c q : ℕ) (rs : List (Rule Answer)) (bytes out : List ℕ) → b ≡ true
+    → Written ((b ⇒ Refused c q) ∷ rs) bytes out (Refused c q) out
 refused-first b c q rs bytes out e = unwritten ((b ⇒ Refused c q) ∷ rs) bytes out c q (rw e)
 
-pub written-past : (b : Bool) (x : Answer) (rs : List (Rule Answer)) (bytes out : List ℕ) {a : Answer} {left : List ℕ} → b ≡ false → Written rs bytes out a left → Written ((b ⇒ x) ∷ rs) bytes out a left
+pub written-past : (b : Bool) (x : Answer) (rs : List (Rule Answer)) (bytes out : List ℕ) {a : Answer} {left : List ℕ} → b ≡ false
+    → Written rs bytes out a left → Written ((b ⇒ x) ∷ rs) bytes out a left
 written-past b x rs bytes out e w = record { answer = rw e (w .answer); memory = rw e (w .memory) }
 
 -- the same values give the same bytes
-pub as-values : (o : Bool) (k : ℕ) {vs us : List Value} {out left : List ℕ} {r : Answer} → vs ≡ us → Written [] (plainBytes o k vs) out r left → Written [] (plainBytes o k us) out r left
+pub as-values : (o : Bool) (k : ℕ) {vs us : List Value} {out left : List ℕ} {r : Answer} → vs ≡ us
+    → Written [] (plainBytes o k vs) out r left → Written [] (plainBytes o k us) out r left
 as-values o k {out = out} {left = left} {r = r} e w = subst (λ (xs : List Value). Written [] (plainBytes o k xs) out r left) e w
 
 -- ---- a writer that refuses by 19 alone
 module _ (bytes out : List ℕ) (n : ℕ) (l : length bytes ≡ n) where
   pub no-room : length out < n → Written [] bytes out (Refused 19 0) out
-  no-room h = unwritten [] bytes out 19 0 (first-eq {d = accepting 1 (length bytes)} (here {rs = []} (lt-ltb (length out) (length bytes) (omega (arith, l)))))
+  no-room h =
+      unwritten [] bytes out 19 0
+      (first-eq {d = accepting 1 (length bytes)} (here {rs = []} (lt-ltb (length out) (length bytes) (omega (arith, l)))))
 
   pub with-room : n ≤ length out → (left : List ℕ) → left ≡ sets out 0 bytes → Written [] bytes out (accepting 1 n) left
   with-room h left e =
-      all-written [] bytes out n left l h (ap (accepting 1) (sym l) ∙ first-eq (pass (le-ltb (length out) (length bytes) (omega (arith, l))) none)) e
+      all-written [] bytes out n left l h
+      (ap (accepting 1) (sym l) ∙ first-eq (pass (le-ltb (length out) (length bytes) (omega (arith, l))) none)) e
 
 -- ---- the values of a row, and more behind them
-pub encode-behind : (o : Bool) (fs gs : List Field) (ns t : List ℕ) (vs : List Value) → encode o (fs ++ gs) (woven fs ns t ++ vs) ≡ encode o fs (woven fs ns t) ++ encode o gs vs
+pub encode-behind : (o : Bool) (fs gs : List Field) (ns t : List ℕ) (vs : List Value)
+    → encode o (fs ++ gs) (woven fs ns t ++ vs) ≡ encode o fs (woven fs ns t) ++ encode o gs vs
 encode-behind o [] gs ns t vs = refl
 encode-behind o (num g w ∷ fs) gs ns t vs = rw (encode-behind o fs gs (drop 1 ns) t vs, append-assoc)
 encode-behind o (txt w ∷ fs) gs ns t vs = rw (encode-behind o fs gs ns t vs, append-assoc)
@@ -76,7 +84,8 @@ module _ (o : Bool) (ns t b : List ℕ) (n a : ℕ) where
   abbrev fields : Shape → List ℕ
   fields h = encode o (fieldsIn h) (woven (fieldsIn h) ns t)
 
-  handed-body : (h : Shape) → Handable h ns t b n → encodeBy o h (handedValues h ns t b a) ≡ encode o (fieldsIn h) (woven (fieldsIn h) ns t) ++ (b ++ bytesOf o 4 a)
+  handed-body : (h : Shape) → Handable h ns t b n
+      → encodeBy o h (handedValues h ns t b a) ≡ encode o (fieldsIn h) (woven (fieldsIn h) ns t) ++ (b ++ bytesOf o 4 a)
   handed-body indexed z = absurd z
   handed-body (row fs none) z =
       encode-behind o fs (s 4 ∷ []) ns t (number a ∷ [])
@@ -90,7 +99,8 @@ module _ (o : Bool) (ns t b : List ℕ) (n a : ℕ) where
   handed-body unlisted z = absurd z
 
   -- its sizes
-  pub handed-sizes : (h : Shape) → Handable h ns t b n → (n ≡ size (fieldsIn h) + length b + 14) × (n ≤ 262144) × (textFits (fieldsIn h) t ≡ true)
+  pub handed-sizes : (h : Shape) → Handable h ns t b n
+      → (n ≡ size (fieldsIn h) + length b + 14) × (n ≤ 262144) × (textFits (fieldsIn h) t ≡ true)
   handed-sizes indexed z = absurd z
   handed-sizes (row fs none) z = (z .2, z .3, z .0)
   handed-sizes (row fs (some least)) z = (z .1, z .2, z .0)
@@ -101,7 +111,8 @@ module _ (o : Bool) (ns t b : List ℕ) (n a : ℕ) where
   -- it is a listed type's, and the code's row is its row
   handed-listed : (q : Kind) → Handable (listingOf q .shape) ns t b n → placeIn q < 13
   unfolding listingOf
-  handed-listed = by-kind (λ (q : Kind). Handable (listingOf q .shape) ns t b n → placeIn q < 13) (λ q h z. h) (λ z. absurd z) (λ z. absurd z)
+  handed-listed =
+      by-kind (λ (q : Kind). Handable (listingOf q .shape) ns t b n → placeIn q < 13) (λ q h z. h) (λ z. absurd z) (λ z. absurd z)
 
   module _ (k : ℕ) (z : Handable (shapeOf k) ns t b n) where
     pub row-listed : placeIn (kindOf k) < 13
@@ -134,7 +145,10 @@ module _ (o : Bool) (ns t b : List ℕ) (n a : ℕ) where
     regroup x y e c u v = simp append-assoc
 
     -- its four runs of stores are one
-    pub put : (out : List ℕ) → sets (sets (sets (sets out 0 (openBytes o n k)) 6 (encode o (fieldsIn (shapeOf k)) (woven (fieldsIn (shapeOf k)) ns t))) (n - 8 - length b) b) (n - 8) (closeBytes o n a)
+    pub put : (out : List ℕ)
+        → sets (sets (sets (sets out 0 (openBytes o n k)) 6 (encode o (fieldsIn (shapeOf k)) (woven (fieldsIn (shapeOf k)) ns t)))
+        (n - 8 - length b) b)
+        (n - 8) (closeBytes o n a)
         ≡ sets out 0 (plainBytes o k (handedValues (shapeOf k) ns t b a))
     unfolding frame openBytes closeBytes
     put out =
@@ -146,6 +160,7 @@ module _ (o : Bool) (ns t b : List ℕ) (n a : ℕ) where
         ∙ ap (λ (i : ℕ). sets (sets (sets (sets out 0 (openBytes o n k)) 6 es) (6 + m) b) i (closeBytes o n a)) fourth
         ∙ in-four (openBytes o n k) es b (closeBytes o n a) out 6 m (length b) (length-open o n k) length-es refl
         ∙ ap (sets out 0) (sym (regroup (bytesOf o 4 (n - 10)) (bytesOf o 2 k) es b (bytesOf o 4 a) (bytesOf o 4 n)))
-        ∙ ap (λ (x : List ℕ). sets out 0 (bytesOf o 4 (n - 10) ++ (bytesOf o 2 k ++ (x ++ bytesOf o 4 n)))) (sym (handed-body (shapeOf k) z))
+        ∙ ap (λ (x : List ℕ). sets out 0 (bytesOf o 4 (n - 10) ++ (bytesOf o 2 k ++ (x ++ bytesOf o 4 n))))
+        (sym (handed-body (shapeOf k) z))
         ∙ ap (λ (i : ℕ). sets out 0 (bytesOf o 4 i ++ (bytesOf o 2 k ++ (body ++ bytesOf o 4 n)))) small
         ∙ ap (λ (i : ℕ). sets out 0 (bytesOf o 4 (length body) ++ (bytesOf o 2 k ++ (body ++ bytesOf o 4 i)))) (sym length-body)

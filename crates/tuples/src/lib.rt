@@ -163,7 +163,10 @@ fn put_tuple(
 )
     requires { ⌜ Handable (shapeOf code) (now numbers) (now remark) (now behind) whole ⌝ }
     requires { ⌜ whole ≤ length (now out) ⌝ }
-    ensures { λ _. ⌜ now (out .exit) ≡ sets (now (out .entry)) 0 (plainBytes msb code (handedValues (shapeOf code) (now (numbers .entry)) (now (remark .entry)) (now (behind .entry)) (patternOf 4 attribute))) ⌝ }
+    ensures { λ _.
+        ⌜ now (out .exit) ≡ sets (now (out .entry)) 0
+        (plainBytes msb code (handedValues (shapeOf code) (now (numbers .entry)) (now (remark .entry)) (now (behind .entry))
+        (patternOf 4 attribute))) ⌝ }
 {
     let row = layout::row(layout::kind_of(code).listing());
     frame::open_frame(out, 0, msb, whole, code);
@@ -184,7 +187,10 @@ pub fn write_tuple(
     out: &mut [u8],
 ) -> Answer
     requires { ⌜ Handable (shapeOf code) (now numbers) (now remark) (now behind) whole ⌝ }
-    ensures { λ r. ⌜ Written [] (plainBytes msb code (handedValues (shapeOf code) (now (numbers .entry)) (now (remark .entry)) (now (behind .entry)) (patternOf 4 attribute))) (now (out .entry)) r (now (out .exit)) ⌝ }
+    ensures { λ r.
+        ⌜ Written [] (plainBytes msb code
+        (handedValues (shapeOf code) (now (numbers .entry)) (now (remark .entry)) (now (behind .entry)) (patternOf 4 attribute)))
+        (now (out .entry)) r (now (out .exit)) ⌝ }
 {
     if out.len() < whole {
         return layout::refuse(codes::NO_ROOM, 0);

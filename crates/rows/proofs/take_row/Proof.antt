@@ -60,7 +60,8 @@ rowed c =
     ap fieldsOf (c .row .ensures ∙ ap (λ (i : ℕ). getD rowCodes i []) (at-listing l)) ∙ row-fields (d .args .code) (opened-row (d .pre))
 
 -- ---- the places of the tuple are the file's
-inside : (d : tie.Start) → (d .args .place + d .args .whole ≤ length (d .args .file .now)) × (size (fieldsBy (shapeOf (d .args .code))) + 14 ≤ d .args .whole)
+inside : (d : tie.Start)
+    → (d .args .place + d .args .whole ≤ length (d .args .file .now)) × (size (fieldsBy (shapeOf (d .args .code))) + 14 ≤ d .args .whole)
 inside d = (opened-in (d .pre), opened-long (d .pre))
 
 returns : tie.Need-returns
@@ -92,7 +93,8 @@ returns-2 c =
     })
     (λ i. sets
     ((q .read-row .ensures
-    ∙ ap (λ (fs : List Field). sets (a .numbers .now) 0 (numbersIn (valuesOf (a .msb) fs (drop (a .place + 6) (a .file .now))))) (rowed r)) i)
+    ∙ ap (λ (fs : List Field). sets (a .numbers .now) 0 (numbersIn (valuesOf (a .msb) fs (drop (a .place + 6) (a .file .now))))) (rowed r))
+    i)
     (getD (m .measure .result) 0 0)
     (c .read4 .ensures i ∷ []))
 
@@ -120,7 +122,8 @@ take-row-spec =
     (λ c. search needs)
     (λ c. let d = started c in omega (arith, inside d .0, inside d .1, d .good .0 .0))
     (λ c. search needs)
-    (λ c. let d = started c in omega (arith, inside d .0, inside d .1, d .good .0 .0, before-told (measuring c), before-size (fields (measuring c .before))))
+    (λ c. let d = started c in
+    omega (arith, inside d .0, inside d .1, d .good .0 .0, before-told (measuring c), before-size (fields (measuring c .before))))
     (λ c. let d = started c in omega (arith, inside d .1))
     (λ c. search needs)
     (λ c. let d = started c in omega (arith, inside d .1, bare-told (measuring c), bare-size (fields (measuring c .before))))

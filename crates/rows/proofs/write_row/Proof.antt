@@ -52,19 +52,23 @@ returns : tie.Need-returns
 returns c =
     let r = c .before .before in
     let a = start r .args in
-    rw (c .refuse .ensures) (no-record (a .code) (a .numbers .now) (a .text .now) (a .msb) (a .out .now) (sym (recorded r) ∙ not-true _ (c .before .if1 .taken)))
+    rw (c .refuse .ensures) (no-record (a .code) (a .numbers .now) (a .text .now) (a .msb) (a .out .now)
+    (sym (recorded r) ∙ not-true _ (c .before .if1 .taken)))
 
 -- ---- its listing, and what the tables say of it
 at-listing : (l : tie.After-listing) → l .listing .result ≡ placeIn (kindOf (start (l .before .before) .args .code))
 at-listing l = l .listing .ensures ∙ ap placeIn (l .before .before .before .kind-of .ensures)
 
 measure-requires : tie.Need-measure-requires
-measure-requires c κs = let k = start (c .before .before) .args .code in rw (at-listing c) (row-listed k (is-row (shapeOf k) (is (c .before))))
+measure-requires c κs = let k = start (c .before .before) .args .code in
+    rw (at-listing c) (row-listed k (is-row (shapeOf k) (is (c .before))))
 
 told : (m : tie.After-measure) → m .measure .result ≡ measured (fields (typed-at m))
 told m =
     let k = start (typed-at m) .args .code in
-    m .measure .ensures ∙ ap (λ (i : ℕ). getD measures i []) (at-listing (m .before)) ∙ row-measure k (is-row (shapeOf k) (is (m .before .before)))
+    m .measure .ensures
+    ∙ ap (λ (i : ℕ). getD measures i []) (at-listing (m .before))
+    ∙ row-measure k (is-row (shapeOf k) (is (m .before .before)))
 
 many-told : (m : tie.After-measure) → getD (m .measure .result) 0 0 ≡ many (fields (typed-at m))
 many-told m = ap (λ (l : List ℕ). getD l 0 0) (told m)
@@ -80,7 +84,8 @@ returns-2 c =
     let m = c .before .before in
     let a = start (typed-at m) .args in
     rw (c .refuse2 .ensures)
-    (too-few (a .code) (a .numbers .now) (a .text .now) (a .msb) (a .out .now) (is (m .before .before)) (many-told m) (c .before .if2 .taken))
+    (too-few (a .code) (a .numbers .now) (a .text .now) (a .msb) (a .out .now) (is (m .before .before)) (many-told m)
+    (c .before .if2 .taken))
 
 -- ---- its length
 abbrev lengthAt : tie.After-measure → ℕ
@@ -101,7 +106,8 @@ returns-3 c =
     let m = f .before .before in
     let a = start (typed-at m) .args in
     rw (c .refuse3 .ensures)
-    (unfit (a .code) (a .numbers .now) (a .text .now) (a .msb) (a .out .now) (is (m .before .before)) (many-told m) (f .before .if2 .left) (as-length m)
+    (unfit (a .code) (a .numbers .now) (a .text .now) (a .msb) (a .out .now) (is (m .before .before)) (many-told m) (f .before .if2 .left)
+    (as-length m)
     (sym (fitted f) ∙ not-true _ (c .before .if3 .taken)))
 
 returns-4 : tie.Need-returns-4
@@ -111,7 +117,8 @@ returns-4 c =
     let m = f .before .before in
     let a = start (typed-at m) .args in
     rw (c .refuse4 .ensures)
-    (over (a .code) (a .numbers .now) (a .text .now) (a .msb) (a .out .now) (is (m .before .before)) (many-told m) (f .before .if2 .left) (as-length m)
+    (over (a .code) (a .numbers .now) (a .text .now) (a .msb) (a .out .now) (is (m .before .before)) (many-told m) (f .before .if2 .left)
+    (as-length m)
     (sym (fitted f) ∙ not-false _ (e .if3 .left)) (c .before .if4 .taken))
 
 -- ---- all rules are kept
@@ -151,7 +158,8 @@ returns-5 c =
     let w = c .before .before in
     let h = w .before .before .before in
     let g = h .before in
-    own-written (kept (kept-at g)) _ _ _ (ap (patternOf 4) (toZ-ofZ {w = w32} {z = g .signed4 .result} (record { sfits = g .signed4 .ok })) ∙ last g)
+    own-written (kept (kept-at g)) _ _ _
+    (ap (patternOf 4) (toZ-ofZ {w = w32} {z = g .signed4 .result} (record { sfits = g .signed4 .ok })) ∙ last g)
     (own-less h) (w .write-tuple .ensures)
 
 returns-6 : tie.Need-returns-6
@@ -159,7 +167,8 @@ returns-6 c =
     let w = c .before .before in
     let h = w .before .before .before in
     let g = h .before in
-    behind-written (kept (kept-at g)) _ _ _ (ap (patternOf 4) (toZ-ofZ {w = w32} {z = g .signed4 .result} (record { sfits = g .signed4 .ok })) ∙ last g)
+    behind-written (kept (kept-at g)) _ _ _
+    (ap (patternOf 4) (toZ-ofZ {w = w32} {z = g .signed4 .result} (record { sfits = g .signed4 .ok })) ∙ last g)
     (behind-full h) (w .write-tuple2 .ensures)
 
 -- the row is small, and a slice's length is far from the largest number

@@ -9,7 +9,11 @@ is-msb-requires : tie.Need-is-msb-requires
 is-msb-requires c κs = four (found-by _ _ _ _ _ _ (sym (c .before .before .before .forward .ensures .is) ∙ c .before .length .given .1))
 
 returns : tie.Need-returns
-returns c = record { msb = c .is-msb .ensures; found = found-by _ _ _ _ _ _ (sym (c .before .before .before .before .forward .ensures .is) ∙ c .before .before .length .given .1) }
+returns c =
+    record {
+      msb = c .is-msb .ensures;
+      found = found-by _ _ _ _ _ _ (sym (c .before .before .before .before .forward .ensures .is) ∙ c .before .before .length .given .1);
+    }
 
 returns-2 : tie.Need-returns-2
 returns-2 c asked = at-end asked _ _ (sym (c .before .before .forward .ensures .is) ∙ c .enum-told .given .1)

@@ -14,14 +14,17 @@ judge-own-requires c κs = let g = c .before .before .pre in rw (g .msb) (here (
 
 add-at : tie.Need-add-at
 add-at c =
-    let g = c .before .before .before .before .before .before .pre in
-    let z = fault-near (g .found) _ _ (rw (g .msb) at (sym (c .before .before .before .judge-own .ensures) ∙ c .before .code .given .1)) in
+    let j = c .before .before .before in
+    let g = j .before .before .before .pre in
+    let z = fault-near (g .found) _ _ (rw (g .msb) at (sym (j .judge-own .ensures) ∙ c .before .code .given .1)) in
     search needs
 
 returns-2 : tie.Need-returns-2
 returns-2 c asks e =
-    let g = c .before .before .before .before .before .before .pre in
-    faulty (g .found) asks _ _ (e ∙ not-false _ (c .before .before .before .before .if1 .left)) (rw (g .msb) at (sym (c .before .before .before .judge-own .ensures) ∙ c .before .code .given .1))
+    let j = c .before .before .before in
+    let g = j .before .before .before .pre in
+    faulty (g .found) asks _ _ (e ∙ not-false _ (j .before .if1 .left))
+    (rw (g .msb) at (sym (j .judge-own .ensures) ∙ c .before .code .given .1))
 
 returns-3 : tie.Need-returns-3
 returns-3 c asks e =

@@ -9,10 +9,15 @@ open-found-requires : tie.Need-open-found-requires
 open-found-requires c κs = let d = c .before .before in rw (d .msb .given .1) at (d .before .before .find .ensures)
 
 returns : tie.Need-returns
-returns c = rw (c .before .code .given .1) at (c .before .before .before .find .ensures) (recordsOf (c .before .before .before .before .before .args .asked))
+returns c =
+    rw (c .before .code .given .1) at (c .before .before .before .find .ensures)
+    (recordsOf (c .before .before .before .before .before .args .asked))
 
 returns-2 : tie.Need-returns-2
-returns-2 c = c .open-found .ensures (recordsOf (c .before .before .before .before .before .before .before .args .asked)) (sym (c .before .asks-record .ensures))
+returns-2 c =
+    let asked = c .before in
+    let found = asked .before .before .before .before in
+    c .open-found .ensures (recordsOf (found .before .before .args .asked)) (sym (asked .asks-record .ensures))
 
 pub open-record-spec : {M : Type 1} → statement M
 open-record-spec =

@@ -18,15 +18,19 @@ use Rattle.tuples.proofs.write_tuple.Tie as tie
 
 -- the bytes that are to be written, and how many they are
 abbrev bytes : tie.Start → List ℕ
-bytes d = let a = d .args in plainBytes (a .msb) (a .code) (handedValues (shapeOf (a .code)) (a .numbers .now) (a .remark .now) (a .behind .now) (patternOf 4 (a .attribute)))
+bytes d = let a = d .args in
+    plainBytes (a .msb) (a .code)
+    (handedValues (shapeOf (a .code)) (a .numbers .now) (a .remark .now) (a .behind .now) (patternOf 4 (a .attribute)))
 
 many : (d : tie.Start) → length (bytes d) ≡ d .args .whole
-many d = let a = d .args in length-plain (a .msb) (a .numbers .now) (a .remark .now) (a .behind .now) (a .whole) (patternOf 4 (a .attribute)) (a .code) (d .pre)
+many d = let a = d .args in
+    length-plain (a .msb) (a .numbers .now) (a .remark .now) (a .behind .now) (a .whole) (patternOf 4 (a .attribute)) (a .code) (d .pre)
 
 returns : tie.Need-returns
 returns c =
-    let d = c .before .before .before .before .before .before in
-    rw (c .refuse .ensures) (no-room (bytes d) (d .args .out .now) (d .args .whole) (many d) (c .before .if1 .taken))
+    let short = c .before in
+    let d = short .before .before .before .before .before in
+    rw (c .refuse .ensures) (no-room (bytes d) (d .args .out .now) (d .args .whole) (many d) (short .if1 .taken))
 
 returns-2 : tie.Need-returns-2
 returns-2 c =
@@ -37,7 +41,10 @@ returns-2 c =
     rw (c .accept .ensures)
     (with-room (bytes d) (a .out .now) (a .whole) (many d) (fits .if1 .left) _
     (put .put-tuple .ensures
-    ∙ ap (λ (z : ℤ). sets (a .out .now) 0 (plainBytes (a .msb) (a .code) (handedValues (shapeOf (a .code)) (a .numbers .now) (a .remark .now) (a .behind .now) (patternOf 4 z)))) (toZ-ofZ {w = w32} {z = a .attribute} (d .fits .attribute))))
+    ∙ ap (λ (z : ℤ). sets (a .out .now) 0
+    (plainBytes (a .msb) (a .code)
+    (handedValues (shapeOf (a .code)) (a .numbers .now) (a .remark .now) (a .behind .now) (patternOf 4 z))))
+    (toZ-ofZ {w = w32} {z = a .attribute} (d .fits .attribute))))
 
 pub write-tuple-spec : {M : Type 1} → statement M
 write-tuple-spec =

@@ -12,6 +12,10 @@ use Rattle.archive.proofs.Saying.{alone-untold, alone-told}
 use Rattle.archive.proofs.of_files.hac_ask.Statement.{statement}
 use Rattle.archive.proofs.of_files.hac_ask.Tie as tie
 
+-- what was asked for, from where it is told
+abbrev asking : tie.After-tell-found → tie.After-channel
+asking t = t .before .before .before .before .before .before
+
 returns : tie.Need-returns
 returns c =
     let a = c .before .before .before .args in
@@ -20,7 +24,7 @@ returns c =
 returns-2 : tie.Need-returns-2
 returns-2 c =
     let t = c .before .before in
-    let g = t .before .before .before .before .before .before in
+    let g = asking t in
     let q = g .before .before in
     let a = q .before .before .before .before .args in
     alone-told 6 (told askedNumbers askedFields) (AskedFor (a .file .now) (a .place)) (a .answer .now) (q .ask .result) _ _ _

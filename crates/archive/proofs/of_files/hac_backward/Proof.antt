@@ -23,7 +23,8 @@ returns-2 c =
     let e = k .before .before in
     let a = e .before .before .before .args in
     let s = k .backward .result in
-    alone-told 4 (told stepNumbers stepFields) (SteppedBackward (a .file .now) (a .place)) (a .answer .now) s (told stepNumbers stepFields s) _ _
+    alone-told 4 (told stepNumbers stepFields) (SteppedBackward (a .file .now) (a .place)) (a .answer .now) s
+    (told stepNumbers stepFields s) _ _
     (e .if1 .left) (step-short s) (k .backward .ensures) refl (t .tell-step .ensures .0) (t .tell-step .ensures .1)
 
 pub hac-backward-spec : {M : Type 1} → statement M
@@ -33,4 +34,5 @@ pub hac-backward-settled : (f : List ℕ) (p : ℕ) (lent : List ℕ) {c d : ℕ
     → SaidAlone 4 (told stepNumbers stepFields) (SteppedBackward f p) lent c left
     → SaidAlone 4 (told stepNumbers stepFields) (SteppedBackward f p) lent d right
     → (c ≡ d) × (left ≡ right)
-hac-backward-settled f p lent = alone-settled 4 (told stepNumbers stepFields) (SteppedBackward f p) lent (λ a b x y. backward-settled f p x y)
+hac-backward-settled f p lent =
+    alone-settled 4 (told stepNumbers stepFields) (SteppedBackward f p) lent (λ a b x y. backward-settled f p x y)

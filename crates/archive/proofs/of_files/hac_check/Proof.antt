@@ -19,7 +19,8 @@ returns-2 c =
     let k = t .before in
     let e = k .before .before in
     let a = e .before .before .before .args in
-    alone-answer (Checked (a .file .now)) (a .answer .now) (k .check .result) _ _ (e .if1 .left) (k .check .ensures) (t .tell-answer .ensures)
+    alone-answer (Checked (a .file .now)) (a .answer .now) (k .check .result) _ _ (e .if1 .left) (k .check .ensures)
+    (t .tell-answer .ensures)
 
 pub hac-check-spec : {M : Type 1} → statement M
 hac-check-spec = tie.close (tie.spec returns (λ c κs. search needs) (λ c κs. search needs) (λ c. search needs) returns-2)

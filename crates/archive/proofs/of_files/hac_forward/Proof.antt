@@ -23,7 +23,8 @@ returns-2 c =
     let e = k .before .before in
     let a = e .before .before .before .args in
     let s = k .forward .result in
-    alone-told 4 (told stepNumbers stepFields) (SteppedForward (a .file .now) (a .place)) (a .answer .now) s (told stepNumbers stepFields s) _ _
+    alone-told 4 (told stepNumbers stepFields) (SteppedForward (a .file .now) (a .place)) (a .answer .now) s (told stepNumbers stepFields s)
+    _ _
     (e .if1 .left) (step-short s) (k .forward .ensures) refl (t .tell-step .ensures .0) (t .tell-step .ensures .1)
 
 pub hac-forward-spec : {M : Type 1} → statement M

@@ -25,8 +25,17 @@ returns-2 c =
     (e .if1 .left) (k .normalise-tuple .ensures) (t .tell-answer .ensures)
 
 pub hac-normalise-tuple-spec : {M : Type 1} → statement M
-hac-normalise-tuple-spec = tie.close (tie.spec returns (λ c κs. search needs) (λ c κs. search needs) (λ c. search needs) (λ c. search needs) returns-2)
+hac-normalise-tuple-spec =
+    tie.close
+    (tie.spec
+    returns
+    (λ c κs. search needs)
+    (λ c κs. search needs)
+    (λ c. search needs)
+    (λ c. search needs)
+    returns-2)
 
 pub hac-normalise-tuple-settled : (f out lent : List ℕ) {c d : ℕ} {left right kept held : List ℕ}
-    → Said 0 five (NormalisedTuple f out) lent out c left kept → Said 0 five (NormalisedTuple f out) lent out d right held → (c ≡ d) × (left ≡ right) × (kept ≡ held)
+    → Said 0 five (NormalisedTuple f out) lent out c left kept → Said 0 five (NormalisedTuple f out) lent out d right held
+    → (c ≡ d) × (left ≡ right) × (kept ≡ held)
 hac-normalise-tuple-settled f out lent = said-settled 0 five (NormalisedTuple f out) lent out (λ a b p q. single-settled p q)

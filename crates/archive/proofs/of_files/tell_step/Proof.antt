@@ -27,7 +27,10 @@ returns-2 c =
     let e = t .before .accept2 .ensures in
     let s = t .before .before .before in
     let l = s .before .before .before .args .answer .now in
-    rw (s .enum-told .given .1) (t .tell-answer .ensures .0 ∙ ap (λ (y : Answer). numbers y .code) e, t .tell-answer .ensures .1 ∙ ap (λ (y : Answer). sets l 0 (five y)) e)
+    rw (s .enum-told .given .1) (
+      t .tell-answer .ensures .0 ∙ ap (λ (y : Answer). numbers y .code) e,
+      t .tell-answer .ensures .1 ∙ ap (λ (y : Answer). sets l 0 (five y)) e,
+    )
 
 returns-3 : tie.Need-returns-3
 returns-3 c = let t = c .before .before in rw (t .before .before .before .step2 .given .1) (t .tell-refusal .ensures)

@@ -32,7 +32,8 @@ returns-2 c =
     (ap (told pingNumbers readFields) (g .header .given .1)
     ∙ (λ i.
     told pingNumbers readFields
-    (Read (x .0) (sym (toZ-ofZ {w = w32} {z = x .1 .0} (record { sfits = k .known-told .given .1 .0 .1 })) i) (x .1 .1 .0) (x .1 .1 .1 .0))))
+    (Read (x .0) (sym (toZ-ofZ {w = w32} {z = x .1 .0} (record { sfits = k .known-told .given .1 .0 .1 })) i) (x .1 .1 .0)
+    (x .1 .1 .1 .0))))
     (t .tell-ping .ensures .0) (t .tell-ping .ensures .1)
 
 returns-3 : tie.Need-returns-3

@@ -23,7 +23,8 @@ returns-2 c =
     let k = t .before .before .before .before in
     let e = k .before .before .before .before in
     let a = e .before .before .before .before .args in
-    answer-told _ (a .answer .now) (a .numbers .now, a .values .now) (k .read-samples .result) _ _ _ (e .if1 .left) (k .read-samples .ensures)
+    answer-told _ (a .answer .now) (a .numbers .now, a .values .now) (k .read-samples .result) _ _ _ (e .if1 .left)
+    (k .read-samples .ensures)
     (t .tell-answer .ensures)
 
 pub hac-read-samples-spec : {M : Type 1} → statement M
@@ -45,6 +46,7 @@ module _ (f : List ℕ) (p : ℕ) (ns : List ℕ) (vs : List ℤ) (lent : List �
   settled : (x y : List ℕ × List ℤ) (a b : Answer) → promise a x → promise b y → (a ≡ b) × (x ≡ y)
   settled x y a b p q = let e = samples-settled p q in (e .0, λ i. (e .1 i, e .2 i))
 
-  pub hac-read-samples-settled : {c d : ℕ} {left right : List ℕ} {kept held : List ℕ × List ℤ} → Said 0 five promise lent (ns, vs) c left kept
+  pub hac-read-samples-settled : {c d : ℕ} {left right : List ℕ} {kept held : List ℕ × List ℤ}
+      → Said 0 five promise lent (ns, vs) c left kept
       → Said 0 five promise lent (ns, vs) d right held → (c ≡ d) × (left ≡ right) × (kept ≡ held)
   hac-read-samples-settled {kept = kept} {held = held} = said-settled 0 five promise lent (ns, vs) (settled kept held)

@@ -36,7 +36,10 @@ returns c =
           ∷ h .«software_channel_identifier» .0
           ∷ h .«transmitter_mode»
           ∷ h .«ping_number»
-          ∷ (p .pattern4 .ensures ∙ ap (patternOf 4) (toZ-ofZ {w = w32} {z = h .«detected_bottom_range»} (record { sfits = s .struct-told .given .1 .1 .1 .1 .1 .0 .1 }))) i
+          ∷ (p .pattern4 .ensures
+          ∙ ap (patternOf 4) (toZ-ofZ {w = w32} {z = h .«detected_bottom_range»}
+          (record { sfits = s .struct-told .given .1 .1 .1 .1 .1 .0 .1 })))
+          i
           ∷ (b .pattern42 .ensures ∙ ap (patternOf 4) (toZ-ofZ {w = w32} {z = a .attribute} (start s .fits .attribute))) i
           ∷ k .kind-number .ensures i
           ∷ a .values

@@ -18,7 +18,8 @@ use Rattle.archive.proofs.of_records.hac_read_record.Tie as tie
 returns : tie.Need-returns
 returns c =
     let a = c .before .before .before .before .args in
-    untold 2 (told answerNumbers rowFields) (RowAt (a .code) (a .file .now) (a .place) (a .numbers .now)) (a .answer .now) (a .numbers .now) (c .if1 .taken)
+    untold 2 (told answerNumbers rowFields) (RowAt (a .code) (a .file .now) (a .place) (a .numbers .now)) (a .answer .now) (a .numbers .now)
+    (c .if1 .taken)
 
 returns-2 : tie.Need-returns-2
 returns-2 c =
@@ -29,7 +30,8 @@ returns-2 c =
     let b = q .before .before in
     let a = b .before .before .before .before .args in
     let x = g .text .given .0 .0 in
-    told-as 2 (told answerNumbers rowFields) (RowAt (a .code) (a .file .now) (a .place) (a .numbers .now)) (a .answer .now) (a .numbers .now)
+    told-as 2 (told answerNumbers rowFields) (RowAt (a .code) (a .file .now) (a .place) (a .numbers .now)) (a .answer .now)
+    (a .numbers .now)
     (q .read-row .result) (five (accepting 1 0) ++ (x .place ∷ x .length ∷ [])) _ _ _ (b .if1 .left) (omega arith) (q .read-row .ensures)
     (ap (told answerNumbers rowFields) (g .text .given .1))
     (t .tell-found .ensures .0 ∙ ap (λ (y : Answer). numbers y .code) e)
@@ -42,8 +44,10 @@ returns-3 c =
     let q = g .before .before .before .before in
     let b = q .before .before in
     let a = b .before .before .before .before .args in
-    told-as 2 (told answerNumbers rowFields) (RowAt (a .code) (a .file .now) (a .place) (a .numbers .now)) (a .answer .now) (a .numbers .now)
-    (q .read-row .result) _ _ _ _ (b .if1 .left) (omega arith) (q .read-row .ensures) (ap (told answerNumbers rowFields) (g .code .given .1))
+    told-as 2 (told answerNumbers rowFields) (RowAt (a .code) (a .file .now) (a .place) (a .numbers .now)) (a .answer .now)
+    (a .numbers .now)
+    (q .read-row .result) _ _ _ _ (b .if1 .left) (omega arith) (q .read-row .ensures)
+    (ap (told answerNumbers rowFields) (g .code .given .1))
     (t .tell-refusal .ensures .0) (t .tell-refusal .ensures .1)
 
 pub hac-read-record-spec : {M : Type 1} → statement M

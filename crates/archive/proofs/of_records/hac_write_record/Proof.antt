@@ -15,7 +15,8 @@ use Rattle.archive.proofs.of_records.hac_write_record.Tie as tie
 returns : tie.Need-returns
 returns c =
     let a = c .before .before .before .before .before .args in
-    untold 0 five (RowWritten (a .code) (a .numbers .now) (a .text .now) (a .msb) (a .out .now)) (a .answer .now) (a .out .now) (c .if1 .taken)
+    untold 0 five (RowWritten (a .code) (a .numbers .now) (a .text .now) (a .msb) (a .out .now)) (a .answer .now) (a .out .now)
+    (c .if1 .taken)
 
 returns-2 : tie.Need-returns-2
 returns-2 c =
@@ -23,7 +24,8 @@ returns-2 c =
     let k = t .before .before .before in
     let e = k .before .before .before in
     let a = e .before .before .before .before .before .args in
-    answer-told (RowWritten (a .code) (a .numbers .now) (a .text .now) (a .msb) (a .out .now)) (a .answer .now) (a .out .now) (k .write-row .result) _ _ _
+    answer-told (RowWritten (a .code) (a .numbers .now) (a .text .now) (a .msb) (a .out .now)) (a .answer .now) (a .out .now)
+    (k .write-row .result) _ _ _
     (e .if1 .left) (k .write-row .ensures) (t .tell-answer .ensures)
 
 pub hac-write-record-spec : {M : Type 1} → statement M
