@@ -1,13 +1,19 @@
 // Rows: the record of any type, read as the numbers of its row and written from them. Each record's view stands on these two calls.
 use layout::Answer;
+use layout::FIELDS;
 use layout::codes;
 use tuples::Opened;
 use tuples::Part;
 ghost use mathlib.Core.Path.{_≡_};
-ghost use Prim.Native.Nat.{_%_, _^_};
+ghost use Prim.Native.Nat.{_+_, _%_, _^_, _≤_, _<_};
+ghost use lib.ListN.{length, drop};
+ghost use lib.Seq.{sets};
 ghost use Rattle.order.specs.Order.{signedOf, patternOf};
+ghost use Rattle.layout.specs.Fields.{size, many};
+ghost use Rattle.turning.specs.Rows.{valuesOf, numbersIn};
 ghost use Rattle.tuples.specs.Readers.{recordsOf};
 ghost use Rattle.tuples.specs.inner.Opening.{Readable};
+ghost use Rattle.rows.specs.inner.Listed.{listedFields};
 ghost use Rattle.rows.specs.Readers.{RowAt};
 ghost use Rattle.rows.specs.Writers.{RowWritten};
 
@@ -18,6 +24,32 @@ const AROUND: usize = frame::DATA + frame::TAIL;
 pub enum RowRead {
     Read { text: Part },
     Refused { code: u8, place: usize },
+}
+
+// Reads the numbers of a row, by its listing. Each arm names its row by a constant, and how many fields it has before its dots: so that
+// the compiler makes plain loads of the loop over it.
+fn read_listed(file: &[u8], at: usize, msb: bool, listing: usize, numbers: &mut [u32])
+    requires { ⌜ listing < 13 ⌝ }
+    requires { ⌜ at + size (listedFields listing) ≤ length (now file) ⌝ }
+    requires { ⌜ many (listedFields listing) ≤ length (now numbers) ⌝ }
+    ensures { λ _. ⌜ now (numbers .exit)
+        ≡ sets (now (numbers .entry)) 0 (numbersIn (valuesOf msb (listedFields listing) (drop at (now (file .entry))))) ⌝ }
+{
+    match listing {
+        0 => turning::read_row(file, at, msb, &layout::row(0)[0..FIELDS[0]], numbers),
+        1 => turning::read_row(file, at, msb, &layout::row(1)[0..FIELDS[1]], numbers),
+        2 => turning::read_row(file, at, msb, &layout::row(2)[0..FIELDS[2]], numbers),
+        3 => turning::read_row(file, at, msb, &layout::row(3)[0..FIELDS[3]], numbers),
+        4 => turning::read_row(file, at, msb, &layout::row(4)[0..FIELDS[4]], numbers),
+        5 => turning::read_row(file, at, msb, &layout::row(5)[0..FIELDS[5]], numbers),
+        6 => turning::read_row(file, at, msb, &layout::row(6)[0..FIELDS[6]], numbers),
+        7 => turning::read_row(file, at, msb, &layout::row(7)[0..FIELDS[7]], numbers),
+        8 => turning::read_row(file, at, msb, &layout::row(8)[0..FIELDS[8]], numbers),
+        9 => turning::read_row(file, at, msb, &layout::row(9)[0..FIELDS[9]], numbers),
+        10 => turning::read_row(file, at, msb, &layout::row(10)[0..FIELDS[10]], numbers),
+        11 => turning::read_row(file, at, msb, &layout::row(11)[0..FIELDS[11]], numbers),
+        _ => turning::read_row(file, at, msb, &layout::row(12)[0..FIELDS[12]], numbers),
+    }
 }
 
 // Reads the record of the tuple that was opened; 19 at 0 for fewer numbers than it has.
@@ -41,8 +73,7 @@ fn take_row(
             place: 0,
         };
     }
-    let row = layout::row(listing);
-    turning::read_row(file, place + frame::DATA, msb, &row, numbers);
+    read_listed(file, place + frame::DATA, msb, listing, numbers);
     numbers[many] = order::read4(file, place + whole - frame::TAIL, msb);
     RowRead::Read {
         text: Part {

@@ -9,8 +9,9 @@ use lib.ListN.{length, getD, drop}
 use lib.Seq.{sets}
 use Rattle.layout.specs.Fields.{Field, size, many, beforeText, bareSize}
 use Rattle.layout.specs.Types.{shapeOf, kindOf, placeIn}
-use Rattle.layout.specs.inner.Codes.{fieldsOf, rowCodes, measures, measured}
+use Rattle.layout.specs.inner.Codes.{measures, measured}
 use Rattle.turning.specs.Rows.{valuesOf, numbersIn}
+use Rattle.rows.specs.inner.Listed.{listedFields}
 use Rattle.rows.specs.Readers.{fieldsBy}
 use Rattle.rows.proofs.Shapes.{row-listed, row-fields, row-measure, bare-size, before-size}
 use Rattle.rows.proofs.Reading.{opened-row, opened-in, opened-long, text-there, untaken, taken}
@@ -22,10 +23,10 @@ abbrev start : tie.After-listing → tie.Start
 start l = l .before .before .before .before
 
 abbrev measuring : tie.After-read4 → tie.After-measure
-measuring c = c .before .before .before .before .before .before .before .before
+measuring c = c .before .before .before .before .before .before
 
 abbrev attribute : tie.After-slice-known2 → tie.Start
-attribute c = start (c .before .before .before .before .before .before .before .before)
+attribute c = start (c .before .before .before .before .before .before)
 
 -- the fields of the row
 abbrev fields : tie.After-listing → List Field
@@ -53,11 +54,8 @@ before-told m = ap (λ (l : List ℕ). getD l 1 0) (told m)
 bare-told : (m : tie.After-measure) → getD (m .measure .result) 2 0 ≡ bareSize (fields (m .before))
 bare-told m = ap (λ (l : List ℕ). getD l 2 0) (told m)
 
-rowed : (c : tie.After-row) → fieldsOf (c .row .result) ≡ fields (c .before .before .before)
-rowed c =
-    let l = c .before .before .before in
-    let d = start l in
-    ap fieldsOf (c .row .ensures ∙ ap (λ (i : ℕ). getD rowCodes i []) (at-listing l)) ∙ row-fields (d .args .code) (opened-row (d .pre))
+rowed : (l : tie.After-listing) → listedFields (l .listing .result) ≡ fields l
+rowed l = let d = start l in ap listedFields (at-listing l) ∙ row-fields (d .args .code) (opened-row (d .pre))
 
 -- ---- the places of the tuple are the file's
 inside : (d : tie.Start)
@@ -70,30 +68,31 @@ returns c =
     let d = start (m .before) in
     untaken (d .pre) (d .args .numbers .now) _ (many-told m) (c .if1 .taken)
 
-read-row-requires : tie.Need-read-row-requires
-read-row-requires c κs =
-    let r = c .before .before in
-    let m = r .before .before in
+read-listed-requires : tie.Need-read-listed-requires
+read-listed-requires c κs =
+    let e = c .before in
+    let m = e .before in
     let d = start (m .before) in (
-      rw (rowed r) (omega (arith, inside d .0, inside d .1)),
-      rw (rowed r) (omega (arith, many-told m, r .before .if1 .left)),
+      listed (m .before),
+      (rw (rowed (m .before)) (omega (arith, inside d .0, inside d .1)), rw (rowed (m .before)) (omega (arith, many-told m, e .if1 .left))),
     )
 
 returns-2 : tie.Need-returns-2
 returns-2 c =
     let q = c .before .before .before in
-    let r = q .before .before .before in
-    let m = r .before .before in
+    let e = q .before .before in
+    let m = e .before in
     let d = start (m .before) in
     let a = d .args in
-    taken (d .pre) (a .numbers .now) _ (many-told m) (r .before .if1 .left) _ _
+    taken (d .pre) (a .numbers .now) _ (many-told m) (e .if1 .left) _ _
     (λ i. record {
       place = ap (λ (n : ℕ). a .place + 6 + n) (before-told m) i;
       length = (ap (λ (n : ℕ). a .whole - 14 - n) (bare-told m) ∙ text-there (d .pre)) i;
     })
     (λ i. sets
-    ((q .read-row .ensures
-    ∙ ap (λ (fs : List Field). sets (a .numbers .now) 0 (numbersIn (valuesOf (a .msb) fs (drop (a .place + 6) (a .file .now))))) (rowed r))
+    ((q .read-listed .ensures
+    ∙ ap (λ (fs : List Field). sets (a .numbers .now) 0 (numbersIn (valuesOf (a .msb) fs (drop (a .place + 6) (a .file .now)))))
+    (rowed (m .before)))
     i)
     (getD (m .measure .result) 0 0)
     (c .read4 .ensures i ∷ []))
@@ -111,10 +110,8 @@ take-row-spec =
     (λ c κs. listed c)
     (λ c. search needs)
     returns
-    (λ c κs. listed (c .before .before))
-    (λ c. let d = start (c .before .before .before) in omega (arith, inside d .0, inside d .1, d .good .0 .0))
-    (λ c. search needs)
-    read-row-requires
+    (λ c. let d = start (c .before .before) in omega (arith, inside d .0, inside d .1, d .good .0 .0))
+    read-listed-requires
     (λ c. let d = attribute c in omega (arith, inside d .0, d .good .0 .0))
     (λ c. let d = attribute c in omega (arith, inside d .1))
     (λ c κs. let d = attribute c in omega (arith, inside d .0, inside d .1))
