@@ -51,19 +51,12 @@ pub mod types;
 mod walk;
 mod wrong;
 
-pub use answer::{Code, Refusal};
-pub use field::{DocumentId, SoftwareChannel, Transceiver};
-pub use file::{
-    ask, check, Counts, Order, Parents, CHANNEL_LIMIT, FILE_LIMIT, FIRST_PLACE, SOUNDER_LIMIT,
-    TUPLE_LIMIT, VALUE_LIMIT,
-};
-pub use normal::{normal_form, normalise, normalise_tuple, Normal};
-pub use ping::{
-    read_ping, read_samples, samples, write_c32, write_u32, Ping, PingHeader, PingKind, Samples,
-};
-pub use record::{
-    read_record, write_record, Attitude, Channel, Event, FileEnd, Navigation, Position, RunEnd,
-    RunStart, Signature, Sounder, Threshold, REMARK,
-};
-pub use walk::{Step, Tuple, Tuples, Walk};
-pub use wrong::{wrong_sample, SampleFault, WrongSample};
+// All that a module has to offer, so that a further call is said in its module alone.
+pub use answer::*;
+pub use field::*;
+pub use file::*;
+pub use normal::*;
+pub use ping::*;
+pub use record::*;
+pub use walk::*;
+pub use wrong::*;
