@@ -1,6 +1,7 @@
 //! Makes from views/records.txt the files that say a record's fields again. Run in the root: `views/target/release/make` writes
 //! them where they stand, with an argument DIR under that folder, so that they can be compared with what is committed.
 
+mod edits;
 mod header;
 mod host;
 mod listed;
@@ -46,6 +47,7 @@ fn files(records: &[table::Record]) -> Vec<File> {
         source::files(records),
         specs::files(records),
         proofs::files(records),
+        edits::files(records),
         roundtrip::files(records),
     ];
     made.concat()
