@@ -40,7 +40,8 @@ const USES: &str = "\
 use Rattle.$module$.specs.declared.$Name$.{$Name$}
 use Rattle.$module$.specs.declared.$Name$Read.{$Name$Read}
 use Rattle.$module$.specs.declared.$Name$Read.the-variants as $camel$
-use Rattle.$module$.specs.$Name$.{$camel$Of, $camel$Integers, $dashed$-inverse, $Name$Typed, $Name$At, $Name$Written}
+use Rattle.$module$.specs.$Name$.{$camel$Of, $camel$Integers, $dashed$-inverse}
+use Rattle.$module$.specs.$Name$.{$Name$Typed, $Name$At, $Name$Written}
 use Rattle.$module$.specs.$Name$ as $camel$s
 ";
 

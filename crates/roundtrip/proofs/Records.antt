@@ -18,58 +18,68 @@ use Rattle.roundtrip.proofs.Handed.{again-row, again-plain}
 use Rattle.signature.specs.declared.Signature.{Signature}
 use Rattle.signature.specs.declared.SignatureRead.{SignatureRead}
 use Rattle.signature.specs.declared.SignatureRead.the-variants as signature
-use Rattle.signature.specs.Signature.{signatureOf, signatureIntegers, signature-inverse, SignatureTyped, SignatureAt, SignatureWritten}
+use Rattle.signature.specs.Signature.{signatureOf, signatureIntegers, signature-inverse}
+use Rattle.signature.specs.Signature.{SignatureTyped, SignatureAt, SignatureWritten}
 use Rattle.signature.specs.Signature as signatures
 use Rattle.sounder.specs.declared.Sounder.{Sounder}
 use Rattle.sounder.specs.declared.SounderRead.{SounderRead}
 use Rattle.sounder.specs.declared.SounderRead.the-variants as sounder
-use Rattle.sounder.specs.Sounder.{sounderOf, sounderIntegers, sounder-inverse, SounderTyped, SounderAt, SounderWritten}
+use Rattle.sounder.specs.Sounder.{sounderOf, sounderIntegers, sounder-inverse}
+use Rattle.sounder.specs.Sounder.{SounderTyped, SounderAt, SounderWritten}
 use Rattle.sounder.specs.Sounder as sounders
 use Rattle.channel.specs.declared.Channel.{Channel}
 use Rattle.channel.specs.declared.ChannelRead.{ChannelRead}
 use Rattle.channel.specs.declared.ChannelRead.the-variants as channel
-use Rattle.channel.specs.Channel.{channelOf, channelIntegers, channel-inverse, ChannelTyped, ChannelAt, ChannelWritten}
+use Rattle.channel.specs.Channel.{channelOf, channelIntegers, channel-inverse}
+use Rattle.channel.specs.Channel.{ChannelTyped, ChannelAt, ChannelWritten}
 use Rattle.channel.specs.Channel as channels
 use Rattle.threshold.specs.declared.Threshold.{Threshold}
 use Rattle.threshold.specs.declared.ThresholdRead.{ThresholdRead}
 use Rattle.threshold.specs.declared.ThresholdRead.the-variants as threshold
-use Rattle.threshold.specs.Threshold.{thresholdOf, thresholdIntegers, threshold-inverse, ThresholdTyped, ThresholdAt, ThresholdWritten}
+use Rattle.threshold.specs.Threshold.{thresholdOf, thresholdIntegers, threshold-inverse}
+use Rattle.threshold.specs.Threshold.{ThresholdTyped, ThresholdAt, ThresholdWritten}
 use Rattle.threshold.specs.Threshold as thresholds
 use Rattle.position.specs.declared.Position.{Position}
 use Rattle.position.specs.declared.PositionRead.{PositionRead}
 use Rattle.position.specs.declared.PositionRead.the-variants as position
-use Rattle.position.specs.Position.{positionOf, positionIntegers, position-inverse, PositionTyped, PositionAt, PositionWritten}
+use Rattle.position.specs.Position.{positionOf, positionIntegers, position-inverse}
+use Rattle.position.specs.Position.{PositionTyped, PositionAt, PositionWritten}
 use Rattle.position.specs.Position as positions
 use Rattle.navigation.specs.declared.Navigation.{Navigation}
 use Rattle.navigation.specs.declared.NavigationRead.{NavigationRead}
 use Rattle.navigation.specs.declared.NavigationRead.the-variants as navigation
-use Rattle.navigation.specs.Navigation.{navigationOf, navigationIntegers, navigation-inverse, NavigationTyped, NavigationAt}
-use Rattle.navigation.specs.Navigation.{NavigationWritten}
+use Rattle.navigation.specs.Navigation.{navigationOf, navigationIntegers, navigation-inverse}
+use Rattle.navigation.specs.Navigation.{NavigationTyped, NavigationAt, NavigationWritten}
 use Rattle.navigation.specs.Navigation as navigations
 use Rattle.attitude.specs.declared.Attitude.{Attitude}
 use Rattle.attitude.specs.declared.AttitudeRead.{AttitudeRead}
 use Rattle.attitude.specs.declared.AttitudeRead.the-variants as attitude
-use Rattle.attitude.specs.Attitude.{attitudeOf, attitudeIntegers, attitude-inverse, AttitudeTyped, AttitudeAt, AttitudeWritten}
+use Rattle.attitude.specs.Attitude.{attitudeOf, attitudeIntegers, attitude-inverse}
+use Rattle.attitude.specs.Attitude.{AttitudeTyped, AttitudeAt, AttitudeWritten}
 use Rattle.attitude.specs.Attitude as attitudes
 use Rattle.event.specs.declared.Event.{Event}
 use Rattle.event.specs.declared.EventRead.{EventRead}
 use Rattle.event.specs.declared.EventRead.the-variants as event
-use Rattle.event.specs.Event.{eventOf, eventIntegers, event-inverse, EventTyped, EventAt, EventWritten}
+use Rattle.event.specs.Event.{eventOf, eventIntegers, event-inverse}
+use Rattle.event.specs.Event.{EventTyped, EventAt, EventWritten}
 use Rattle.event.specs.Event as events
 use Rattle.run_start.specs.declared.RunStart.{RunStart}
 use Rattle.run_start.specs.declared.RunStartRead.{RunStartRead}
 use Rattle.run_start.specs.declared.RunStartRead.the-variants as runStart
-use Rattle.run_start.specs.RunStart.{runStartOf, runStartIntegers, run-start-inverse, RunStartTyped, RunStartAt, RunStartWritten}
+use Rattle.run_start.specs.RunStart.{runStartOf, runStartIntegers, run-start-inverse}
+use Rattle.run_start.specs.RunStart.{RunStartTyped, RunStartAt, RunStartWritten}
 use Rattle.run_start.specs.RunStart as runStarts
 use Rattle.run_end.specs.declared.RunEnd.{RunEnd}
 use Rattle.run_end.specs.declared.RunEndRead.{RunEndRead}
 use Rattle.run_end.specs.declared.RunEndRead.the-variants as runEnd
-use Rattle.run_end.specs.RunEnd.{runEndOf, runEndIntegers, run-end-inverse, RunEndTyped, RunEndAt, RunEndWritten}
+use Rattle.run_end.specs.RunEnd.{runEndOf, runEndIntegers, run-end-inverse}
+use Rattle.run_end.specs.RunEnd.{RunEndTyped, RunEndAt, RunEndWritten}
 use Rattle.run_end.specs.RunEnd as runEnds
 use Rattle.file_end.specs.declared.FileEnd.{FileEnd}
 use Rattle.file_end.specs.declared.FileEndRead.{FileEndRead}
 use Rattle.file_end.specs.declared.FileEndRead.the-variants as fileEnd
-use Rattle.file_end.specs.FileEnd.{fileEndOf, fileEndIntegers, file-end-inverse, FileEndTyped, FileEndAt, FileEndWritten}
+use Rattle.file_end.specs.FileEnd.{fileEndOf, fileEndIntegers, file-end-inverse}
+use Rattle.file_end.specs.FileEnd.{FileEndTyped, FileEndAt, FileEndWritten}
 use Rattle.file_end.specs.FileEnd as fileEnds
 
 pub signature-again : (r : Signature) → SignatureTyped r → {o : Bool} {out left f : List ℕ} {p : ℕ} {n : Counts} {x : SignatureRead}
