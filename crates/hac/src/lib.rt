@@ -41,6 +41,11 @@ pub use pings::PingKind;
 pub use pings::PingRead;
 pub use pings::read_ping;
 
+// What is the own of each of the two types, as constants: the places of the header (PingHeader::TIME_FRACTION and so on, in the row's
+// order PingHeader::places()); code, least length and step, and where pairs, number of samples and words stand.
+pub use pings::of_pairs;
+pub use pings::of_words;
+
 // read_samples(file, place, numbers, values): a listed ping's samples, an entry of both slices for each; the length is their number.
 // Refuses as read_ping does, then by 19 at 0 where either slice is short. Promise: `SamplesRead`, crates/pings/specs/Readers.antt.
 pub use pings::read_samples;

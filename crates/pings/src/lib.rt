@@ -1,4 +1,8 @@
-// Pings: reading a listed ping's samples at any place of any file, and writing pings into lent memory.
+// Pings: reading a listed ping's samples at any place of any file, and writing pings into lent memory. What is the own of each of the
+// two types stands in `of_pairs` and `of_words`.
+pub mod of_pairs;
+pub mod of_words;
+
 use layout::Answer;
 use layout::SoftwareChannel;
 use layout::codes;
@@ -13,6 +17,7 @@ ghost use Rattle.samples.specs.Runs.{radix, decode};
 ghost use Rattle.pings.specs.Readers.{samplesAt, SamplesRead};
 ghost use Rattle.pings.specs.inner.Handing.{Handed, SoundPing};
 ghost use Rattle.layout.specs.Types.{pingRow};
+ghost use Rattle.rows.specs.Places.{placesFrom};
 ghost use Rattle.turning.specs.Rows.{valuesOf, encode};
 ghost use Rattle.frame.specs.inner.Framing.{openingBytes};
 ghost use Rattle.pings.specs.Fields.{headerOf, pingFields, PingAt};
@@ -25,19 +30,6 @@ const PAIR: usize = 8;
 
 const WORD: usize = 4;
 
-// The places of a ping's header fields.
-const TIME_FRACTION: usize = 6;
-
-const TIME_CPU: usize = 8;
-
-const SOFTWARE_CHANNEL: usize = 12;
-
-const TRANSMITTER_MODE: usize = 14;
-
-const PING_NUMBER: usize = 16;
-
-const DETECTED_BOTTOM: usize = 20;
-
 // The fields before a ping's samples: TR Tables 6 and 20.
 pub struct PingHeader {
     pub time_fraction: u16,
@@ -46,6 +38,35 @@ pub struct PingHeader {
     pub transmitter_mode: u16,
     pub ping_number: u32,
     pub detected_bottom_range: i32,
+}
+
+impl PingHeader {
+    // Where the fields stand, in bytes from the tuple's first.
+    pub const TIME_FRACTION: usize = 6;
+
+    pub const TIME_CPU: usize = 8;
+
+    pub const SOFTWARE_CHANNEL_IDENTIFIER: usize = 12;
+
+    pub const TRANSMITTER_MODE: usize = 14;
+
+    pub const PING_NUMBER: usize = 16;
+
+    pub const DETECTED_BOTTOM_RANGE: usize = 20;
+
+    // These in the row's order.
+    pub fn places() -> [usize; 6]
+        ensures { λ r. ⌜ r ≡ placesFrom pingRow 6 ⌝ }
+    {
+        [
+            PingHeader::TIME_FRACTION,
+            PingHeader::TIME_CPU,
+            PingHeader::SOFTWARE_CHANNEL_IDENTIFIER,
+            PingHeader::TRANSMITTER_MODE,
+            PingHeader::PING_NUMBER,
+            PingHeader::DETECTED_BOTTOM_RANGE,
+        ]
+    }
 }
 
 // The two ways in which a ping's samples are stored.
@@ -144,16 +165,20 @@ fn header_at(file: &[u8], place: usize, msb: bool) -> PingHeader
     ensures { λ r. ⌜ r ≡ headerOf (valuesOf msb pingRow (drop (place + 6) (now (file .entry)))) ⌝ }
 {
     PingHeader {
-        time_fraction: order::read2(file, place + TIME_FRACTION, msb),
-        time_cpu: order::read4(file, place + TIME_CPU, msb),
+        time_fraction: order::read2(file, place + PingHeader::TIME_FRACTION, msb),
+        time_cpu: order::read4(file, place + PingHeader::TIME_CPU, msb),
         software_channel_identifier: SoftwareChannel(order::read2(
             file,
-            place + SOFTWARE_CHANNEL,
+            place + PingHeader::SOFTWARE_CHANNEL_IDENTIFIER,
             msb,
         )),
-        transmitter_mode: order::read2(file, place + TRANSMITTER_MODE, msb),
-        ping_number: order::read4(file, place + PING_NUMBER, msb),
-        detected_bottom_range: tuples::signed4_at(file, place + DETECTED_BOTTOM, msb),
+        transmitter_mode: order::read2(file, place + PingHeader::TRANSMITTER_MODE, msb),
+        ping_number: order::read4(file, place + PingHeader::PING_NUMBER, msb),
+        detected_bottom_range: tuples::signed4_at(
+            file,
+            place + PingHeader::DETECTED_BOTTOM_RANGE,
+            msb,
+        ),
     }
 }
 
@@ -202,19 +227,24 @@ fn write_header(out: &mut [u8], msb: bool, header: PingHeader)
     requires { ⌜ 24 ≤ length (now out) ⌝ }
     ensures { λ _. ⌜ now (out .exit) ≡ sets (now (out .entry)) 6 (encode msb pingRow (headOf header)) ⌝ }
 {
-    order::store2(out, TIME_FRACTION, msb, header.time_fraction);
-    order::store4(out, TIME_CPU, msb, header.time_cpu);
+    order::store2(out, PingHeader::TIME_FRACTION, msb, header.time_fraction);
+    order::store4(out, PingHeader::TIME_CPU, msb, header.time_cpu);
     order::store2(
         out,
-        SOFTWARE_CHANNEL,
+        PingHeader::SOFTWARE_CHANNEL_IDENTIFIER,
         msb,
         header.software_channel_identifier.0,
     );
-    order::store2(out, TRANSMITTER_MODE, msb, header.transmitter_mode);
-    order::store4(out, PING_NUMBER, msb, header.ping_number);
+    order::store2(
+        out,
+        PingHeader::TRANSMITTER_MODE,
+        msb,
+        header.transmitter_mode,
+    );
+    order::store4(out, PingHeader::PING_NUMBER, msb, header.ping_number);
     order::store4(
         out,
-        DETECTED_BOTTOM,
+        PingHeader::DETECTED_BOTTOM_RANGE,
         msb,
         order::pattern4(header.detected_bottom_range),
     );

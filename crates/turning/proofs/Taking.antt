@@ -7,14 +7,14 @@ use mathlib.Core.Option.{Option, some, none}
 use Prim.Native.Nat.{ℕ, _+_, _<_, _≤_, zero-le}
 use native.Mathlib.Omega.{arith}
 use lib.ListN.{length, getD, take, drop, set, length-append}
-use lib.Seq.{sets, drop-drop}
+use lib.Seq.{sets, length-sets, drop-drop}
 use Rattle.order.specs.Order.{numOf}
 use Rattle.order.proofs.Stores.{sets-append}
-use Rattle.layout.specs.Fields.{Field, num, txt, gap, ident, widthOf, takes, many}
+use Rattle.layout.specs.Fields.{Field, num, txt, gap, ident, widthOf, size, takes, many}
 use Rattle.layout.specs.inner.Codes.{fieldOf, fieldsFrom, fieldsOf}
 use Rattle.turning.specs.Rows.{Value, valuesOf, numbersIn}
 use Rattle.turning.specs.inner.Codes.{codeWidth, codeTakes, fieldNumbers, codeNumbers}
-use Rattle.turning.proofs.Turned.{two, four, left}
+use Rattle.turning.proofs.Turned.{two, four, left, field-none, size-step, row-end}
 
 -- ---- what each arm of the code reads: the number of its codes, or none
 abbrev pub Took : ℕ → Bool → List ℕ → List ℕ → ℕ → ℕ → List ℕ → Type 0
@@ -112,3 +112,32 @@ module _ (row : List ℕ) (i : ℕ) (more : i < length row) where
 -- where no field is left, nothing is left to read
 pub nothing-read : (fs : List Field) → fs ≡ [] → (o : Bool) (ns bs : List ℕ) (next : ℕ) → sets ns next (numbersIn (valuesOf o fs bs)) ≡ ns
 nothing-read fs e o ns bs next = rw e
+
+-- ---- a loop over a row in the order o stands at code i: what is left of the row's numbers, read, makes the whole
+pub record Untaken (o : Bool) (src row lent whole numbers : List ℕ) (i next from : ℕ) : Type 0 where
+  pub same : length numbers ≡ length lent
+  pub read : from + size (fieldsOf (drop i row)) ≤ length src
+  pub room : next + many (fieldsOf (drop i row)) ≤ length lent
+  pub few : next ≤ i
+  pub rest : sets numbers next (numbersIn (valuesOf o (fieldsOf (drop i row)) (drop from src))) ≡ whole
+
+module _ {o : Bool} {src row lent whole numbers : List ℕ} {i next from : ℕ} (l : Untaken o src row lent whole numbers i next from) where
+  -- at the row's end
+  pub taken-end : length row ≤ i → numbers ≡ whole
+  taken-end h = sym (nothing-read _ (row-end row i h) o numbers _ next) ∙ l .rest
+
+  -- at a code, whose field's number is read
+  module _ {left : List ℕ} (more : i < length row) (put : left ≡ sets numbers next (codeNumbers o (fieldOf (getD row i 0)) (drop from src))) where
+    pub taken-dot : fieldOf (getD row i 0) ≡ none → left ≡ whole
+    taken-dot e = rw (put, e) (sym (nothing-read _ (field-none row i more e) o numbers _ next) ∙ l .rest)
+
+    pub taken-on : {w n : ℕ} → w ≡ codeWidth (fieldOf (getD row i 0)) → (w ≡ 0 → ⊥) → n ≡ codeTakes (fieldOf (getD row i 0)) → n ≤ 1
+        → Untaken o src row lent whole left (i + 1) (next + n) (from + w)
+    taken-on {w} {n} is some-bytes takes-n one =
+        record {
+          same = rw put (simp length-sets (l .same));
+          read = omega (arith, l .read, size-step row i more w is some-bytes);
+          room = omega (arith, l .room, many-step row i more w is some-bytes, takes-n);
+          few = omega (arith, l .few, one);
+          rest = rw (put, takes-n) (read-step row i more w is some-bytes o src numbers from next) ∙ l .rest;
+        }

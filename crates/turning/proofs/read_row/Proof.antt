@@ -1,5 +1,6 @@
--- `turning::read_row` meets its contract: the numbers that the loop has yet to read, read, make the whole. Assumes nothing.
-use mathlib.Core.Path.{_≡_, refl, sym, _∙_}
+-- `turning::read_row` meets its contract: in each order's loop the numbers that it has yet to read, read, make the whole. Assumes nothing.
+use mathlib.Core.Path.{refl}
+use mathlib.Core.Bool.{true, false}
 use Prim.Native.Nat.{_+_, _-_, _≤_}
 use native.Mathlib.Omega.{arith}
 use borrow.Author.Needs.{needs}
@@ -8,83 +9,83 @@ use lib.Seq.{sets}
 use Rattle.layout.specs.Fields.{size, many}
 use Rattle.layout.specs.inner.Codes.{fieldOf, fieldsOf}
 use Rattle.turning.specs.Rows.{valuesOf, numbersIn}
-use Rattle.turning.specs.inner.Codes.{codeWidth}
-use Rattle.turning.proofs.Turned.{field-room, field-none, size-step, row-end}
-use Rattle.turning.proofs.Taking.{takes-room, many-step, read-step, nothing-read}
+use Rattle.turning.specs.inner.Codes.{codeWidth, codeTakes}
+use Rattle.turning.proofs.Turned.{field-room}
+use Rattle.turning.proofs.Taking.{takes-room, Untaken, taken-end, taken-dot, taken-on}
 use Rattle.turning.proofs.read_row.Statement.{statement}
 use Rattle.turning.proofs.read_row.Tie as tie
 
 abbrev Inv-loop : tie.InvT-loop
 Inv-loop src at msb row numbers₀ i₀ next₀ from₀ numbers i next from =
-    (length numbers ≡ length numbers₀)
-    × (from + size (fieldsOf (drop i row)) ≤ length src)
-    × (next + many (fieldsOf (drop i row)) ≤ length numbers₀)
-    × (next ≤ i)
-    × (sets numbers next (numbersIn (valuesOf msb (fieldsOf (drop i row)) (drop from src)))
-    ≡ sets numbers₀ 0 (numbersIn (valuesOf msb (fieldsOf row) (drop at src))))
+    Untaken true src row numbers₀ (sets numbers₀ 0 (numbersIn (valuesOf msb (fieldsOf row) (drop at src)))) numbers i next from
 
 abbrev μ-loop : tie.MeasureT-loop
 μ-loop src at msb row numbers₀ i₀ next₀ from₀ numbers i next from = length row - i
 
--- ---- places: the function's start, and that of the loop's turn
-abbrev start : tie.At-loop Inv-loop μ-loop → tie.Start Inv-loop μ-loop
-start l = l .before .before .before .before
+abbrev Inv-loop2 : tie.InvT-loop2
+Inv-loop2 src at msb row numbers₀ i₀ next₀ from₀ numbers i next from =
+    Untaken false src row numbers₀ (sets numbers₀ 0 (numbersIn (valuesOf msb (fieldsOf row) (drop at src)))) numbers i next from
 
-abbrev begun : tie.After-takes Inv-loop μ-loop → tie.In-loop Inv-loop μ-loop
+abbrev μ-loop2 : tie.MeasureT-loop2
+μ-loop2 src at msb row numbers₀ i₀ next₀ from₀ numbers i next from = length row - i
+
+-- ---- places: the start of a turn, from behind its last call
+abbrev begun : tie.After-takes Inv-loop μ-loop Inv-loop2 μ-loop2 → tie.In-loop Inv-loop μ-loop Inv-loop2 μ-loop2
 begun c = c .before .before .before .before .before .before .before
 
+abbrev begun2 : tie.After-takes2 Inv-loop μ-loop Inv-loop2 μ-loop2 → tie.In-loop2 Inv-loop μ-loop Inv-loop2 μ-loop2
+begun2 c = c .before .before .before .before .before .before .before
+
+abbrev starts : tie.In-loop Inv-loop μ-loop Inv-loop2 μ-loop2 → tie.Start Inv-loop μ-loop Inv-loop2 μ-loop2
+starts d = d .before .before .before .before .before .before
+
+abbrev starts2 : tie.In-loop2 Inv-loop μ-loop Inv-loop2 μ-loop2 → tie.Start Inv-loop μ-loop Inv-loop2 μ-loop2
+starts2 d = d .before .before .before .before .before .before
+
 -- the code at i has room in what is left
-room : (d : tie.In-loop Inv-loop μ-loop)
-    → let row = start (d .before) .args .row .now in
-    codeWidth (fieldOf (getD row (d .before .loop .i) 0)) ≤ size (fieldsOf (drop (d .before .loop .i) row))
-room d = field-room (start (d .before) .args .row .now) (d .before .loop .i) (d .loop-test .taken)
+room : (d : tie.In-loop Inv-loop μ-loop Inv-loop2 μ-loop2)
+    → let r = starts d .args .row .now in
+    let i = d .before .loop .i in
+    (codeWidth (fieldOf (getD r i 0)) ≤ size (fieldsOf (drop i r))) × (codeTakes (fieldOf (getD r i 0)) ≤ many (fieldsOf (drop i r)))
+room d =
+    let r = starts d .args .row .now in
+    (field-room r (d .before .loop .i) (d .loop-test .taken), takes-room r (d .before .loop .i) (d .loop-test .taken))
 
-read-field-requires : tie.Need-read-field-requires Inv-loop μ-loop
-read-field-requires c κs =
-    let d = c .before .before in
-    let l = d .before .loop in (
-      omega (arith, room d, l .inv .1),
-      omega (arith, takes-room (start (d .before) .args .row .now) (l .i) (d .loop-test .taken), l .inv .2, l .inv .0),
-    )
+room2 : (d : tie.In-loop2 Inv-loop μ-loop Inv-loop2 μ-loop2)
+    → let r = starts2 d .args .row .now in
+    let i = d .before .loop2 .i in
+    (codeWidth (fieldOf (getD r i 0)) ≤ size (fieldsOf (drop i r))) × (codeTakes (fieldOf (getD r i 0)) ≤ many (fieldsOf (drop i r)))
+room2 d =
+    let r = starts2 d .args .row .now in
+    (field-room r (d .before .loop2 .i) (d .loop2-test .taken), takes-room r (d .before .loop2 .i) (d .loop2-test .taken))
 
--- a code that is none: nothing is left
-returns : tie.Need-returns Inv-loop μ-loop
+-- at a dot, and at a field
+returns : tie.Need-returns Inv-loop μ-loop Inv-loop2 μ-loop2
 returns c =
-    let r = c .before .before .before in
-    let d = r .before .before .before in
-    let l = d .before .loop in
-    let a = start (d .before) .args in
-    let gone = r .read-field .ensures .1 .1 (c .if1 .taken) in
-    let none-left = field-none (a .row .now) (l .i) (d .loop-test .taken) gone in
-    rw (r .read-field .ensures .0, gone)
-    (sym (nothing-read _ none-left (a .msb) (l .numbers) (drop (l .from) (a .src .now)) (l .next)) ∙ l .inv .4)
+    let f = c .before .before .before in
+    let d = f .before .before .before in
+    taken-dot (d .before .loop .inv) (d .loop-test .taken) (f .read-field .ensures .0) (f .read-field .ensures .1 .1 (c .if2 .taken))
 
-loop-again : tie.Need-loop-again Inv-loop μ-loop
+loop-again : tie.Need-loop-again Inv-loop μ-loop Inv-loop2 μ-loop2
 loop-again c =
-    let r = c .before .before .before .before in
-    let d = r .before .before .before in
-    let l = d .before .loop in
-    let a = start (d .before) .args in
-    let w = r .read-field .result in
-    let is = r .read-field .ensures .1 .0 in
-    let some-bytes = c .before .if1 .left in
-    let more = d .loop-test .taken in (
-      search needs,
-      omega (arith, l .inv .1, size-step (a .row .now) (l .i) more w is some-bytes),
-      omega (arith, l .inv .2, many-step (a .row .now) (l .i) more w is some-bytes, c .takes .ensures .0),
-      omega (arith, l .inv .3, c .takes .ensures .1),
-      rw (r .read-field .ensures .0, c .takes .ensures .0)
-          (read-step (a .row .now) (l .i) more w is some-bytes (a .msb) (a .src .now) (l .numbers) (l .from) (l .next))
-          ∙ l .inv .4,
-    )
+    let f = c .before .before .before .before in
+    let d = f .before .before .before in
+    taken-on (d .before .loop .inv) (d .loop-test .taken) (f .read-field .ensures .0) (f .read-field .ensures .1 .0) (c .before .if2 .left)
+    (c .takes .ensures .0) (c .takes .ensures .1)
 
--- the row's end
-returns-2 : tie.Need-returns-2 Inv-loop μ-loop
-returns-2 c =
-    let l = c .before .loop in
-    let a = start (c .before) .args in
-    sym (nothing-read _ (row-end (a .row .now) (l .i) (c .loop-test .left)) (a .msb) (l .numbers) (drop (l .from) (a .src .now)) (l .next))
-    ∙ l .inv .4
+-- at a dot, and at a field
+returns-3 : tie.Need-returns-3 Inv-loop μ-loop Inv-loop2 μ-loop2
+returns-3 c =
+    let f = c .before .before .before in
+    let d = f .before .before .before in
+    taken-dot (d .before .loop2 .inv) (d .loop2-test .taken) (f .read-field2 .ensures .0) (f .read-field2 .ensures .1 .1 (c .if3 .taken))
+
+loop2-again : tie.Need-loop2-again Inv-loop μ-loop Inv-loop2 μ-loop2
+loop2-again c =
+    let f = c .before .before .before .before in
+    let d = f .before .before .before in
+    taken-on (d .before .loop2 .inv) (d .loop2-test .taken) (f .read-field2 .ensures .0) (f .read-field2 .ensures .1 .0) (c .before .if3 .left)
+    (c .takes2 .ensures .0) (c .takes2 .ensures .1)
 
 pub read-row-spec : {M : Type 1} → statement M
 read-row-spec =
@@ -92,16 +93,37 @@ read-row-spec =
     (tie.spec
     Inv-loop
     μ-loop
-    (λ c. let s = c .before .before .before in (refl, s .pre .0, omega (arith, s .pre .1), omega arith, refl))
+    Inv-loop2
+    μ-loop2
+    (λ c. let p = c .before .before .before .before .pre in record { same = refl; read = p .0; room = omega (arith, p .1); few = omega arith; rest = rw (c .if1 .taken) })
     (λ c. search needs)
-    read-field-requires
+    (λ c κs.
+    let d = c .before .before in
+    let l = d .before .loop .inv in
+    (omega (arith, room d .0, l .read), omega (arith, room d .1, l .room, l .same)))
     (λ c. search needs)
     returns
     (λ c κs. search needs)
-    (λ c. omega (arith, c .takes .ensures .1))
-    (λ c. omega (arith, room (begun c)))
+    (λ c. omega (arith, c .takes .ensures .1, begun c .before .loop .inv .few))
+    (λ c. let d = begun c in omega (arith, room d .0, d .before .loop .inv .read))
     (λ c. search needs)
     (λ c. search needs)
     loop-again
     (λ c. search needs)
-    returns-2)
+    (λ c. taken-end (c .before .loop .inv) (c .loop-test .left))
+    (λ c. let p = c .before .before .before .before .pre in record { same = refl; read = p .0; room = omega (arith, p .1); few = omega arith; rest = rw (c .if1 .left) })
+    (λ c. search needs)
+    (λ c κs.
+    let d = c .before .before in
+    let l = d .before .loop2 .inv in
+    (omega (arith, room2 d .0, l .read), omega (arith, room2 d .1, l .room, l .same)))
+    (λ c. search needs)
+    returns-3
+    (λ c κs. search needs)
+    (λ c. omega (arith, c .takes2 .ensures .1, begun2 c .before .loop2 .inv .few))
+    (λ c. let d = begun2 c in omega (arith, room2 d .0, d .before .loop2 .inv .read))
+    (λ c. search needs)
+    (λ c. search needs)
+    loop2-again
+    (λ c. search needs)
+    (λ c. taken-end (c .before .loop2 .inv) (c .loop2-test .left)))
