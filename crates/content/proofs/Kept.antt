@@ -38,8 +38,10 @@ kept o t g i e = by-shape (shapeOf (t .kind)) refl
     by-shape (row fs x) s = subst Kept (cc (this (row fs x) s)) (kept-plain o t fs x s g)
     by-shape pairs s =
         let n = upward-least 40 (lengthOf t) _ (head-length o t pairs s (g .head)) in
-        subst Kept (cc (this pairs s)) (kept-ping (contentU o (t .body)) (good-U o t (g .framed) (omega arith) (inner-was o t pairs s (g .inner))))
+        subst Kept (cc (this pairs s))
+        (kept-ping (contentU o (t .body)) (good-U o t (g .framed) (omega arith) (inner-was o t pairs s (g .inner))))
     by-shape words s =
         let n = upward-least 40 (lengthOf t) _ (head-length o t words s (g .head)) in
-        subst Kept (cc (this words s)) (kept-ping (contentC o (t .body)) (good-C o t (g .framed) (omega arith) (inner-was o t words s (g .inner))))
+        subst Kept (cc (this words s))
+        (kept-ping (contentC o (t .body)) (good-C o t (g .framed) (omega arith) (inner-was o t words s (g .inner))))
     by-shape unlisted s = subst Kept (cc (this unlisted s)) (kept-raw o t s g)

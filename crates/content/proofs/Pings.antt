@@ -24,7 +24,8 @@ use Rattle.samples.specs.Words.{Sample, allWords, unwords, pairUp, unpair, Belo
 use Rattle.samples.specs.Words
 use Rattle.samples.specs.Runs.{radix, decode, decodeFrom, fewest, isRun, runLength, values, firstBad, isBad}
 use Rattle.samples.specs.Judging.{most, firstDrop, pairsAt, countAt, wordsAt, pairRules, wordRules}
-use Rattle.samples.proofs.Words.{Within, length-unwords, all-unwords, bytes-unwords, words-below, pair-unpair, length-unpair, within-below, pairs-within, pairs-few}
+use Rattle.samples.proofs.Words.{Within, length-unwords, all-unwords, bytes-unwords, words-below, pair-unpair, length-unpair, within-below}
+use Rattle.samples.proofs.Words.{pairs-within, pairs-few}
 use Rattle.samples.proofs.Runs.{decode-fit}
 use Rattle.samples.proofs.Values.{length-decode, decode-within}
 use Rattle.samples.proofs.Rising.{Rising, rising-all, rises, fit-rising}
@@ -61,7 +62,9 @@ head-of : (o : Bool) (vs : List Value) (r : List ℕ) → Fit pingRow vs → val
 head-of o vs r f =
     let h = encode o pingRow vs in
     let n = length-encode o f in
-    sym (values-take o pingRow (length h) (h ++ r) (omega arith)) ∙ ap (valuesOf o pingRow) (take-at h r (length h) refl) ∙ values-encode o f
+    sym (values-take o pingRow (length h) (h ++ r) (omega arith))
+    ∙ ap (valuesOf o pingRow) (take-at h r (length h) refl)
+    ∙ values-encode o f
 
 -- ---- what a ping holds that can be written
 pub record Good (c : Ping) : Type 0 where
@@ -94,8 +97,13 @@ module _ (o : Bool) (c : Ping) (g : Good c) where
       let m = unwords 4 o (unpair (c .samples)) in
       λ i. record {
         head = head-of o (c .head) (m ++ t) (g .head) i;
-        samples = (ap pairUp (middle-of o h m t 18 length-h length-t ∙ all-unwords 4 (lit< tt) o (unpair (c .samples)) (within-below (256 ^ 4) (c .samples) (g .within))) ∙ pair-unpair (c .samples)) i;
-        attr = (ap (attributeIn o) (sym (append-assoc h m t)) ∙ attribute-of o (h ++ m) t length-t ∙ numOf-bytesOf o 4 (c .attr) (g .attr)) i;
+        samples =
+            (ap pairUp (middle-of o h m t 18 length-h length-t
+            ∙ all-unwords 4 (lit< tt) o (unpair (c .samples)) (within-below (256 ^ 4) (c .samples) (g .within)))
+            ∙ pair-unpair (c .samples))
+            i;
+        attr =
+            (ap (attributeIn o) (sym (append-assoc h m t)) ∙ attribute-of o (h ++ m) t length-t ∙ numOf-bytesOf o 4 (c .attr) (g .attr)) i;
       }
 
   module _ (ws : List ℕ) (w : Below (256 ^ 4) ws) where
@@ -111,7 +119,9 @@ module _ (o : Bool) (c : Ping) (g : Good c) where
     unfolding dataC h t n
     words-C =
         let m = unwords 4 o ws in
-        ap (wordsIn headC o) (sym (append-assoc h n (m ++ t))) ∙ middle-of o (h ++ n) m t 22 length-n length-t ∙ all-unwords 4 (lit< tt) o ws w
+        ap (wordsIn headC o) (sym (append-assoc h n (m ++ t)))
+        ∙ middle-of o (h ++ n) m t 22 length-n length-t
+        ∙ all-unwords 4 (lit< tt) o ws w
 
     pub count-C : countIn o (dataC o c ws) ≡ length (c .samples)
     unfolding countIn dataC h t n
@@ -137,26 +147,38 @@ module _ (o : Bool) (c : Ping) (g : Good c) where
     unfolding dataC h t n
     length-C =
         let m = unwords 4 o ws in
-        length-append h (n ++ (m ++ t)) ∙ omega (arith, length-append n (m ++ t), length-append m t, length-h, length-t, length-bytesOf o 4 (length (c .samples)), length-unwords 4 o ws)
+        length-append h (n ++ (m ++ t))
+        ∙ omega (
+          arith,
+          length-append n (m ++ t),
+          length-append m t,
+          length-h,
+          length-t,
+          length-bytesOf o 4 (length (c .samples)),
+          length-unwords 4 o ws,
+        )
 
     pub bytes-C : Bytes (dataC o c ws)
     unfolding dataC h t n
     bytes-C =
         let m = unwords 4 o ws in
         bytes-append h (n ++ (m ++ t)) (bytes-encode o (g .head) (g .lettered))
-        (bytes-append n (m ++ t) (bytes-ordered o _ (bytes-lows 4 (length (c .samples)))) (bytes-append m t (bytes-unwords 4 o ws) (bytes-ordered o _ (bytes-lows 4 (c .attr)))))
+        (bytes-append n (m ++ t) (bytes-ordered o _ (bytes-lows 4 (length (c .samples))))
+        (bytes-append m t (bytes-unwords 4 o ws) (bytes-ordered o _ (bytes-lows 4 (c .attr)))))
 
   pub length-U : length (dataU o c) ≡ 22 + 8 * length (c .samples)
   unfolding dataU h t
   length-U =
       let m = unwords 4 o (unpair (c .samples)) in
-      length-append h (m ++ t) ∙ omega (arith, length-append m t, length-h, length-t, length-unwords 4 o (unpair (c .samples)), length-unpair (c .samples))
+      length-append h (m ++ t)
+      ∙ omega (arith, length-append m t, length-h, length-t, length-unwords 4 o (unpair (c .samples)), length-unpair (c .samples))
 
   pub bytes-U : Bytes (dataU o c)
   unfolding dataU h t
   bytes-U =
       let m = unwords 4 o (unpair (c .samples)) in
-      bytes-append h (m ++ t) (bytes-encode o (g .head) (g .lettered)) (bytes-append m t (bytes-unwords 4 o (unpair (c .samples))) (bytes-ordered o _ (bytes-lows 4 (c .attr))))
+      bytes-append h (m ++ t) (bytes-encode o (g .head) (g .lettered))
+      (bytes-append m t (bytes-unwords 4 o (unpair (c .samples))) (bytes-ordered o _ (bytes-lows 4 (c .attr))))
 
 -- ---- what a sound ping holds
 module _ (o : Bool) (t : Tup) (g : Framed t) (long : 30 ≤ length (t .body)) where
@@ -174,12 +196,16 @@ module _ (o : Bool) (t : Tup) (g : Framed t) (long : 30 ≤ length (t .body)) wh
       rw n at (numOf-bound o d (bytes-drop (length (t .body) - 4) (t .body) (g .bytes)))
 
   -- the words between a header of a bytes and the attribute
-  inside : (a : ℕ) → a + 4 ≤ length (t .body) → Below (256 ^ 4) (wordsIn a o (t .body)) × (length (wordsIn a o (t .body)) ≡ (length (t .body) - (a + 4)) / 4)
+  inside : (a : ℕ) → a + 4 ≤ length (t .body)
+      → Below (256 ^ 4) (wordsIn a o (t .body)) × (length (wordsIn a o (t .body)) ≡ (length (t .body) - (a + 4)) / 4)
   unfolding allWords wordsIn
   inside a h =
       let d = take (length (t .body) - (a + 4)) (drop a (t .body)) in
-      let n : length d ≡ length (t .body) - (a + 4) = length-take-le (length (t .body) - (a + 4)) (drop a (t .body)) (simp length-drop (omega arith)) in
-      let r = words-below 4 (length d / 4) o d (bytes-take (length (t .body) - (a + 4)) (drop a (t .body)) (bytes-drop a (t .body) (g .bytes))) (omega arith) in
+      let n : length d ≡ length (t .body) - (a + 4) =
+      length-take-le (length (t .body) - (a + 4)) (drop a (t .body)) (simp length-drop (omega arith)) in
+      let r =
+      words-below 4 (length d / 4) o d (bytes-take (length (t .body) - (a + 4)) (drop a (t .body)) (bytes-drop a (t .body) (g .bytes)))
+      (omega arith) in
       (r .0, r .1 ∙ ap (λ (k : ℕ). k / 4) n)
 
   -- a U-32 ping never holds more than 32,764 values
@@ -227,10 +253,20 @@ module _ (c : Ping) (g : Good c) where
       let n = length-U false c g in
       let f = g .few in
       record {
-        framed = record { kind = lit< tt; bytes = bytes-U false c g; allowed = allowed-of (length d + 10) (omega arith) (omega arith) (omega arith) };
-        head = head-fine false v pairs refl (rw (le-leb 40 (length d + 10) (omega arith), eq-eqb ((length d + 10 - 40) % 8) 0 (omega arith))) refl;
-        inner = inner-fine false v pairs refl (passed (pairRules (contentU false d .samples))
-            (ap (λ (p : Ping). ltb (firstDrop 0 (p .samples)) (length (p .samples))) (content-U false c g) ∙ le-ltb (firstDrop 0 (c .samples)) (length (c .samples)) (omega (arith, rising-all (c .samples) 0 (g .rising))), tt));
+        framed =
+            record {
+              kind = lit< tt;
+              bytes = bytes-U false c g;
+              allowed = allowed-of (length d + 10) (omega arith) (omega arith) (omega arith);
+            };
+        head =
+            head-fine false v pairs refl (rw (le-leb 40 (length d + 10) (omega arith), eq-eqb ((length d + 10 - 40) % 8) 0 (omega arith)))
+            refl;
+        inner = inner-fine false v pairs refl (passed (pairRules (contentU false d .samples)) (
+          ap (λ (p : Ping). ltb (firstDrop 0 (p .samples)) (length (p .samples))) (content-U false c g)
+              ∙ le-ltb (firstDrop 0 (c .samples)) (length (c .samples)) (omega (arith, rising-all (c .samples) 0 (g .rising))),
+          tt,
+        ));
       }
 
   item-U : itemOf false (tupleU false c) ≡ some (ping c)
@@ -257,10 +293,20 @@ module _ (c : Ping) (g : Good c) where
         let v : Tup = record { kind = 10010; body = d } in
         let n : length d ≡ 30 = length-C false c g one below-one ∙ unfold one in refl in
         record {
-          framed = record { kind = lit< tt; bytes = bytes-C false c g one below-one; allowed = allowed-of (length d + 10) (omega arith) (omega arith) (omega arith) };
-          head = head-fine false v words refl (rw (le-leb 40 (length d + 10) (omega arith), eq-eqb ((length d + 10 - 40) % 4) 0 (omega arith))) refl;
+          framed =
+              record {
+                kind = lit< tt;
+                bytes = bytes-C false c g one below-one;
+                allowed = allowed-of (length d + 10) (omega arith) (omega arith) (omega arith);
+              };
+          head =
+              head-fine false v words refl (rw (le-leb 40 (length d + 10) (omega arith), eq-eqb ((length d + 10 - 40) % 4) 0 (omega arith)))
+              refl;
           inner = inner-fine false v words refl
-              (ap₂ (λ (k : ℕ) (ws : List ℕ). judged (wordRules k ws)) (count-C false c g one below-one ∙ ap length e) (words-C false c g one below-one) ∙ unfold values firstBad isRun isBad one in refl);
+              (ap₂ (λ (k : ℕ) (ws : List ℕ). judged (wordRules k ws)) (count-C false c g one below-one ∙ ap length e)
+              (words-C false c g one below-one)
+              ∙ unfold values firstBad isRun isBad one in
+              refl);
         }
 
     item-C : itemOf false (record { kind = 10010; body = dataC false c one }) ≡ some (ping c)
@@ -274,9 +320,16 @@ module _ (c : Ping) (g : Good c) where
     where
       by-samples : (s : List Sample) → c .samples ≡ s → Kept (ping c)
       by-samples [] e =
-          let f : pingForm (c .samples) c ≡ record { kind = 10010; body = dataC false c one } = ap (λ (s : List Sample). pingForm s c) e ∙ form-C e in
-          record { sound = subst (Sound false) (sym f) (sound-C e); item = subst (λ (t : Tup). itemOf false t ≡ some (ping c)) (sym f) (item-C e) }
+          let f : pingForm (c .samples) c ≡ record { kind = 10010; body = dataC false c one } = ap (λ (s : List Sample). pingForm s c) e
+          ∙ form-C e in
+          record {
+            sound = subst (Sound false) (sym f) (sound-C e);
+            item = subst (λ (t : Tup). itemOf false t ≡ some (ping c)) (sym f) (item-C e);
+          }
       by-samples (x ∷ s) e =
           let any : 0 < length (c .samples) = omega (arith, ap length e) in
           let f : pingForm (c .samples) c ≡ tupleU false c = ap (λ (s : List Sample). pingForm s c) e in
-          record { sound = subst (Sound false) (sym f) (sound-U any); item = subst (λ (t : Tup). itemOf false t ≡ some (ping c)) (sym f) item-U }
+          record {
+            sound = subst (Sound false) (sym f) (sound-U any);
+            item = subst (λ (t : Tup). itemOf false t ≡ some (ping c)) (sym f) item-U;
+          }

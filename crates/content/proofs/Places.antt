@@ -11,12 +11,13 @@ use lib.Dec.{leb, eqb}
 use lib.ListN.{length, take, drop, length-drop}
 use lib.Seq.{drop-drop, take-all, length-take-le}
 use Rattle.order.specs.Order.{numOf}
-use Rattle.rules.proofs.Laws.{by-rules}
+use Rattle.rules.proofs.Laws.{_⊳_, by-rules}
 use Rattle.layout.specs.declared.Kind.{Kind}
 use Rattle.layout.specs.declared.Kind.the-variants.{Signature, Sounder, Channel, Attitude, Threshold, PingU, PingC, Unlisted}
 use Rattle.layout.specs.Fields.{Field, known, size}
 use Rattle.layout.specs.Types
-use Rattle.layout.specs.Types.{Shape, indexed, row, pairs, words, unlisted, classes, inClass, kindRules, kindOf, listingOf, shapeOf, lengthsOf, fitting, pingRow}
+use Rattle.layout.specs.Types.{Shape, indexed, row, pairs, words, unlisted, classes, inClass, kindRules, kindOf, listingOf, shapeOf}
+use Rattle.layout.specs.Types.{lengthsOf, fitting, pingRow}
 use Rattle.turning.specs.Rows.{Value, valuesOf}
 use Rattle.turning.proofs.Contents.{valuesAt, values-at, values-take, within-take}
 use Rattle.frame.specs.Frames.{Tup, lengthOf, sizeAt, kindAt, tupAt}
@@ -30,7 +31,8 @@ use Rattle.samples.specs.Judging.{pairRules, wordRules, judgedPairs, judgedWord
 use Rattle.layout.specs.declared.Verdict.the-variants.{Fine}
 use Rattle.layout.specs.Answers.{judged}
 use Rattle.content.specs.Pings.{Ping, wordsIn, attributeIn, countIn, contentU, contentC}
-use Rattle.content.specs.Items.{ping, rowIn, itemBy, itemOf, identifiedBy, innerBy, innerRules, numberAt, unless, linkBy, digestOf, digestItem, digest}
+use Rattle.content.specs.Items.{ping, rowIn, itemBy, itemOf, identifiedBy, innerBy, innerRules, numberAt, unless, linkBy, digestOf}
+use Rattle.content.specs.Items.{digestItem, digest}
 
 -- ---- what a shape tells of the type code
 abbrev pub Shaped : ℕ → Shape → Type 0
@@ -44,8 +46,13 @@ pub shaped : (k : ℕ) → Shaped k (shapeOf k)
 unfolding kindOf listingOf
 shaped k =
     by-rules (λ (q : Kind). Shaped k (listingOf q .shape)) (kindRules k) Unlisted (
-      λ e. unfold inClass classes in (leb-true 65406 k (both-true (leb 65406 k) (leb k 65515) e .0), leb-true k 65515 (both-true (leb 65406 k) (leb k 65515) e .1)),
-      λ _. (λ _. tt, λ n. (λ _. tt, λ _. (λ _. tt, λ _. (λ _. tt, λ _. (λ _. tt, λ _. (λ _. tt, λ _. (λ _. tt, λ _. (λ _. tt, λ _. (λ e. eqb-true k 10000 e, λ _. (λ e. eqb-true k 10010 e, λ _. (λ _. tt, λ _. (λ _. tt, λ _. (λ _. tt, λ m. (n, m)))))))))))))),
+      λ e. unfold inClass classes in
+          let b = both-true (leb 65406 k) (leb k 65515) e in (leb-true 65406 k (b .0), leb-true k 65515 (b .1)),
+      λ _. (
+        λ _. tt,
+        λ n. (λ _. tt) ⊳ (λ _. tt) ⊳ (λ _. tt) ⊳ (λ _. tt) ⊳ (λ _. tt) ⊳ (λ _. tt) ⊳ (λ _. tt)
+            ⊳ (λ e. eqb-true k 10000 e) ⊳ (λ e. eqb-true k 10010 e) ⊳ (λ _. tt) ⊳ (λ _. tt) ⊳ (λ _. tt, λ m. (n, m)),
+      ),
     )
 
 above : (a b k : ℕ) → b < k → leb a k && leb k b ≡ false
@@ -104,7 +111,9 @@ module _ (o : Bool) (f : List ℕ) (at n : ℕ) (w : Whole o f at n) where
   pub length-body : length (tupAt o (drop at f) .body) ≡ n - 10
   unfolding t m
   length-body =
-      ap length body ∙ length-take-le m (drop (at + 6) f) (simp length-drop (omega (arith, w .fits, w .long, size-n))) ∙ omega (arith, size-n)
+      ap length body
+      ∙ length-take-le m (drop (at + 6) f) (simp length-drop (omega (arith, w .fits, w .long, size-n)))
+      ∙ omega (arith, size-n)
 
   pub length-place : lengthOf (tupAt o (drop at f)) ≡ n
   length-place = omega (arith, length-body, w .long)
@@ -156,16 +165,24 @@ module _ (o : Bool) (f : List ℕ) (at n : ℕ) (w : Whole o f at n) where
       ∙ ap (λ (x : Kind). linkBy x vs) e
       ∙ ap (linkBy q) (values-place (rowIn fs none 0) h)
 
-  pub link-sounder : kindOf (kindAt o (drop at f)) ≡ Sounder → n ≡ 72 → digest o (tupAt o (drop at f)) .link ≡ Links.sounder (record { doc = record { 0 = fieldAt o f at 4 8 }; says = fieldAt o f at 2 6 })
+  pub link-sounder : kindOf (kindAt o (drop at f)) ≡ Sounder → n ≡ 72
+      → digest o (tupAt o (drop at f)) .link ≡ Links.sounder (record { doc = record { 0 = fieldAt o f at 4 8 }; says = fieldAt o f at 2 6 })
   unfolding t k listingOf
   link-sounder e h = row-link Sounder _ e refl (omega arith)
 
   pub link-channel : kindOf (kindAt o (drop at f)) ≡ Channel → n ≡ 108
-      → digest o (tupAt o (drop at f)) .link ≡ Links.channel (record { id = record { 0 = fieldAt o f at 2 6 }; parent = record { 0 = fieldAt o f at 4 8 }; rate = fieldAt o f at 4 12; samples = fieldAt o f at 2 16 })
+      → digest o (tupAt o (drop at f)) .link
+      ≡ Links.channel (record {
+        id = record { 0 = fieldAt o f at 2 6 };
+        parent = record { 0 = fieldAt o f at 4 8 };
+        rate = fieldAt o f at 4 12;
+        samples = fieldAt o f at 2 16;
+      })
   unfolding t k listingOf
   link-channel e h = row-link Channel _ e refl (omega arith)
 
-  pub link-threshold : kindOf (kindAt o (drop at f)) ≡ Threshold → n ≡ 44 → digest o (tupAt o (drop at f)) .link ≡ Links.names (record { 0 = fieldAt o f at 2 12 })
+  pub link-threshold : kindOf (kindAt o (drop at f)) ≡ Threshold → n ≡ 44
+      → digest o (tupAt o (drop at f)) .link ≡ Links.names (record { 0 = fieldAt o f at 2 12 })
   unfolding t k listingOf
   link-threshold e h = row-link Threshold _ e refl (omega arith)
 
@@ -179,19 +196,25 @@ module _ (o : Bool) (f : List ℕ) (at n : ℕ) (w : Whole o f at n) where
   unfolding t
   header h = ap (λ (vs : List Value). numberAt vs 2) (values-place pingRow (omega arith))
 
-  pub link-ping-U : kindOf (kindAt o (drop at f)) ≡ PingU → 40 ≤ n → digest o (tupAt o (drop at f)) .link ≡ Links.names (record { 0 = fieldAt o f at 2 12 })
+  pub link-ping-U : kindOf (kindAt o (drop at f)) ≡ PingU → 40 ≤ n
+      → digest o (tupAt o (drop at f)) .link ≡ Links.names (record { 0 = fieldAt o f at 2 12 })
   unfolding itemOf digestOf contentU listingOf t
-  link-ping-U e h = ap (λ (x : Kind). digestItem (itemBy (listingOf x .shape) o t) .link) e ∙ ap (λ (c : ℕ). Links.names (record { 0 = c })) (header h)
+  link-ping-U e h =
+      ap (λ (x : Kind). digestItem (itemBy (listingOf x .shape) o t) .link) e ∙ ap (λ (c : ℕ). Links.names (record { 0 = c })) (header h)
 
-  pub link-ping-C : kindOf (kindAt o (drop at f)) ≡ PingC → 40 ≤ n → digest o (tupAt o (drop at f)) .link ≡ Links.names (record { 0 = fieldAt o f at 2 12 })
+  pub link-ping-C : kindOf (kindAt o (drop at f)) ≡ PingC → 40 ≤ n
+      → digest o (tupAt o (drop at f)) .link ≡ Links.names (record { 0 = fieldAt o f at 2 12 })
   unfolding itemOf digestOf contentC listingOf t
-  link-ping-C e h = ap (λ (x : Kind). digestItem (itemBy (listingOf x .shape) o t) .link) e ∙ ap (λ (c : ℕ). Links.names (record { 0 = c })) (header h)
+  link-ping-C e h =
+      ap (λ (x : Kind). digestItem (itemBy (listingOf x .shape) o t) .link) e ∙ ap (λ (c : ℕ). Links.names (record { 0 = c })) (header h)
 
   -- ---- its own rules
-  pub fits-place : fitting (lengthsOf (tupAt o (drop at f) .kind)) (lengthOf (tupAt o (drop at f))) ≡ fitting (listingOf (kindOf (kindAt o (drop at f))) .length) n
+  pub fits-place : fitting (lengthsOf (tupAt o (drop at f) .kind)) (lengthOf (tupAt o (drop at f)))
+      ≡ fitting (listingOf (kindOf (kindAt o (drop at f))) .length) n
   fits-place = ap (fitting (lengthsOf (kindAt o (drop at f)))) length-place
 
-  pub identifier-place : kindOf (kindAt o (drop at f)) ≡ Signature → n ≡ 24 → identifiedBy (shapeOf (kindAt o (drop at f))) o (tupAt o (drop at f)) ≡ known (fieldAt o f at 2 6)
+  pub identifier-place : kindOf (kindAt o (drop at f)) ≡ Signature → n ≡ 24
+      → identifiedBy (shapeOf (kindAt o (drop at f))) o (tupAt o (drop at f)) ≡ known (fieldAt o f at 2 6)
   unfolding listingOf t
   identifier-place e h =
       ap (λ (x : Kind). identifiedBy (listingOf x .shape) o t) e
@@ -200,14 +223,18 @@ module _ (o : Bool) (f : List ℕ) (at n : ℕ) (w : Whole o f at n) where
 
   -- the words of a ping stand behind its header
   words-U : 40 ≤ n → wordsIn 18 o (t .body) ≡ allWords 4 o (take (n - 32) (drop (at + 24) f))
-  words-U h = let z : n - 14 - 18 ≡ n - 32 = omega arith in words-place 18 (omega arith) ∙ ap (λ (i : ℕ). allWords 4 o (take i (drop (at + 24) f))) z
+  words-U h = let z : n - 14 - 18 ≡ n - 32 = omega arith in
+      words-place 18 (omega arith) ∙ ap (λ (i : ℕ). allWords 4 o (take i (drop (at + 24) f))) z
 
   words-C : 40 ≤ n → wordsIn 22 o (t .body) ≡ allWords 4 o (take (n - 36) (drop (at + 28) f))
-  words-C h = let z : n - 14 - 22 ≡ n - 36 = omega arith in words-place 22 (omega arith) ∙ ap (λ (i : ℕ). allWords 4 o (take i (drop (at + 28) f))) z
+  words-C h = let z : n - 14 - 22 ≡ n - 36 = omega arith in
+      words-place 22 (omega arith) ∙ ap (λ (i : ℕ). allWords 4 o (take i (drop (at + 28) f))) z
 
-  pub inner-U : kindOf (kindAt o (drop at f)) ≡ PingU → 40 ≤ n → judged (innerRules o (tupAt o (drop at f))) ≡ judgedPairs o (take (n - 32) (drop (at + 24) f))
+  pub inner-U : kindOf (kindAt o (drop at f)) ≡ PingU → 40 ≤ n
+      → judged (innerRules o (tupAt o (drop at f))) ≡ judgedPairs o (take (n - 32) (drop (at + 24) f))
   unfolding listingOf contentU judgedPairs t
-  inner-U e h = ap (λ (x : Kind). judged (innerBy (listingOf x .shape) o t)) e ∙ ap (λ (ws : List ℕ). judged (pairRules (pairUp ws))) (words-U h)
+  inner-U e h =
+      ap (λ (x : Kind). judged (innerBy (listingOf x .shape) o t)) e ∙ ap (λ (ws : List ℕ). judged (pairRules (pairUp ws))) (words-U h)
 
   pub inner-C : kindOf (kindAt o (drop at f)) ≡ PingC → 40 ≤ n
       → judged (innerRules o (tupAt o (drop at f))) ≡ judgedWords o (fieldAt o f at 4 24) (take (n - 36) (drop (at + 28) f))
@@ -218,12 +245,14 @@ module _ (o : Bool) (f : List ℕ) (at n : ℕ) (w : Whole o f at n) where
 
   -- and say its samples
   pub samples-U : kindOf (kindAt o (drop at f)) ≡ PingU → 40 ≤ n
-      → (q : Ping) × (itemOf o (tupAt o (drop at f)) ≡ some (ping q)) × (q .samples ≡ pairUp (allWords 4 o (take (n - 32) (drop (at + 24) f))))
+      → (q : Ping) × (itemOf o (tupAt o (drop at f)) ≡ some (ping q))
+      × (q .samples ≡ pairUp (allWords 4 o (take (n - 32) (drop (at + 24) f))))
   unfolding listingOf itemOf contentU t
   samples-U e h = (contentU o (t .body), ap (λ (x : Kind). itemBy (listingOf x .shape) o t) e, ap pairUp (words-U h))
 
   pub samples-C : kindOf (kindAt o (drop at f)) ≡ PingC → 40 ≤ n
-      → (q : Ping) × (itemOf o (tupAt o (drop at f)) ≡ some (ping q)) × (q .samples ≡ decode radix (allWords 4 o (take (n - 36) (drop (at + 28) f))))
+      → (q : Ping) × (itemOf o (tupAt o (drop at f)) ≡ some (ping q))
+      × (q .samples ≡ decode radix (allWords 4 o (take (n - 36) (drop (at + 28) f))))
   unfolding listingOf itemOf contentC t
   samples-C e h = (contentC o (t .body), ap (λ (x : Kind). itemBy (listingOf x .shape) o t) e, ap (decode radix) (words-C h))
 
@@ -233,13 +262,17 @@ module _ (o : Bool) (t : Tup) where
   unfolding kindOf listingOf
   identified-other a =
       by-rules (λ (q : Kind). identifiedBy (listingOf q .shape) o t ≡ true) (kindRules (t .kind)) Unlisted
-      (λ _. refl, λ _. (λ e. absurd (a (eqb-true (t .kind) 65535 e)), λ _. (λ _. refl, λ _. (λ _. refl, λ _. (λ _. refl, λ _. (λ _. refl, λ _. (λ _. refl, λ _. (λ _. refl, λ _. (λ _. refl, λ _. (λ _. refl, λ _. (λ _. refl, λ _. (λ _. refl, λ _. (λ _. refl, λ _. (λ _. refl, λ _. refl))))))))))))))
+      ((λ _. refl) ⊳ (λ e. absurd (a (eqb-true (t .kind) 65535 e))) ⊳ (λ _. refl) ⊳ (λ _. refl) ⊳ (λ _. refl)
+      ⊳ (λ _. refl) ⊳ (λ _. refl) ⊳ (λ _. refl) ⊳ (λ _. refl) ⊳ (λ _. refl) ⊳ (λ _. refl) ⊳ (λ _. refl) ⊳ (λ _. refl)
+      ⊳ (λ _. refl) ⊳ refl)
 
   pub inner-other : (t .kind ≡ 10000 → ⊥) → (t .kind ≡ 10010 → ⊥) → judged (innerRules o t) ≡ Fine
   unfolding kindOf listingOf
   inner-other a b =
       by-rules (λ (q : Kind). judged (innerBy (listingOf q .shape) o t) ≡ Fine) (kindRules (t .kind)) Unlisted
-      (λ _. refl, λ _. (λ _. refl, λ _. (λ _. refl, λ _. (λ _. refl, λ _. (λ _. refl, λ _. (λ _. refl, λ _. (λ _. refl, λ _. (λ _. refl, λ _. (λ _. refl, λ _. (λ e. absurd (a (eqb-true (t .kind) 10000 e)), λ _. (λ e. absurd (b (eqb-true (t .kind) 10010 e)), λ _. (λ _. refl, λ _. (λ _. refl, λ _. (λ _. refl, λ _. refl))))))))))))))
+      ((λ _. refl) ⊳ (λ _. refl) ⊳ (λ _. refl) ⊳ (λ _. refl) ⊳ (λ _. refl) ⊳ (λ _. refl) ⊳ (λ _. refl) ⊳ (λ _. refl)
+      ⊳ (λ _. refl) ⊳ (λ e. absurd (a (eqb-true (t .kind) 10000 e))) ⊳ (λ e. absurd (b (eqb-true (t .kind) 10010 e)))
+      ⊳ (λ _. refl) ⊳ (λ _. refl) ⊳ (λ _. refl) ⊳ refl)
 
   -- codes that name no other tuple
   pub record Alone : Type 0 where
@@ -254,7 +287,11 @@ module _ (o : Bool) (t : Tup) where
   unfolding kindOf
   alone-kind a vs =
       by-rules (λ (q : Kind). linkBy q vs ≡ Links.none) (kindRules (t .kind)) Unlisted
-      (λ _. refl, λ _. (λ _. refl, λ _. (λ e. absurd (a .sounder (eqb-true (t .kind) 100 e)), λ _. (λ e. absurd (a .channel (eqb-true (t .kind) 1000 e)), λ _. (λ _. refl, λ _. (λ _. refl, λ _. (λ e. absurd (a .attitude (eqb-true (t .kind) 40 e)), λ _. (λ e. absurd (a .threshold (eqb-true (t .kind) 10100 e)), λ _. (λ _. refl, λ _. (λ _. refl, λ _. (λ _. refl, λ _. (λ _. refl, λ _. (λ _. refl, λ _. (λ _. refl, λ _. refl))))))))))))))
+      ((λ _. refl) ⊳ (λ _. refl) ⊳ (λ e. absurd (a .sounder (eqb-true (t .kind) 100 e)))
+      ⊳ (λ e. absurd (a .channel (eqb-true (t .kind) 1000 e))) ⊳ (λ _. refl) ⊳ (λ _. refl)
+      ⊳ (λ e. absurd (a .attitude (eqb-true (t .kind) 40 e)))
+      ⊳ (λ e. absurd (a .threshold (eqb-true (t .kind) 10100 e))) ⊳ (λ _. refl) ⊳ (λ _. refl) ⊳ (λ _. refl)
+      ⊳ (λ _. refl) ⊳ (λ _. refl) ⊳ (λ _. refl) ⊳ refl)
 
   pub link-alone : Alone → digest o t .link ≡ Links.none
   unfolding itemOf digestOf

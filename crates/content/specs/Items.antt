@@ -7,7 +7,8 @@ use lib.Dec.{eqb}
 use lib.ListN.{length, getD}
 use Rattle.rules.specs.Rules.{Rule, _⇒_}
 use Rattle.layout.specs.declared.Kind.{Kind}
-use Rattle.layout.specs.declared.Kind.the-variants.{Signature, Sounder, Channel, Position, Navigation, Attitude, Threshold, Event, PingU, PingC, RunStart, RunEnd, FileEnd, Index, Unlisted}
+use Rattle.layout.specs.declared.Kind.the-variants.{Signature, Sounder, Channel, Position, Navigation, Attitude, Threshold, Event, PingU}
+use Rattle.layout.specs.declared.Kind.the-variants.{PingC, RunStart, RunEnd, FileEnd, Index, Unlisted}
 use Rattle.layout.specs.Fields.{Field, s, c, size}
 use Rattle.layout.specs.Types
 use Rattle.layout.specs.Types.{Shape, indexed, row, pairs, words, unlisted, kindOf, shapeOf, lengthsOf, fitting, inClass}
@@ -87,7 +88,13 @@ unless false l = l
 abbrev pub linkBy : Kind → List Value → Link
 linkBy Signature vs = Links.none
 linkBy Sounder vs = Links.sounder (record { doc = record { 0 = numberAt vs 1 }; says = numberAt vs 0 })
-linkBy Channel vs = Links.channel (record { id = record { 0 = numberAt vs 0 }; parent = record { 0 = numberAt vs 1 }; rate = numberAt vs 2; samples = numberAt vs 3 })
+linkBy Channel vs =
+    Links.channel (record {
+      id = record { 0 = numberAt vs 0 };
+      parent = record { 0 = numberAt vs 1 };
+      rate = numberAt vs 2;
+      samples = numberAt vs 3;
+    })
 linkBy Position vs = Links.none
 linkBy Navigation vs = Links.none
 linkBy Attitude vs = unless (eqb (numberAt vs 2) 65535) (Links.names (record { 0 = numberAt vs 2 }))
@@ -117,7 +124,16 @@ classed k signs ends l =
 -- a ping names the channel of its header, behind time fraction and time
 unfoldable pub digestOf : Item → Digest
 digestOf (plain k vs) = classed k (eqb k 65535) (eqb k 65534) (linkBy (kindOf k) vs)
-digestOf (ping p) = record { signs = false; ends = false; position = false; sounder = false; channel = false; ping = true; link = Links.names (record { 0 = numberAt (p .head) 2 }) }
+digestOf (ping p) =
+    record {
+      signs = false;
+      ends = false;
+      position = false;
+      sounder = false;
+      channel = false;
+      ping = true;
+      link = Links.names (record { 0 = numberAt (p .head) 2 });
+    }
 digestOf (raw k d) = classed k false false Links.none
 
 abbrev pub digestItem : Option Item → Digest

@@ -71,7 +71,8 @@ saying-kept g ((t ⇒ a) ∷ rs) h = (h .0, saying-kept g rs (h .1))
 module _ (rs : List (Rule Answer)) (d : Answer) (t : isAccepted d ≡ true) where
   pub refused-by : {c p : ℕ} → (firstOf rs d ≡ Refused c p) ↔ Broken rs (Refused c p)
   refused-by = (
-    λ e. ⊎-elim (λ k. absurd (true≢false (sym t ∙ ap isAccepted (sym (all-pass rs d k) ∙ e)))) (λ b. subst (Broken rs) (sym (broken-first d (b .1)) ∙ e) (b .1)) (kept-or-broken rs),
+    λ e. ⊎-elim (λ k. absurd (true≢false (sym t ∙ ap isAccepted (sym (all-pass rs d k) ∙ e))))
+        (λ b. subst (Broken rs) (sym (broken-first d (b .1)) ∙ e) (b .1)) (kept-or-broken rs),
     λ b. broken-first d b,
   )
 

@@ -43,7 +43,8 @@ pub record Few (ss : List Sounder) (cs : List Channel) : Type 0 where
   pub sounders : length ss ≤ mostSounders
   pub channels : length cs ≤ mostChannels
 
-few-more : (ss : List Sounder) (cs : List Channel) (l : Link) → Few ss cs → judged (links.rulesAmong ss cs l) ≡ Fine → Few (ss ++ newSounders l) (cs ++ newChannels l)
+few-more : (ss : List Sounder) (cs : List Channel) (l : Link) → Few ss cs → judged (links.rulesAmong ss cs l) ≡ Fine
+    → Few (ss ++ newSounders l) (cs ++ newChannels l)
 few-more ss cs links.none w e = rw (append-nil ss, append-nil cs) w
 few-more ss cs (links.sounder s) w e =
     let r = leb-false mostSounders (length ss) (passes (links.rulesAmong ss cs (links.sounder s)) e .1 .0) in
@@ -71,7 +72,8 @@ length-digests o (t ∷ ts) = ap suc (length-digests o ts)
 one-most : (k : Links) (l : Link) → Few (k .sounders) (k .channels) → compares k l ≤ mostChannels
 one-most k l w = compares-most mostChannels (k .sounders) (k .channels) (omega (arith, w .sounders)) (w .channels) l
 
-all-most : {first : Bool} {k : Links} {ds : List Digest} → Linked first k ds → Few (k .sounders) (k .channels) → inDigests k ds ≤ mostChannels * length ds
+all-most : {first : Bool} {k : Links} {ds : List Digest} → Linked first k ds → Few (k .sounders) (k .channels)
+    → inDigests k ds ≤ mostChannels * length ds
 unfolding inDigests
 all-most (last {s = k} {d = d} g j h c n) w = omega (arith, one-most k (d .link) w)
 all-most (next {s = k} {d = d} {ds = ds} g j h l) w =
@@ -101,7 +103,11 @@ normalised f room n b e = by-answer (checkFile f) refl e
         let c = clear isAccepted (normalRules f room) (Accepted (normalCounts f i)) (Accepted n) (refl, (refl, (refl, tt))) q refl in
         let z : normalCounts f i ≡ n = cc (c .1) in
         let k = checked f i b h in
-        record { is = ap (λ (m : Counts). m .compared) (sym z) ∙ k .is; most = omega (arith, k .most, ap (λ (m : Counts). m .compared) z, ap (λ (m : Counts). m .tuples) z) }
+        record {
+          is = ap (λ (m : Counts). m .compared) (sym z)
+              ∙ k .is;
+          most = omega (arith, k .most, ap (λ (m : Counts). m .compared) z, ap (λ (m : Counts). m .tuples) z);
+        }
 
 -- ---- and so does asking
 module _ (f : List ℕ) (p cp r k dp : ℕ) (c : SoftwareChannel) (d : DocumentId) (n : Counts) where

@@ -54,8 +54,10 @@ module _ (o : Bool) (f : List ℕ) (p : ℕ) where
   further : (at : ℕ) (x : Tup) (xs : List Tup) → Spot (at + lengthOf x) xs → Spot at (x ∷ xs)
   further at x xs s =
       let a = s .0 in
-      let size = length-append (frame o x) (frames o (a .before)) in
-      (record { before = x ∷ a .before; it = a .it; behind = a .behind; split = ap (λ (l : List Tup). x ∷ l) (a .split) }, omega (arith, s .1, size, length-frame o x))
+      let size = length-append (frame o x) (frames o (a .before)) in (
+        record { before = x ∷ a .before; it = a .it; behind = a .behind; split = ap (λ (l : List Tup). x ∷ l) (a .split) },
+        omega (arith, s .1, size, length-frame o x),
+      )
 
   module _ (x : Tup) (xs : List Tup) (w : Course) (e : drop (w .at) f ≡ frame o x ++ frames o xs) (a : AllSound o (x ∷ xs))
       (l : Linked (eqb (w .count) 0) (w .links) (digests o (x ∷ xs))) where
@@ -67,18 +69,25 @@ module _ (o : Bool) (f : List ℕ) (p : ℕ) where
         whole-turn o f x (frames o xs) w e (a .0 .framed) ∙ ap (after o f w x (lengthOf x)) v
 
     left : drop (w .at + lengthOf x) f ≡ frames o xs
-    left = sym (drop-drop (lengthOf x) (w .at) f) ∙ ap (drop (lengthOf x)) e ∙ drop-at (frame o x) (frames o xs) (lengthOf x) (length-frame o x)
+    left =
+        sym (drop-drop (lengthOf x) (w .at) f)
+        ∙ ap (drop (lengthOf x)) e
+        ∙ drop-at (frame o x) (frames o xs) (lengthOf x) (length-frame o x)
 
     rest : digest o x .ends ≡ false → Linked (eqb (w .count + 1) 0) (past o w x (lengthOf x) .links) (digests o xs)
-    rest h = subst (λ (b : Bool). Linked b (past o w x (lengthOf x) .links) (digests o xs)) (sym (ne-eqb (w .count + 1) 0 (omega arith))) (linked-next l h)
+    rest h =
+        subst (λ (b : Bool). Linked b (past o w x (lengthOf x) .links) (digests o xs)) (sym (ne-eqb (w .count + 1) 0 (omega arith)))
+        (linked-next l h)
 
   -- what is found behind a tuple, in k turns
   abbrev Behind : ℕ → Tup → List Tup → Course → Course → Type 0
   Behind k x xs w v =
       let w⁺ = past o w x (lengthOf x) in
-      drop (w⁺ .at) f ≡ frames o xs → Linked (eqb (w⁺ .count) 0) (w⁺ .links) (digests o xs) → courseTo k o f p w⁺ ≡ some v → Spot (w⁺ .at) xs
+      drop (w⁺ .at) f ≡ frames o xs → Linked (eqb (w⁺ .count) 0) (w⁺ .links) (digests o xs) → courseTo k o f p w⁺ ≡ some v
+      → Spot (w⁺ .at) xs
 
-  spot : (k : ℕ) (xs : List Tup) (w v : Course) → drop (w .at) f ≡ frames o xs → AllSound o xs → Linked (eqb (w .count) 0) (w .links) (digests o xs)
+  spot : (k : ℕ) (xs : List Tup) (w v : Course) → drop (w .at) f ≡ frames o xs → AllSound o xs
+      → Linked (eqb (w .count) 0) (w .links) (digests o xs)
       → courseTo k o f p w ≡ some v → Spot (w .at) xs
   unfolding courseTo
   spot k [] w v e a l q = absurd (linked-some l refl)
@@ -101,7 +110,8 @@ module _ (o : Bool) (f : List ℕ) (p : ℕ) where
 
 -- ---- so asking gives 9 where no listed ping starts
 module _ (f : List ℕ) (b : Bytes f) (n : Counts) (e : checkFile f ≡ Accepted n) (p : ℕ) (no : PingAt f p → ⊥) where
-  by-item : (w : Course) (a : Among (tuplesOf f)) → placeAfter (isMsb f) (a .before) ≡ p → (i : Option Item) → itemOf (isMsb f) (a .it) ≡ i → askItem w p n i ≡ Asked.Refused 9 p
+  by-item : (w : Course) (a : Among (tuplesOf f)) → placeAfter (isMsb f) (a .before) ≡ p → (i : Option Item) → itemOf (isMsb f) (a .it) ≡ i
+      → askItem w p n i ≡ Asked.Refused 9 p
   by-item w a h none z = refl
   by-item w a h (some (plain k vs)) z = refl
   by-item w a h (some (ping q)) z = absurd (no (record { ping = a; listed = ping-listed (isMsb f) (a .it) q z; place = h }))

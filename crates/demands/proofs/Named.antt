@@ -71,10 +71,15 @@ module _ (o : Bool) (f : List ℕ) (t : Tup) (ys : List Tup) where
         ∙ ap (onward f (past o w x (lengthOf x))) (linked-on l (some-left o xs t ys) .0)
 
     left : drop (w .at + lengthOf x) f ≡ frames o (xs ++ (t ∷ ys))
-    left = sym (drop-drop (lengthOf x) (w .at) f) ∙ ap (drop (lengthOf x)) e ∙ drop-at (frame o x) (frames o (xs ++ (t ∷ ys))) (lengthOf x) (length-frame o x)
+    left =
+        sym (drop-drop (lengthOf x) (w .at) f)
+        ∙ ap (drop (lengthOf x)) e
+        ∙ drop-at (frame o x) (frames o (xs ++ (t ∷ ys))) (lengthOf x) (length-frame o x)
 
     rest : Linked (eqb (w .count + 1) 0) (note (w .links) (digest o x)) (digests o (xs ++ (t ∷ ys)))
-    rest = subst (λ (b : Bool). Linked b (note (w .links) (digest o x)) (digests o (xs ++ (t ∷ ys)))) (sym (ne-eqb (w .count + 1) 0 (omega arith))) (linked-on l (some-left o xs t ys) .1)
+    rest =
+        subst (λ (b : Bool). Linked b (note (w .links) (digest o x)) (digests o (xs ++ (t ∷ ys))))
+        (sym (ne-eqb (w .count + 1) 0 (omega arith))) (linked-on l (some-left o xs t ys) .1)
 
   found : (k : ℕ) (xs : List Tup) (w : Course) → drop (w .at) f ≡ frames o (xs ++ (t ∷ ys)) → AllSound o (xs ++ (t ∷ ys))
       → Linked (eqb (w .count) 0) (w .links) (digests o (xs ++ (t ∷ ys)))
@@ -83,11 +88,13 @@ module _ (o : Bool) (f : List ℕ) (t : Tup) (ys : List Tup) where
   found zero xs w e a l h = absurd (omega arith)
   found (suc k) [] w e a l h = rw (eq-eqb (w .at) (w .at + 0) (omega arith), courseTo)
   found (suc k) (x ∷ xs) w e a l h =
-      let size : length (frame o x ++ frames o xs) ≡ lengthOf x + length (frames o xs) = length-append (frame o x) (frames o xs) ∙ ap (λ (n : ℕ). n + length (frames o xs)) (length-frame o x) in
+      let size : length (frame o x ++ frames o xs) ≡ lengthOf x + length (frames o xs) = length-append (frame o x) (frames o xs)
+      ∙ ap (λ (n : ℕ). n + length (frames o xs)) (length-frame o x) in
       let there : w .at + length (frame o x ++ frames o xs) ≡ w .at + lengthOf x + length (frames o xs) = omega arith in
       rw (ne-eqb (w .at) (w .at + length (frame o x ++ frames o xs)) (omega arith), courseTo)
       (rw (on x xs w e (a .0) l, courseTo)
-      (ap (λ (p : ℕ). courseTo k o f p (past o w x (lengthOf x))) there ∙ found k xs (past o w x (lengthOf x)) (left x xs w e (a .0) l) (a .1) (rest x xs w e (a .0) l) (omega arith)))
+      (ap (λ (p : ℕ). courseTo k o f p (past o w x (lengthOf x))) there
+      ∙ found k xs (past o w x (lengthOf x)) (left x xs w e (a .0) l) (a .1) (rest x xs w e (a .0) l) (omega arith)))
 
 -- ---- what a course behind tuples holds: what they declare, and their places
 module _ (o : Bool) where
@@ -97,11 +104,15 @@ module _ (o : Bool) where
 
   after-sounders : (w : Course) (xs : List Tup) → courseAfter o w xs .sounders ≡ w .sounders ++ spots sounderPlace o (w .at) xs
   after-sounders w [] = sym (append-nil (w .sounders))
-  after-sounders w (x ∷ xs) = after-sounders (past o w x (lengthOf x)) xs ∙ append-assoc (w .sounders) (sounderPlace (digest o x .link) (w .at)) (spots sounderPlace o (w .at + lengthOf x) xs)
+  after-sounders w (x ∷ xs) =
+      after-sounders (past o w x (lengthOf x)) xs
+      ∙ append-assoc (w .sounders) (sounderPlace (digest o x .link) (w .at)) (spots sounderPlace o (w .at + lengthOf x) xs)
 
   after-channels : (w : Course) (xs : List Tup) → courseAfter o w xs .channels ≡ w .channels ++ spots channelPlace o (w .at) xs
   after-channels w [] = sym (append-nil (w .channels))
-  after-channels w (x ∷ xs) = after-channels (past o w x (lengthOf x)) xs ∙ append-assoc (w .channels) (channelPlace (digest o x .link) (w .at)) (spots channelPlace o (w .at + lengthOf x) xs)
+  after-channels w (x ∷ xs) =
+      after-channels (past o w x (lengthOf x)) xs
+      ∙ append-assoc (w .channels) (channelPlace (digest o x .link) (w .at)) (spots channelPlace o (w .at + lengthOf x) xs)
 
 -- ---- each link that declares adds a place
 even-channels : (l : Link) (at : ℕ) → length (newChannels l) ≡ length (channelPlace l at)
@@ -124,7 +135,8 @@ given x cs ps ss qs c n =
     let it = getD cs i noChannel in
     Asked.Parents c (getD ps i 0) (it .rate) (it .samples) (it .parent) (getD qs (placeOf docOf (it .parent .0) ss) 0) n
 
-module _ (o : Bool) (all : List Tup) (linked : Linked true start (digests o all)) (a : Among all) (c : SoftwareChannel) (g : Family o (a .before) c) (n : Counts) where
+module _ (o : Bool) (all : List Tup) (linked : Linked true start (digests o all)) (a : Among all) (c : SoftwareChannel)
+    (g : Family o (a .before) c) (n : Counts) where
   -- the two tuples, among those before the ping, and what they declare
   ofChannel : Among (a .before)
   ofChannel = g .channel .one
@@ -139,13 +151,17 @@ module _ (o : Bool) (all : List Tup) (linked : Linked true start (digests o all)
   so = g .sounder .is .it
 
   lists : parentsIn (courseAfter o begin (a .before)) c n
-      ≡ given (idOf ch) (declaredBy newChannels o (a .before)) (spots channelPlace o 4 (a .before)) (declaredBy newSounders o (a .before)) (spots sounderPlace o 4 (a .before)) c n
+      ≡ given (idOf ch) (declaredBy newChannels o (a .before)) (spots channelPlace o 4 (a .before)) (declaredBy newSounders o (a .before))
+      (spots sounderPlace o 4 (a .before)) c n
   unfolding ch
   lists =
       let xs = a .before in
-      (λ i. given (c .0) ((ap (λ (s : Links). s .channels) (after-links o begin xs) ∙ upto-channels o start xs) i) (after-channels o begin xs i)
+      (λ i. given (c .0) ((ap (λ (s : Links). s .channels) (after-links o begin xs) ∙ upto-channels o start xs) i)
+      (after-channels o begin xs i)
       ((ap (λ (s : Links). s .sounders) (after-links o begin xs) ∙ upto-sounders o start xs) i) (after-sounders o begin xs i) c n)
-      ∙ ap (λ (x : SoftwareChannel). given (x .0) (declaredBy newChannels o xs) (spots channelPlace o 4 xs) (declaredBy newSounders o xs) (spots sounderPlace o 4 xs) c n) (sym (g .channel .is .named))
+      ∙ ap (λ (x : SoftwareChannel). given (x .0) (declaredBy newChannels o xs) (spots channelPlace o 4 xs) (declaredBy newSounders o xs)
+      (spots sounderPlace o 4 xs) c n)
+      (sym (g .channel .is .named))
 
   given-parents : parentsIn (courseAfter o begin (a .before)) c n ≡ gives g n
   unfolding ofChannel ofSounder ch so
@@ -160,7 +176,8 @@ module _ (o : Bool) (all : List Tup) (linked : Linked true start (digests o all)
       let sp : (i : ℕ) → sounderPlace (digest o (ofSounder .it) .link) i ≡ i ∷ [] = λ i. ap (λ (l : Link). sounderPlace l i) sl in
       let it = declared-at idOf newChannels channelPlace even-channels o 4 ofChannel ch cn cp cf noChannel in
       let spot = spot-at idOf newChannels channelPlace even-channels o 4 ofChannel ch cn cp cf in
-      let under : DocumentId → ℕ = λ d. getD (spots sounderPlace o 4 (a .before)) (placeOf docOf (d .0) (declaredBy newSounders o (a .before))) 0 in
+      let under : DocumentId → ℕ =
+      λ d. getD (spots sounderPlace o 4 (a .before)) (placeOf docOf (d .0) (declaredBy newSounders o (a .before))) 0 in
       lists
       ∙ (λ i. Asked.Parents c (spot i) (it i .rate) (it i .samples) (it i .parent) (under (it i .parent)) n)
       ∙ ap (λ (q : ℕ). Asked.Parents c (placeAfter o (ofChannel .before)) (ch .rate) (ch .samples) (ch .parent) q n)
@@ -173,7 +190,8 @@ digests-append o (x ∷ xs) ys = ap (λ (l : List Digest). digest o x ∷ l) (di
 
 frames-append : (o : Bool) (xs ys : List Tup) → frames o (xs ++ ys) ≡ frames o xs ++ frames o ys
 frames-append o [] ys = refl
-frames-append o (x ∷ xs) ys = ap (λ (l : List ℕ). frame o x ++ l) (frames-append o xs ys) ∙ sym (append-assoc (frame o x) (frames o xs) (frames o ys))
+frames-append o (x ∷ xs) ys =
+    ap (λ (l : List ℕ). frame o x ++ l) (frames-append o xs ys) ∙ sym (append-assoc (frame o x) (frames o xs) (frames o ys))
 
 -- each of sound tuples is sound
 sound-at : (o : Bool) (xs : List Tup) (t : Tup) (ys : List Tup) → AllSound o (xs ++ (t ∷ ys)) → Sound o t
@@ -213,9 +231,11 @@ module _ (f : List ℕ) (b : Bytes f) (n : Counts) (e : checkFile f ≡ Accepted
   stands-course =
       let o = isMsb f in
       let r = frames o (tuplesOf f) in
-      let count : length (tuplesOf f) ≡ length (a .before) + suc (length (a .behind)) = ap length (a .split) ∙ length-append (a .before) (a .it ∷ a .behind) in
+      let count : length (tuplesOf f) ≡ length (a .before) + suc (length (a .behind)) = ap length (a .split)
+      ∙ length-append (a .before) (a .it ∷ a .behind) in
       let size : length f ≡ length (mark o) + length r = ap length (d .whole) ∙ length-append (mark o) r in
-      found o f (a .it) (a .behind) (length f) (a .before) begin behind-mark own together (omega (arith, length-frames o (tuplesOf f), length-mark o))
+      found o f (a .it) (a .behind) (length f) (a .before) begin behind-mark own together
+      (omega (arith, length-frames o (tuplesOf f), length-mark o))
 
   module _ (q : Ping) (i : itemOf (isMsb f) (a .it) ≡ some (ping q)) where
     -- exactly one of the channels declared before it, and exactly one of the sounders
@@ -246,4 +266,9 @@ module _ (f : List ℕ) (b : Bytes f) (n : Counts) (e : checkFile f ≡ Accepted
   answered l =
       let p = listed-ping (isMsb f) (a .it) l in
       let g = family (p .0) (p .1) in
-      record { channel = channelIn (p .0); names = names-channel (isMsb f) (a .it) (p .0) (p .1); family = g; answer = asked (p .0) (p .1) g }
+      record {
+        channel = channelIn (p .0);
+        names = names-channel (isMsb f) (a .it) (p .0) (p .1);
+        family = g;
+        answer = asked (p .0) (p .1) g;
+      }

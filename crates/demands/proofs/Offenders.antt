@@ -23,7 +23,8 @@ use Rattle.samples.proofs.Values.{bad-here, bad-later}
 use Rattle.content.specs.Items.{innerBy, innerRules}
 use Rattle.content.proofs.Places.{Shaped, shaped}
 use Rattle.demands.specs.Causes.{Broken, here, later}
-use Rattle.demands.specs.Offenders.{FirstAt, Falls, numberIn, Outside, samplesIn, wordsOf, found, said, Offends, too-many, not-rising, bad-word, miscounted}
+use Rattle.demands.specs.Offenders.{FirstAt, Falls, numberIn, Outside, samplesIn, wordsOf, found, said, Offends, too-many, not-rising}
+use Rattle.demands.specs.Offenders.{bad-word, miscounted}
 
 -- ---- a list of rules, one after the other
 abbrev pub Said : {A : Type 0} → List (Rule A) → A → Type 0
@@ -87,7 +88,8 @@ words-there : (ws : List ℕ) → firstBad radix ws < length ws → Outside ws (
 words-there [] h = absurd (omega arith)
 words-there (w ∷ ws) h =
     by-bool (isBad radix w)
-    (λ e. subst (Outside (w ∷ ws)) (sym (bad-here radix w ws e)) (record { within = omega arith; least = outside w e .0; most = outside w e .1 }))
+    (λ e. subst (Outside (w ∷ ws)) (sym (bad-here radix w ws e))
+    (record { within = omega arith; least = outside w e .0; most = outside w e .1 }))
     (λ e.
     subst (Outside (w ∷ ws)) (sym (bad-later radix w ws e ∙ add-one (firstBad radix ws)))
     (behind-word w ws (firstBad radix ws) (words-there ws (omega (arith, bad-later radix w ws e)))))
@@ -116,12 +118,20 @@ module _ (x : Sample) (s : List Sample) (k : ℕ) where
   behind-two : Falls s (suc k) → Falls (x ∷ s) (suc (suc k))
   behind-two g =
       let pair : numberIn s (suc k) ≤ numberIn s k = subst (λ (m : ℕ). numberIn s (suc k) ≤ numberIn s m) less (g .falls) in
-      record { within = omega (arith, g .within); behind = omega arith; falls = subst (λ (m : ℕ). numberIn s (suc k) ≤ numberIn (x ∷ s) m) (sym less-two) pair }
+      record {
+        within = omega (arith, g .within);
+        behind = omega arith;
+        falls = subst (λ (m : ℕ). numberIn s (suc k) ≤ numberIn (x ∷ s) m) (sym less-two) pair;
+      }
 
   before-two : Falls (x ∷ s) (suc (suc k)) → Falls s (suc k)
   before-two g =
       let pair : numberIn s (suc k) ≤ numberIn s k = subst (λ (m : ℕ). numberIn s (suc k) ≤ numberIn (x ∷ s) m) less-two (g .falls) in
-      record { within = omega (arith, g .within); behind = omega arith; falls = subst (λ (m : ℕ). numberIn s (suc k) ≤ numberIn s m) (sym less) pair }
+      record {
+        within = omega (arith, g .within);
+        behind = omega arith;
+        falls = subst (λ (m : ℕ). numberIn s (suc k) ≤ numberIn s m) (sym less) pair;
+      }
 
 falls-there : (s : List Sample) (x : Sample) → firstDrop (x .0 + 1) s < length s → Falls (x ∷ s) (suc (firstDrop (x .0 + 1) s))
 falls-there [] x h = absurd (omega arith)
@@ -179,7 +189,10 @@ module _ (o : Bool) (t : Tup) where
         ⊎-elim (λ e. as-said (too-many k (ltb-true most (found o t) (e .0))) (e .1))
         (λ l. ⊎-elim (λ e. as-said (bad-word k (ltb-false most (found o t) (l .0)) (finds search (e .0))) (e .1))
         (λ g. ⊎-elim
-        (λ e. as-said (miscounted k (ltb-false most (found o t) (l .0)) (finds-none search (g .0)) (eqb-false (said o t) (found o t) (not-true _ (e .0)))) (e .1))
+        (λ e.
+        as-said (miscounted k (ltb-false most (found o t) (l .0)) (finds-none search (g .0))
+        (eqb-false (said o t) (found o t) (not-true _ (e .0))))
+        (e .1))
         (λ e. absurd (e .1))
         (g .1))
         (l .1))
@@ -222,7 +235,8 @@ module _ (o : Bool) (t : Tup) where
       (later (le-ltb most (found o t) m) (subst (λ (j : ℕ). Broken behindMany (24 byte (28 + 4 * j))) (f .1) (here (f .0))))
   offended (miscounted k m g e) =
       subst (λ (s : Shape). Broken (innerBy s o t) (25 byte 24)) (sym (shape-C k))
-      (later (le-ltb most (found o t) m) (later (none-found (words-search (wordsOf o t)) g) (here (ap not (ne-eqb (said o t) (found o t) e)))))
+      (later (le-ltb most (found o t) m)
+      (later (none-found (words-search (wordsOf o t)) g) (here (ap not (ne-eqb (said o t) (found o t) e)))))
 
 -- no code is 10
 pub no-ten : {o : Bool} {t : Tup} {c q : ℕ} → Offends o t c q → c ≡ 10 → ⊥

@@ -55,11 +55,13 @@ silent-append ((t ⇒ x) ∷ xs) ys a b = (a .0, silent-append xs ys (a .1) b)
 -- ---- the normaliser
 module _ (f : List ℕ) (room : ℕ) where
   -- none of its rules accepts
-  refused-form : (n : Counts) {c p : ℕ} → (firstOf (normalRules f room) (Accepted (normalCounts f n)) ≡ Refused c p) ↔ Broken (normalRules f room) (Refused c p)
+  refused-form : (n : Counts) {c p : ℕ}
+      → (firstOf (normalRules f room) (Accepted (normalCounts f n)) ≡ Refused c p) ↔ Broken (normalRules f room) (Refused c p)
   refused-form n = refused-by (normalRules f room) (Accepted (normalCounts f n)) refl
 
   accepted-form : (n : Counts) {m : Counts}
-      → (firstOf (normalRules f room) (Accepted (normalCounts f n)) ≡ Accepted m) ↔ (AllPass (normalRules f room) × (Accepted (normalCounts f n) ≡ Accepted m))
+      → (firstOf (normalRules f room) (Accepted (normalCounts f n)) ≡ Accepted m)
+      ↔ (AllPass (normalRules f room) × (Accepted (normalCounts f n) ≡ Accepted m))
   accepted-form n = accepted-by (normalRules f room) (Accepted (normalCounts f n)) refl (refl, (refl, (refl, tt)))
 
   normal-refused : {c p : ℕ} → (normalAnswer f room ≡ Refused c p) ↔ NormalCause f room c p
@@ -109,9 +111,15 @@ module _ (f : List ℕ) (room : ℕ) where
       let r = drop 4 f in
       let a = kept-append (saying (refusedAt 0) (fileRules f)) (saying (refusedAt 4) alone ++ behindRules f room) h in
       let file = kept-saying (refusedAt 0) (fileRules f) (a .0) in
-      let b = kept-append (frameRules o r) own (kept-saying (refusedAt 4) alone (kept-append (saying (refusedAt 4) alone) (behindRules f room) (a .1) .0)) in
+      let b =
+      kept-append (frameRules o r) own
+      (kept-saying (refusedAt 4) alone (kept-append (saying (refusedAt 4) alone) (behindRules f room) (a .1) .0)) in
       let s : SoundHere o f 4 (lenAt o r) (kindAt o r) =
-      record { within = marked-4 f (not-false _ (file .1 .0)); here = record { framed = passed (frameRules o r) (b .0); size = refl; kind = refl }; own = passed own (b .1) } in
+      record {
+        within = marked-4 f (not-false _ (file .1 .0));
+        here = record { framed = passed (frameRules o r) (b .0); size = refl; kind = refl };
+        own = passed own (b .1);
+      } in
       omega (arith, single-length f, at-most-twice s, most s)
 
 -- ---- asking
@@ -143,7 +151,8 @@ module _ (f : List ℕ) (b : Bytes f) (p : ℕ) where
 -- ---- the codes of samples come from the check's rules alone
 normal-sampled : (f : List ℕ) (room : ℕ) {c p : ℕ} → NormalCause f room c p → ofSamples c ≡ true → Sampled f c p
 normal-sampled f room (refusals.NormalCause.by-check k) h = cause-sampled f k h
-normal-sampled f room (by-form k b) h = absurd (true≢false (sym h ∙ broken-silent (λ (a : Answer). ofSamples (numbers a .code)) (refl, (refl, (refl, tt))) b))
+normal-sampled f room (by-form k b) h =
+    absurd (true≢false (sym h ∙ broken-silent (λ (a : Answer). ofSamples (numbers a .code)) (refl, (refl, (refl, tt))) b))
 
 ask-sampled : (f : List ℕ) (p : ℕ) {c q : ℕ} → AskCause f p c q → ofSamples c ≡ true → Sampled f c q
 ask-sampled f p (refusals.AskCause.by-check k) h = cause-sampled f k h
@@ -158,14 +167,26 @@ demand1 =
       normal = λ {f} {out} k. said (k .answer .is) (normal-refused f (length out));
       normal-takes = λ {f} {out} k. said (k .answer .is) (normal-accepted f (length out));
       tuple = λ {f} {out} k. said (k .answer .is) (refused-by (singleRules f (length out)) (accepting 1 (length (singleForm f))) refl);
-      tuple-takes = λ {f} {out} k. said (k .answer .is) (accepted-by (singleRules f (length out)) (accepting 1 (length (singleForm f))) refl (silent f (length out)));
+      tuple-takes =
+          λ {f} {out} k. said (k .answer .is)
+          (accepted-by (singleRules f (length out)) (accepting 1 (length (singleForm f))) refl (silent f (length out)));
       tuple-small = small;
       asking = λ {f} {p} b k. said (k .is) (ask-refused f b p);
       samples = λ o t {c} {q}. (offends o t, offended o t);
       no-ten = λ {o} {t} {q} h. no-ten h refl;
       check-samples = λ {f} {r} k {c} {p} h. said (k .is) (λ e. cause-sampled f (why f c p e) h, λ s. because f (sampled-cause f s));
-      normal-samples = λ {f} {out} k h. said (k .answer .is) (λ e. normal-sampled f (length out) (normal-refused f (length out) .0 e) h, λ s. normal-refused f (length out) .1 (refusals.NormalCause.by-check (sampled-cause f s)));
-      ask-samples = λ {f} p b k h. said (k .is) (λ e. ask-sampled f p (ask-refused f b p .0 e) h, λ s. ask-refused f b p .1 (refusals.AskCause.by-check (sampled-cause f s)));
-      tuple-samples = λ {f} {out} k h. said (k .answer .is) (λ e. alone-sampled f (length out) (refused-by (singleRules f (length out)) (accepting 1 (length (singleForm f))) refl .0 e) h, λ s. refused-by (singleRules f (length out)) (accepting 1 (length (singleForm f))) refl .1 (sampled-alone f (length out) s));
+      normal-samples =
+          λ {f} {out} k h. said (k .answer .is) (
+            λ e. normal-sampled f (length out) (normal-refused f (length out) .0 e) h,
+            λ s. normal-refused f (length out) .1 (refusals.NormalCause.by-check (sampled-cause f s)),
+          );
+      ask-samples =
+          λ {f} p b k h. said (k .is)
+          (λ e. ask-sampled f p (ask-refused f b p .0 e) h, λ s. ask-refused f b p .1 (refusals.AskCause.by-check (sampled-cause f s)));
+      tuple-samples =
+          λ {f} {out} k h. said (k .answer .is) (
+            λ e. alone-sampled f (length out) (refused-by (singleRules f (length out)) (accepting 1 (length (singleForm f))) refl .0 e) h,
+            λ s. refused-by (singleRules f (length out)) (accepting 1 (length (singleForm f))) refl .1 (sampled-alone f (length out) s),
+          );
       read-samples = λ asked f at h. (λ e. read-sampled asked f at e h, sampled-read asked f at);
     }

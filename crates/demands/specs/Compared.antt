@@ -23,4 +23,5 @@ pub record Compared (f : List ℕ) (n : Counts) : Type 0 where
 pub record Comparisons : Type 0 where
   pub check : {f : List ℕ} {n : Counts} → Bytes f → Checked f (Accepted n) → Compared f n
   pub normal : {f out left : List ℕ} {n : Counts} → Bytes f → Normalised f out (Accepted n) left → Compared f n
-  pub ask : {f : List ℕ} (p : ℕ) {cp r k dp : ℕ} {c : SoftwareChannel} {d : DocumentId} {n : Counts} → Bytes f → AskedFor f p (Parents c cp r k d dp n) → Compared f n
+  pub ask : {f : List ℕ} (p : ℕ) {cp r k dp : ℕ} {c : SoftwareChannel} {d : DocumentId} {n : Counts} → Bytes f
+      → AskedFor f p (Parents c cp r k d dp n) → Compared f n

@@ -69,7 +69,8 @@ placeAfter o xs = 4 + length (frames o xs)
 abbrev pub gives : {o : Bool} {xs : List Tup} {c : SoftwareChannel} → Family o xs c → Counts → Asked
 gives {o} {xs} {c} g n =
     let it = g .channel .is .it in
-    Asked.Parents c (placeAfter o (g .channel .one .before)) (it .rate) (it .samples) (it .parent) (placeAfter o (g .sounder .one .before)) n
+    Asked.Parents c (placeAfter o (g .channel .one .before)) (it .rate) (it .samples) (it .parent) (placeAfter o (g .sounder .one .before))
+    n
 
 -- what asking at a ping gives: the channel that it names, the channel's family, and the answer by these
 pub record Answered (f : List ℕ) (a : Among (tuplesOf f)) (n : Counts) : Type 0 where

@@ -63,7 +63,8 @@ pub data Offends (o : Bool) (t : Tup) : ℕ → ℕ → Type 0 where
   -- a word outside the limits
   bad-word : {i : ℕ} → t .kind ≡ 10010 → found o t ≤ 32764 → FirstAt (Outside (wordsOf o t)) i → Offends o t 24 (28 + 4 * i)
   -- a number of samples that is wrong, every word being within the limits
-  miscounted : t .kind ≡ 10010 → found o t ≤ 32764 → ((i : ℕ) → Outside (wordsOf o t) i → ⊥) → (said o t ≡ found o t → ⊥) → Offends o t 25 24
+  miscounted : t .kind ≡ 10010 → found o t ≤ 32764 → ((i : ℕ) → Outside (wordsOf o t) i → ⊥) → (said o t ≡ found o t → ⊥)
+      → Offends o t 25 24
 
 -- the codes that are said of samples alone: these, and 10 before them, which no tuple offends by
 abbrev pub ofSamples : ℕ → Bool

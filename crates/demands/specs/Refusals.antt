@@ -52,9 +52,11 @@ pub record Demand1 : Type 0 where
   pub check-takes : {f : List ℕ} {r : Answer} → Checked f r → {n : Counts} → (r ≡ Accepted n) ↔ Keeps f n
   -- the normaliser
   pub normal : {f out left : List ℕ} {r : Answer} → Normalised f out r left → {c p : ℕ} → (r ≡ Refused c p) ↔ NormalCause f (length out) c p
-  pub normal-takes : {f out left : List ℕ} {r : Answer} → Normalised f out r left → {n : Counts} → (r ≡ Accepted n) ↔ NormalKeeps f (length out) n
+  pub normal-takes : {f out left : List ℕ} {r : Answer} → Normalised f out r left → {n : Counts}
+      → (r ≡ Accepted n) ↔ NormalKeeps f (length out) n
   -- one tuple's normal form; its rules have no 20, and need none
-  pub tuple : {f out left : List ℕ} {r : Answer} → NormalisedTuple f out r left → {c p : ℕ} → (r ≡ Refused c p) ↔ Broken (singleRules f (length out)) (Refused c p)
+  pub tuple : {f out left : List ℕ} {r : Answer} → NormalisedTuple f out r left → {c p : ℕ}
+      → (r ≡ Refused c p) ↔ Broken (singleRules f (length out)) (Refused c p)
   pub tuple-takes : {f out left : List ℕ} {r : Answer} → NormalisedTuple f out r left → {n : Counts}
       → (r ≡ Accepted n) ↔ (AllPass (singleRules f (length out)) × (accepting 1 (length (singleForm f)) ≡ Accepted n))
   pub tuple-small : (f : List ℕ) (room : ℕ) → AllPass (singleRules f room) → length (singleForm f) ≤ limit
@@ -66,8 +68,12 @@ pub record Demand1 : Type 0 where
   pub no-ten : {o : Bool} {t : Tup} {q : ℕ} → Offends o t 10 q → ⊥
   -- the check, the normaliser and asking
   pub check-samples : {f : List ℕ} {r : Answer} → Checked f r → {c p : ℕ} → ofSamples c ≡ true → (r ≡ Refused c p) ↔ Sampled f c p
-  pub normal-samples : {f out left : List ℕ} {r : Answer} → Normalised f out r left → {c p : ℕ} → ofSamples c ≡ true → (r ≡ Refused c p) ↔ Sampled f c p
-  pub ask-samples : {f : List ℕ} (p : ℕ) {r : Asked} → Bytes f → AskedFor f p r → {c q : ℕ} → ofSamples c ≡ true → (r ≡ Asked.Refused c q) ↔ Sampled f c q
+  pub normal-samples : {f out left : List ℕ} {r : Answer} → Normalised f out r left → {c p : ℕ} → ofSamples c ≡ true
+      → (r ≡ Refused c p) ↔ Sampled f c p
+  pub ask-samples : {f : List ℕ} (p : ℕ) {r : Asked} → Bytes f → AskedFor f p r → {c q : ℕ} → ofSamples c ≡ true
+      → (r ≡ Asked.Refused c q) ↔ Sampled f c q
   -- one tuple's normal form, and a reader of any types
-  pub tuple-samples : {f out left : List ℕ} {r : Answer} → NormalisedTuple f out r left → {c p : ℕ} → ofSamples c ≡ true → (r ≡ Refused c p) ↔ SampledAlone f c p
-  pub read-samples : (asked : ℕ → Bool) (f : List ℕ) (at : ℕ) {c p : ℕ} → ofSamples c ≡ true → (readAnswer asked f at ≡ Refused c p) ↔ SampledThere asked f at c p
+  pub tuple-samples : {f out left : List ℕ} {r : Answer} → NormalisedTuple f out r left → {c p : ℕ} → ofSamples c ≡ true
+      → (r ≡ Refused c p) ↔ SampledAlone f c p
+  pub read-samples : (asked : ℕ → Bool) (f : List ℕ) (at : ℕ) {c p : ℕ} → ofSamples c ≡ true
+      → (readAnswer asked f at ≡ Refused c p) ↔ SampledThere asked f at c p

@@ -77,7 +77,8 @@ module _ (o : Bool) (fs : List Field) (d : List ℕ) where
   row-least (some n) e = omega (arith, upward-least (size fs + 14 + n) (length d + 10) _ e)
 
   row-body : (x : Option ℕ) → fitting (lengthFrom (row fs x)) (length d + 10) ≡ true
-      → turned o (rowIn fs x (length d)) d ≡ turned o fs d ++ (take (length d - (size fs + 4)) (drop (size fs) d) ++ bytesOf false 4 (attributeIn o d))
+      → turned o (rowIn fs x (length d)) d
+      ≡ turned o fs d ++ (take (length d - (size fs + 4)) (drop (size fs) d) ++ bytesOf false 4 (attributeIn o d))
   row-body none e =
       let n : length d + 10 ≡ size fs + 14 = eqb-true (length d + 10) (size fs + 14) e in
       let z : 0 ≡ length d - (size fs + 4) = omega arith in
@@ -107,14 +108,19 @@ pub record Parts (bytes : List ℕ) (n k : ℕ) (h m : List ℕ) (a : ℕ) : Typ
   pub are : bytes ≡ openingBytes false n k h ++ (m ++ closeBytes false n a)
   pub long : length bytes ≡ n
 
-parted : (bytes : List ℕ) (n k : ℕ) (h m : List ℕ) (a : ℕ) → bytes ≡ frame false (record { kind = k; body = h ++ (m ++ bytesOf false 4 a) }) → length h + length m + 14 ≡ n → Parts bytes n k h m a
+parted : (bytes : List ℕ) (n k : ℕ) (h m : List ℕ) (a : ℕ) → bytes ≡ frame false (record { kind = k; body = h ++ (m ++ bytesOf false 4 a) })
+    → length h + length m + 14 ≡ n → Parts bytes n k h m a
 unfolding frame openBytes openingBytes closeBytes
 parted bytes n k h m a e l =
     let b = h ++ (m ++ bytesOf false 4 a) in
-    let whole : length b + 10 ≡ n = omega (arith, length-append h (m ++ bytesOf false 4 a), length-append m (bytesOf false 4 a), length-bytesOf false 4 a) in
+    let whole : length b + 10
+    ≡ n = omega (arith, length-append h (m ++ bytesOf false 4 a), length-append m (bytesOf false 4 a), length-bytesOf false 4 a) in
     let size : length b ≡ n - 10 = omega arith in
     record {
-      are = e ∙ ap₂ (λ (i j : ℕ). bytesOf false 4 i ++ (bytesOf false 2 k ++ (b ++ bytesOf false 4 j))) size whole ∙ regroup (bytesOf false 4 (n - 10)) (bytesOf false 2 k) h m (bytesOf false 4 a) (bytesOf false 4 n);
+      are =
+          e
+          ∙ ap₂ (λ (i j : ℕ). bytesOf false 4 i ++ (bytesOf false 2 k ++ (b ++ bytesOf false 4 j))) size whole
+          ∙ regroup (bytesOf false 4 (n - 10)) (bytesOf false 2 k) h m (bytesOf false 4 a) (bytesOf false 4 n);
       long = ap length e ∙ length-frame false (record { kind = k; body = b }) ∙ whole;
     }
 
@@ -151,17 +157,20 @@ module _ (o : Bool) (t : Tup) where
       by [] h = absurd (omega arith)
       by (x ∷ s) h = refl
 
-  form-U : shapeOf (t .kind) ≡ pairs → 0 < length (contentU o (t .body) .samples) → formBytes o t ≡ frame false (tupleU false (contentU o (t .body)))
+  form-U : shapeOf (t .kind) ≡ pairs → 0 < length (contentU o (t .body) .samples)
+      → formBytes o t ≡ frame false (tupleU false (contentU o (t .body)))
   unfolding formOf
   form-U e h = by-shape pairs e ∙ append-nil _ ∙ ap (frame false) (sampled (contentU o (t .body)) h)
 
-  form-C : shapeOf (t .kind) ≡ words → 0 < length (contentC o (t .body) .samples) → formBytes o t ≡ frame false (tupleU false (contentC o (t .body)))
+  form-C : shapeOf (t .kind) ≡ words → 0 < length (contentC o (t .body) .samples)
+      → formBytes o t ≡ frame false (tupleU false (contentC o (t .body)))
   unfolding formOf
   form-C e h = by-shape words e ∙ append-nil _ ∙ ap (frame false) (sampled (contentC o (t .body)) h)
 
   -- one without samples is C-32, with the one word of a run of 1
   silent : (p : Ping) → p .samples ≡ [] → pingForm (p .samples) p ≡ record { kind = 10010; body = dataC false p (0xffff0000 ∷ []) }
-  silent p e = ap (λ (s : List Sample). pingForm s p) e ∙ ap (λ (s : List Sample). record { kind = 10010; body = dataC false p (fewest radix s) }) e
+  silent p e =
+      ap (λ (s : List Sample). pingForm s p) e ∙ ap (λ (s : List Sample). record { kind = 10010; body = dataC false p (fewest radix s) }) e
 
   form-silent : shapeOf (t .kind) ≡ words → length (contentC o (t .body) .samples) ≡ 0
       → formBytes o t ≡ frame false (record { kind = 10010; body = dataC false (contentC o (t .body)) (0xffff0000 ∷ []) })
@@ -181,16 +190,24 @@ module _ (o : Bool) (t : Tup) where
       pub least-row : size fs + 14 ≤ lengthOf t
       least-row = omega (arith, row-least o fs (t .body) x (fits (row fs x) e))
 
-      pub parts-row : Parts (formBytes o t) (lengthOf t) (t .kind) (turned o fs (t .body)) (take (length (t .body) - (size fs + 4)) (drop (size fs) (t .body))) (attributeIn o (t .body))
+      pub parts-row : Parts (formBytes o t) (lengthOf t) (t .kind) (turned o fs (t .body))
+          (take (length (t .body) - (size fs + 4)) (drop (size fs) (t .body))) (attributeIn o (t .body))
       parts-row =
           let d = t .body in
           let w = length d - (size fs + 4) in
           parted (formBytes o t) (lengthOf t) (t .kind) (turned o fs d) (take w (drop (size fs) d)) (attributeIn o d)
           (form-row fs x e ∙ ap (λ (b : List ℕ). frame false (record { kind = t .kind; body = b })) (row-body o fs d x (fits (row fs x) e)))
-          (omega (arith, least-row, length-turned o fs d (omega (arith, least-row)), length-take-le w (drop (size fs) d) (simp length-drop (omega (arith, least-row)))))
+          (omega (
+            arith,
+            least-row,
+            length-turned o fs d (omega (arith, least-row)),
+            length-take-le w (drop (size fs) d) (simp length-drop (omega (arith, least-row))),
+          ))
 
     -- a ping's header is turned, whatever stands behind it
-    head-turned : (m : List ℕ) (a : ℕ) → encode false pingRow (valuesOf o pingRow (t .body)) ++ (m ++ bytesOf false 4 a) ≡ turned o pingRow (t .body) ++ (m ++ bytesOf false 4 a)
+    head-turned : (m : List ℕ) (a : ℕ)
+        → encode false pingRow (valuesOf o pingRow (t .body)) ++ (m ++ bytesOf false 4 a)
+        ≡ turned o pingRow (t .body) ++ (m ++ bytesOf false 4 a)
     head-turned m a = ap (λ (l : List ℕ). l ++ (m ++ bytesOf false 4 a)) (sym (turned-encode o pingRow (t .body)))
 
     module _ (e : shapeOf (t .kind) ≡ pairs) where
@@ -201,11 +218,14 @@ module _ (o : Bool) (t : Tup) where
       even : (lengthOf t - 40) % 8 ≡ 0
       even = eqb-true ((lengthOf t - 40) % 8) 0 (both-true (leb 40 (lengthOf t)) _ (fits pairs e) .1)
 
-      all-pairs : (unpair (pairUp (wordsIn headU o (t .body))) ≡ wordsIn headU o (t .body)) × (length (pairUp (wordsIn headU o (t .body))) ≡ (length (t .body) - 22) / 8)
+      all-pairs : (unpair (pairUp (wordsIn headU o (t .body))) ≡ wordsIn headU o (t .body))
+          × (length (pairUp (wordsIn headU o (t .body))) ≡ (length (t .body) - 22) / 8)
       all-pairs =
-          pairs-even ((length (t .body) - 22) / 8) (wordsIn headU o (t .body)) (length-in 18 o (t .body) (omega (arith, long-U)) ∙ omega (arith, long-U, even))
+          pairs-even ((length (t .body) - 22) / 8) (wordsIn headU o (t .body))
+          (length-in 18 o (t .body) (omega (arith, long-U)) ∙ omega (arith, long-U, even))
 
-      pub parts-U : Parts (formBytes o t) (lengthOf t) 10000 (turned o pingRow (t .body)) (unwords 4 false (wordsIn headU o (t .body))) (attributeIn o (t .body))
+      pub parts-U : Parts (formBytes o t) (lengthOf t) 10000 (turned o pingRow (t .body)) (unwords 4 false (wordsIn headU o (t .body)))
+          (attributeIn o (t .body))
       unfolding contentU dataU
       parts-U =
           let d = t .body in
@@ -213,8 +233,16 @@ module _ (o : Bool) (t : Tup) where
           parted (formBytes o t) (lengthOf t) 10000 (turned o pingRow d) (unwords 4 false ws) (attributeIn o d)
           (form-U e (omega (arith, all-pairs .1, long-U))
           ∙ ap (λ (b : List ℕ). frame false (record { kind = 10000; body = b }))
-          (head-turned (unwords 4 false (unpair (pairUp ws))) (attributeIn o d) ∙ ap (λ (us : List ℕ). turned o pingRow d ++ (unwords 4 false us ++ bytesOf false 4 (attributeIn o d))) (all-pairs .0)))
-          (omega (arith, long-U, even, length-turned o pingRow d (omega (arith, long-U)), length-unwords 4 false ws, length-in 18 o d (omega (arith, long-U))))
+          (head-turned (unwords 4 false (unpair (pairUp ws))) (attributeIn o d)
+          ∙ ap (λ (us : List ℕ). turned o pingRow d ++ (unwords 4 false us ++ bytesOf false 4 (attributeIn o d))) (all-pairs .0)))
+          (omega (
+            arith,
+            long-U,
+            even,
+            length-turned o pingRow d (omega (arith, long-U)),
+            length-unwords 4 false ws,
+            length-in 18 o d (omega (arith, long-U)),
+          ))
 
     module _ (e : shapeOf (t .kind) ≡ words) where
       pub long-C : 40 ≤ lengthOf t
@@ -224,7 +252,9 @@ module _ (o : Bool) (t : Tup) where
       pub count-C : countIn o (t .body) ≡ length (contentC o (t .body) .samples)
       unfolding contentC
       count-C =
-          let kept = passes (wordRules (countIn o (t .body)) (wordsIn headC o (t .body))) (inner-was o t words e (both-right (judged (headRules o t)) _ verdicts)) in
+          let kept =
+          passes (wordRules (countIn o (t .body)) (wordsIn headC o (t .body)))
+          (inner-was o t words e (both-right (judged (headRules o t)) _ verdicts)) in
           eqb-true _ _ (not-false _ (kept .1 .1 .0)) ∙ sym (length-decode radix (lit< tt) (wordsIn headC o (t .body)) 0)
 
       pub few-C : 4 * length (contentC o (t .body) .samples) + 36 ≤ lengthOf t
@@ -234,16 +264,20 @@ module _ (o : Bool) (t : Tup) where
           omega (arith, length-decode radix (lit< tt) ws 0, values-few radix ws, length-in 22 o (t .body) (omega (arith, long-C)), long-C)
 
       pub parts-C : (n : ℕ) → n ≡ 32 + 8 * length (contentC o (t .body) .samples) → 0 < length (contentC o (t .body) .samples)
-          → Parts (formBytes o t) n 10000 (turned o pingRow (t .body)) (unwords 4 false (unpair (decode radix (wordsIn headC o (t .body))))) (attributeIn o (t .body))
+          → Parts (formBytes o t) n 10000 (turned o pingRow (t .body)) (unwords 4 false (unpair (decode radix (wordsIn headC o (t .body)))))
+          (attributeIn o (t .body))
       unfolding contentC dataU
       parts-C n size h =
           let d = t .body in
           let s = decode radix (wordsIn headC o d) in
           parted (formBytes o t) n 10000 (turned o pingRow d) (unwords 4 false (unpair s)) (attributeIn o d)
-          (form-C e h ∙ ap (λ (b : List ℕ). frame false (record { kind = 10000; body = b })) (head-turned (unwords 4 false (unpair s)) (attributeIn o d)))
+          (form-C e h
+          ∙ ap (λ (b : List ℕ). frame false (record { kind = 10000; body = b }))
+          (head-turned (unwords 4 false (unpair s)) (attributeIn o d)))
           (omega (arith, length-turned o pingRow d (omega (arith, long-C)), length-unwords 4 false (unpair s), length-unpair s))
 
-      pub parts-silent : length (contentC o (t .body) .samples) ≡ 0 → Parts (formBytes o t) 40 10010 (turned o pingRow (t .body)) silence (attributeIn o (t .body))
+      pub parts-silent : length (contentC o (t .body) .samples) ≡ 0
+          → Parts (formBytes o t) 40 10010 (turned o pingRow (t .body)) silence (attributeIn o (t .body))
       unfolding contentC dataC silence
       parts-silent h =
           let d = t .body in

@@ -51,7 +51,8 @@ module _ {o : Bool} {f : List ℕ} {at n k : ℕ} (s : SoundHere o f at n k) whe
 
   -- its length fits its type
   pub fits-here : Fits n k
-  fits-here = head-fits (s .here) (eqb k 65535) refl (both-left (headVerdict o (eqb k 65535) t) (innerVerdict o t) (own-parts (s .here) ∙ s .own))
+  fits-here =
+      head-fits (s .here) (eqb k 65535) refl (both-left (headVerdict o (eqb k 65535) t) (innerVerdict o t) (own-parts (s .here) ∙ s .own))
 
   pub shape-of : shapeOf (kindAt o (drop at f)) ≡ shapeOf k
   shape-of = ap shapeOf (s .here .kind)
@@ -118,7 +119,8 @@ module _ {o : Bool} {f : List ℕ} {at n k : ℕ} (s : SoundHere o f at n k) whe
   pub at-most-twice : length (formBytes o (tupAt o (drop at f))) ≤ 2 * n
   at-most-twice = by (inClass index k) refl (eqb k 10010) refl
     where
-      measured : {m : ℕ} → (m ≡ length (formBytes o (tupAt o (drop at f)))) × (m ≤ 2 * n) → length (formBytes o (tupAt o (drop at f))) ≤ 2 * n
+      measured : {m : ℕ} → (m ≡ length (formBytes o (tupAt o (drop at f)))) × (m ≤ 2 * n)
+          → length (formBytes o (tupAt o (drop at f))) ≤ 2 * n
       measured h = omega (arith, h .0, h .1)
 
       by-count : (e : k ≡ 10010) (c : ℕ) → c ≡ fieldAt o f at 4 24 → length (formBytes o (tupAt o (drop at f))) ≤ 2 * n

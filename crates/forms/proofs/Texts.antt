@@ -6,11 +6,13 @@ use Prim.Native.Nat.{ℕ, _+_, _-_, _≤_, _<_}
 use native.Mathlib.Omega.{arith}
 use borrow.Author.Tests.{eqb-true}
 use lib.Dec.{lit<}
-use Rattle.rules.proofs.Laws.{by-rules}
+use Rattle.rules.proofs.Laws.{_⊳_, by-rules}
 use Rattle.layout.specs.declared.Kind.{Kind}
-use Rattle.layout.specs.declared.Kind.the-variants.{Signature, Sounder, Channel, Position, Navigation, Attitude, Threshold, Event, PingU, PingC, RunStart, RunEnd, FileEnd, Index, Unlisted}
+use Rattle.layout.specs.declared.Kind.the-variants.{Signature, Sounder, Channel, Position, Navigation, Attitude, Threshold, Event, PingU}
+use Rattle.layout.specs.declared.Kind.the-variants.{PingC, RunStart, RunEnd, FileEnd, Index, Unlisted}
 use Rattle.layout.specs.Fields.{size}
-use Rattle.layout.specs.Types.{Shape, indexed, row, pairs, words, unlisted, Length, fitting, classes, inClass, index, kindRules, kindOf, listingOf, shapeOf, placeIn, pingRow, lengthFrom}
+use Rattle.layout.specs.Types.{Shape, indexed, row, pairs, words, unlisted, Length, fitting, classes, inClass, index, kindRules, kindOf}
+use Rattle.layout.specs.Types.{listingOf, shapeOf, placeIn, pingRow, lengthFrom}
 use Rattle.layout.proofs.Tables.{Said, fieldsIn, tabled, lengths-from}
 use Rattle.content.proofs.Fine.{upward-least}
 use Rattle.content.proofs.Places.{Shaped, shaped}
@@ -75,7 +77,9 @@ module _ {k listing : ℕ} (g : Rowed k) (e : listing ≡ placeIn (kindOf k)) wh
   row-listed = omega (arith, subst (λ (q : Shape). Tabled q (placeIn (kindOf k))) (g .shape) (tabled-by (kindOf k)))
 
   pub row-fields : listedFields listing ≡ g .fields
-  row-fields = fields-listed (kindOf k) (subst (λ (q : Shape). Tabled q (placeIn (kindOf k))) (g .shape) (tabled-by (kindOf k))) listing e ∙ ap fieldsIn (g .shape)
+  row-fields =
+      fields-listed (kindOf k) (subst (λ (q : Shape). Tabled q (placeIn (kindOf k))) (g .shape) (tabled-by (kindOf k))) listing e
+      ∙ ap fieldsIn (g .shape)
 
 -- both pings have the header of the listing of U-32 pings
 pub ping-fields : {listing : ℕ} → listing ≡ placeIn PingU → listedFields listing ≡ pingRow
@@ -99,18 +103,24 @@ bare : (k : ℕ) → (k ≡ 10110 → ⊥) → (k ≡ 65534 → ⊥) → Bare (s
 unfolding kindOf listingOf
 bare k a b =
     by-rules (λ (q : Kind). Bare (listingOf q .shape)) (kindRules k) Unlisted
-    (λ _. tt, λ _. (λ _. tt, λ _. (λ _. tt, λ _. (λ _. tt, λ _. (λ _. tt, λ _. (λ _. tt, λ _. (λ _. tt, λ _. (λ _. tt, λ _. (λ e. a (eqb-true k 10110 e), λ _. (λ _. tt, λ _. (λ _. tt, λ _. (λ _. tt, λ _. (λ _. tt, λ _. (λ e. b (eqb-true k 65534 e), λ _. tt))))))))))))))
+    ((λ _. tt) ⊳ (λ _. tt) ⊳ (λ _. tt) ⊳ (λ _. tt) ⊳ (λ _. tt) ⊳ (λ _. tt) ⊳ (λ _. tt) ⊳ (λ _. tt)
+    ⊳ (λ e. a (eqb-true k 10110 e)) ⊳ (λ _. tt) ⊳ (λ _. tt) ⊳ (λ _. tt) ⊳ (λ _. tt) ⊳ (λ e. b (eqb-true k 65534 e))
+    ⊳ tt)
 
 -- the fields and the least length of an event and of an end of file
 pub text-event : {n k : ℕ} → Fits n k → k ≡ 10110 → (12 ≡ 6 + size (listedFields (placeIn (kindOf k)))) × (20 ≤ n)
 unfolding kindOf inClass classes listingOf
-text-event {n} {k} f e =
-    (omega (arith, ap size (fields-listed Event (lit< tt) (placeIn (kindOf k)) (ap (λ (c : ℕ). placeIn (kindOf c)) e))), omega (arith, upward-least 24 n _ (subst (Fits n) e f)))
+text-event {n} {k} f e = (
+  omega (arith, ap size (fields-listed Event (lit< tt) (placeIn (kindOf k)) (ap (λ (c : ℕ). placeIn (kindOf c)) e))),
+  omega (arith, upward-least 24 n _ (subst (Fits n) e f)),
+)
 
 pub text-end : {n k : ℕ} → Fits n k → k ≡ 65534 → (14 ≡ 6 + size (listedFields (placeIn (kindOf k)))) × (22 ≤ n)
 unfolding kindOf inClass classes listingOf
-text-end {n} {k} f e =
-    (omega (arith, ap size (fields-listed FileEnd (lit< tt) (placeIn (kindOf k)) (ap (λ (c : ℕ). placeIn (kindOf c)) e))), omega (arith, upward-least 24 n _ (subst (Fits n) e f)))
+text-end {n} {k} f e = (
+  omega (arith, ap size (fields-listed FileEnd (lit< tt) (placeIn (kindOf k)) (ap (λ (c : ℕ). placeIn (kindOf c)) e))),
+  omega (arith, upward-least 24 n _ (subst (Fits n) e f)),
+)
 
 -- all others have none
 module _ {n k : ℕ} (g : Rowed k) (f : Fits n k) (a : k ≡ 10110 → ⊥) (b : k ≡ 65534 → ⊥) where
@@ -119,7 +129,9 @@ module _ {n k : ℕ} (g : Rowed k) (f : Fits n k) (a : k ≡ 10110 → ⊥) (b :
     where
       by : (x : Option ℕ) → shapeOf k ≡ row (g .fields) x → n ≡ size (g .fields) + 14
       by none e =
-          eqb-true n (size (g .fields) + 14) (subst (λ (q : Shape). fitting (lengthFrom q) n ≡ true) e (subst (λ (l : Length). fitting l n ≡ true) (lengths-from (kindOf k)) f))
+          eqb-true n (size (g .fields) + 14)
+          (subst (λ (q : Shape). fitting (lengthFrom q) n ≡ true) e
+          (subst (λ (l : Length). fitting l n ≡ true) (lengths-from (kindOf k)) f))
       by (some m) e = absurd (subst Bare e (bare k a b))
 
   pub text-none : (n - 8 ≡ 6 + size (listedFields (placeIn (kindOf k)))) × (n - 8 + 8 ≤ n)

@@ -33,7 +33,8 @@ use Rattle.forms.proofs.Texts.{ping-fields}
 use Rattle.forms.proofs.Stored.{length-silence, closed, enclosed}
 
 -- the frame of a type and data
-raw-frame : (k : ℕ) (d : List ℕ) → frame false (record { kind = k; body = d }) ≡ openBytes false (length d + 10) k ++ (d ++ bytesOf false 4 (length d + 10))
+raw-frame : (k : ℕ) (d : List ℕ)
+    → frame false (record { kind = k; body = d }) ≡ openBytes false (length d + 10) k ++ (d ++ bytesOf false 4 (length d + 10))
 unfolding frame openBytes
 raw-frame k d =
     let z : length d ≡ length d + 10 - 10 = omega arith in
@@ -74,16 +75,22 @@ module _ {o : Bool} {f : List ℕ} {at n k : ℕ} (s : SoundHere o f at n k) whe
   unfolding wordsIn
   words-place a h =
       let w : length (t .body) - (a + 4) ≡ at + (n - 8) - (at + (6 + a)) = omega (arith, size-body) in
-      ap (λ (i : ℕ). allWords 4 o (take i (drop a (t .body)))) w ∙ ap (allWords 4 o) (part-place a (at + (n - 8) - (at + (6 + a))) (omega arith))
+      ap (λ (i : ℕ). allWords 4 o (take i (drop a (t .body)))) w
+      ∙ ap (allWords 4 o) (part-place a (at + (n - 8) - (at + (6 + a))) (omega arith))
 
   -- a C-32 ping counts the samples of its words, and they are few
-  pub spread-count : k ≡ 10010 → fieldAt o f at 4 24 ≡ length (decode radix (allWords 4 o (take (at + (n - 8) - (at + 28)) (drop (at + 28) f))))
+  pub spread-count : k ≡ 10010
+      → fieldAt o f at 4 24 ≡ length (decode radix (allWords 4 o (take (at + (n - 8) - (at + 28)) (drop (at + 28) f))))
   unfolding contentC
   spread-count e = count-of s e ∙ ap (λ (ws : List ℕ). length (decode radix ws)) (words-place 22 (omega (arith, long-words s e)))
 
   pub spread-few : 40 ≤ n → length (take (at + (n - 8) - (at + 28)) (drop (at + 28) f)) ≤ 262108
   spread-few long =
-      omega (arith, length-take-le (at + (n - 8) - (at + 28)) (drop (at + 28) f) (simp length-drop (omega (arith, there s .fits))), allowed-most n (there s .allowed))
+      omega (
+        arith,
+        length-take-le (at + (n - 8) - (at + 28)) (drop (at + 28) f) (simp length-drop (omega (arith, there s .fits))),
+        allowed-most n (there s .allowed),
+      )
 
   -- ---- its form by parts h, m and the attribute, each by its place
   moved : {i j c e : ℕ} {h g m l : List ℕ} → i ≡ j → c ≡ e → h ≡ g → m ≡ l
@@ -104,9 +111,12 @@ module _ {o : Bool} {f : List ℕ} {at n k : ℕ} (s : SoundHere o f at n k) whe
     stored j e h m p q x y b w = w ∙ closed out to j e h m _ p q x y ∙ ap (sets out to) (sym b)
 
     -- a row, its characters at `text`
-    pub row-written : (fs : List Field) (x : Option ℕ) → shapeOf k ≡ row fs x → (gs : List Field) → gs ≡ fs → (text : ℕ) → text ≡ 6 + size fs
+    pub row-written : (fs : List Field) (x : Option ℕ) → shapeOf k ≡ row fs x → (gs : List Field) → gs ≡ fs → (text : ℕ)
+        → text ≡ 6 + size fs
         → left
-        ≡ sets (sets (sets out to (openingBytes false n k (turned o gs (drop (at + 6) f)))) (to + text) (take (n - 8 - text) (drop (at + text) f))) (to + (n - 8))
+        ≡ sets (sets (sets out to (openingBytes false n k (turned o gs (drop (at + 6) f)))) (to + text)
+        (take (n - 8 - text) (drop (at + text) f)))
+        (to + (n - 8))
         (closeBytes false n (numOf o (take 4 (drop (at + (n - 8)) f))))
         → left ≡ sets out to (formBytes o (tupAt o (drop at f)))
     row-written fs x e gs g text z w =
@@ -122,12 +132,16 @@ module _ {o : Bool} {f : List ℕ} {at n k : ℕ} (s : SoundHere o f at n k) whe
         ap (λ (i : ℕ). take i (drop (size fs) (t .body))) width
         ∙ part-place (size fs) (n - 8 - text) (omega arith)
         ∙ ap (λ (i : ℕ). take (n - 8 - text) (drop (at + i) f)) (sym z) in
-        stored n k head mid (to + text) (to + (n - 8)) (omega (arith, length-turned o fs (drop (at + 6) f) room)) (omega (arith, length-take-le (n - 8 - text) (drop (at + text) f) rest))
+        stored n k head mid (to + text) (to + (n - 8)) (omega (arith, length-turned o fs (drop (at + 6) f) room))
+        (omega (arith, length-take-le (n - 8 - text) (drop (at + text) f) rest))
         (moved (size-of s) (s .here .kind) (fields-place fs (omega arith)) middle (parts-row o t (s .own) fs x shape .are))
-        (w ∙ ap (λ (us : List Field). sets (sets (sets out to (openingBytes false n k (turned o us (drop (at + 6) f)))) (to + text) mid) (to + (n - 8)) (closeBytes false n (numOf o (take 4 (drop (at + (n - 8)) f))))) g)
+        (w ∙ ap (λ (us : List Field). sets (sets (sets out to (openingBytes false n k (turned o us (drop (at + 6) f)))) (to + text) mid)
+        (to + (n - 8)) (closeBytes false n (numOf o (take 4 (drop (at + (n - 8)) f)))))
+        g)
 
     -- an unlisted tuple
-    pub raw-written : shapeOf k ≡ unlisted → left ≡ sets (sets (sets out to (openBytes false n k)) (to + 6) (take (n - 10) (drop (at + 6) f))) (to + n - 4) (bytesOf false 4 n)
+    pub raw-written : shapeOf k ≡ unlisted
+        → left ≡ sets (sets (sets out to (openBytes false n k)) (to + 6) (take (n - 10) (drop (at + 6) f))) (to + n - 4) (bytesOf false 4 n)
         → left ≡ sets out to (formBytes o (tupAt o (drop at f)))
     raw-written e w =
         let d = take (n - 10) (drop (at + 6) f) in
@@ -137,7 +151,9 @@ module _ {o : Bool} {f : List ℕ} {at n k : ℕ} (s : SoundHere o f at n k) whe
         let fit : length d ≡ n - 10 = ap length (sym body) ∙ size-body in
         w
         ∙ enclosed out to n k d (to + n - 4) (omega arith)
-        ∙ ap (sets out to) (sym (form-raw o t (shape-of s ∙ e) ∙ raw-frame (t .kind) (t .body) ∙ ap₂ (λ (c : ℕ) (b : List ℕ). openBytes false (length b + 10) c ++ (b ++ bytesOf false 4 (length b + 10))) (s .here .kind) body
+        ∙ ap (sets out to) (sym (form-raw o t (shape-of s ∙ e)
+        ∙ raw-frame (t .kind) (t .body)
+        ∙ ap₂ (λ (c : ℕ) (b : List ℕ). openBytes false (length b + 10) c ++ (b ++ bytesOf false 4 (length b + 10))) (s .here .kind) body
         ∙ ap (λ (i : ℕ). openBytes false i k ++ (d ++ bytesOf false 4 i)) (omega arith)))
 
     -- a ping of either kind: its header has 18 bytes
@@ -153,25 +169,32 @@ module _ {o : Bool} {f : List ℕ} {at n k : ℕ} (s : SoundHere o f at n k) whe
           let room : 18 ≤ length (drop (at + 6) f) = simp length-drop (omega (arith, there s .fits)) in
           stored j e g m (to + 24) q (omega (arith, length-turned o pingRow (drop (at + 6) f) room)) z
           (moved {m = m} refl refl (fields-place pingRow (omega arith)) refl b)
-          (w ∙ ap (λ (us : List Field). sets (sets (sets out to (openingBytes false j e (turned o us (drop (at + 6) f)))) (to + 24) m) q (closeBytes false j (numOf o (take 4 (drop (at + (n - 8)) f))))) (ping-fields refl))
+          (w ∙ ap (λ (us : List Field). sets (sets (sets out to (openingBytes false j e (turned o us (drop (at + 6) f)))) (to + 24) m) q
+          (closeBytes false j (numOf o (take 4 (drop (at + (n - 8)) f)))))
+          (ping-fields refl))
 
     -- a U-32 ping, its words turned
     pub pairs-written : k ≡ 10000
         → left
         ≡ sets
         (sets (sets out to (openingBytes false n 10000 (turned o (listedFields (placeIn PingU)) (drop (at + 6) f)))) (to + 24)
-        (unwords 4 false (allWords 4 o (take (at + (n - 8) - (at + 24)) (drop (at + 24) f))))) (to + (n - 8)) (closeBytes false n (numOf o (take 4 (drop (at + (n - 8)) f))))
+        (unwords 4 false (allWords 4 o (take (at + (n - 8) - (at + 24)) (drop (at + 24) f))))) (to + (n - 8))
+        (closeBytes false n (numOf o (take 4 (drop (at + (n - 8)) f))))
         → left ≡ sets out to (formBytes o (tupAt o (drop at f)))
     pairs-written e w =
         let shape = pairs-shape s e in
         let long = long-pairs s e in
         let four = allowed-4 n (there s .allowed) in
         let part = take (at + (n - 8) - (at + 24)) (drop (at + 24) f) in
-        let fit : length part ≡ n - 32 = length-take-le (at + (n - 8) - (at + 24)) (drop (at + 24) f) (simp length-drop (omega (arith, there s .fits))) ∙ omega arith in
+        let fit : length part ≡ n - 32 =
+        length-take-le (at + (n - 8) - (at + 24)) (drop (at + 24) f) (simp length-drop (omega (arith, there s .fits)))
+        ∙ omega arith in
         let ws = allWords 4 o part in
         ping-written long n 10000 (unwords 4 false ws) (to + (n - 8)) (omega (arith, length-unwords 4 false ws, length-all 4 o part))
         (parts-U o t (s .own) shape .are
-        ∙ ap₂ (λ (i : ℕ) (l : List ℕ). openingBytes false i 10000 (turned o pingRow (t .body)) ++ (unwords 4 false l ++ closeBytes false i (attributeIn o (t .body)))) (size-of s) (words-place 18 (omega arith)))
+        ∙ ap₂ (λ (i : ℕ) (l : List ℕ). openingBytes false i 10000 (turned o pingRow (t .body))
+        ++ (unwords 4 false l ++ closeBytes false i (attributeIn o (t .body))))
+        (size-of s) (words-place 18 (omega arith)))
         w
 
     -- a C-32 ping, of j bytes as U-32
@@ -179,23 +202,30 @@ module _ {o : Bool} {f : List ℕ} {at n k : ℕ} (s : SoundHere o f at n k) whe
         → left
         ≡ sets
         (sets (sets out to (openingBytes false j 10000 (turned o (listedFields (placeIn PingU)) (drop (at + 6) f)))) (to + 24)
-        (unwords 4 false (unpair (decode radix (allWords 4 o (take (at + (n - 8) - (at + 28)) (drop (at + 28) f))))))) (to + (j - 8)) (closeBytes false j (numOf o (take 4 (drop (at + (n - 8)) f))))
+        (unwords 4 false (unpair (decode radix (allWords 4 o (take (at + (n - 8) - (at + 28)) (drop (at + 28) f))))))) (to + (j - 8))
+        (closeBytes false j (numOf o (take 4 (drop (at + (n - 8)) f))))
         → left ≡ sets out to (formBytes o (tupAt o (drop at f)))
     words-written e j z any w =
         let shape = words-shape s e in
         let long = long-words s e in
         let count = count-of s e in
         let x = decode radix (allWords 4 o (take (at + (n - 8) - (at + 28)) (drop (at + 28) f))) in
-        ping-written long j 10000 (unwords 4 false (unpair x)) (to + (j - 8)) (omega (arith, length-unwords 4 false (unpair x), length-unpair x, spread-count e))
+        ping-written long j 10000 (unwords 4 false (unpair x)) (to + (j - 8))
+        (omega (arith, length-unwords 4 false (unpair x), length-unpair x, spread-count e))
         (parts-C o t (s .own) shape j (omega arith) (omega arith) .are
-        ∙ ap (λ (l : List ℕ). openingBytes false j 10000 (turned o pingRow (t .body)) ++ (unwords 4 false (unpair (decode radix l)) ++ closeBytes false j (attributeIn o (t .body)))) (words-place 22 (omega arith)))
+        ∙ ap (λ (l : List ℕ). openingBytes false j 10000 (turned o pingRow (t .body))
+        ++ (unwords 4 false (unpair (decode radix l)) ++ closeBytes false j (attributeIn o (t .body))))
+        (words-place 22 (omega arith)))
         w
 
     -- one without samples
     pub silent-written : k ≡ 10010 → fieldAt o f at 4 24 ≡ 0
         → left
-        ≡ sets (sets (sets out to (openingBytes false 40 10010 (turned o (listedFields (placeIn PingU)) (drop (at + 6) f)))) (to + 24) silence) (to + 32)
+        ≡ sets (sets (sets out to (openingBytes false 40 10010 (turned o (listedFields (placeIn PingU)) (drop (at + 6) f)))) (to + 24)
+        silence)
+        (to + 32)
         (closeBytes false 40 (numOf o (take 4 (drop (at + (n - 8)) f))))
         → left ≡ sets out to (formBytes o (tupAt o (drop at f)))
     silent-written e zero w =
-        ping-written (long-words s e) 40 10010 silence (to + 32) (omega (arith, length-silence)) (parts-silent o t (s .own) (words-shape s e) (omega (arith, count-of s e)) .are) w
+        ping-written (long-words s e) 40 10010 silence (to + 32) (omega (arith, length-silence))
+        (parts-silent o t (s .own) (words-shape s e) (omega (arith, count-of s e)) .are) w

@@ -91,7 +91,9 @@ fn open_form(
     requires { ⌜ at + 6 + size (listedFields listing) ≤ length (now file) ⌝ }
     requires { ⌜ to + 6 + size (listedFields listing) ≤ length (now out) ⌝ }
     requires { ⌜ (10 ≤ bytes) × (bytes < 2 ^ 32) ⌝ }
-    ensures { λ _. ⌜ now (out .exit) ≡ sets (now (out .entry)) to (openingBytes false bytes code (turned msb (listedFields listing) (drop (at + 6) (now (file .entry))))) ⌝ }
+    ensures { λ _.
+        ⌜ now (out .exit) ≡ sets (now (out .entry)) to
+        (openingBytes false bytes code (turned msb (listedFields listing) (drop (at + 6) (now (file .entry))))) ⌝ }
 {
     frame::open_frame(out, to, false, bytes, code);
     turn_listed(file, at + DATA, msb, listing, out, to + DATA);
@@ -102,7 +104,8 @@ fn close_form(file: &[u8], from: usize, msb: bool, out: &mut [u8], to: usize, by
     requires { ⌜ from + 4 ≤ length (now file) ⌝ }
     requires { ⌜ to + 8 ≤ length (now out) ⌝ }
     requires { ⌜ bytes < 2 ^ 32 ⌝ }
-    ensures { λ _. ⌜ now (out .exit) ≡ sets (now (out .entry)) to (closeBytes false bytes (numOf msb (take 4 (drop from (now (file .entry)))))) ⌝ }
+    ensures { λ _.
+        ⌜ now (out .exit) ≡ sets (now (out .entry)) to (closeBytes false bytes (numOf msb (take 4 (drop from (now (file .entry)))))) ⌝ }
 {
     frame::close_frame(out, to, false, bytes, order::read4(file, from, msb));
 }

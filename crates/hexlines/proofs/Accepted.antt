@@ -44,14 +44,18 @@ all-normal : (f : List ℕ) → Division f → AllFramed (normalTuples (contentO
 unfolding contentOf
 all-normal f a =
     let g = all-framed (a .msb) (a .tuples) (a .sound) in
-    let content : contentOf f ≡ items (a .msb) (a .tuples) = ap contentOf (a .whole) ∙ ap₂ items (msb-mark (a .msb) (frames (a .msb) (a .tuples))) (tuples-of (a .msb) (a .tuples) g) in
-    subst (λ (c : List Item). AllFramed (normalTuples c)) (sym content) (all-framed false (normalTuples (items (a .msb) (a .tuples))) (carried (a .msb) (a .tuples) (a .sound) .sound))
+    let content : contentOf f ≡ items (a .msb) (a .tuples) = ap contentOf (a .whole)
+    ∙ ap₂ items (msb-mark (a .msb) (frames (a .msb) (a .tuples))) (tuples-of (a .msb) (a .tuples) g) in
+    subst (λ (c : List Item). AllFramed (normalTuples c)) (sym content)
+    (all-framed false (normalTuples (items (a .msb) (a .tuples))) (carried (a .msb) (a .tuples) (a .sound) .sound))
 
-pub file-written : (f : List ℕ) → Bytes f → (room : ℕ) (n : Counts) → normalAnswer f room ≡ Accepted n → Written (normalOf f) (normalTuples (contentOf f)) room (n .written)
+pub file-written : (f : List ℕ) → Bytes f → (room : ℕ) (n : Counts) → normalAnswer f room ≡ Accepted n
+    → Written (normalOf f) (normalTuples (contentOf f)) room (n .written)
 unfolding normalAnswer
 file-written f b room n e = by-answer (checkFile f) refl e
   where
-    by-answer : (a : Answer) → checkFile f ≡ a → behindCheck f room a ≡ Accepted n → Written (normalOf f) (normalTuples (contentOf f)) room (n .written)
+    by-answer : (a : Answer) → checkFile f ≡ a → behindCheck f room a ≡ Accepted n
+        → Written (normalOf f) (normalTuples (contentOf f)) room (n .written)
     by-answer (Refused c p) h q = refusal c p n q
     by-answer (Accepted i) h q =
         let c = clear isAccepted (normalRules f room) (Accepted (normalCounts f i)) (Accepted n) (refl, (refl, (refl, tt))) q refl in
@@ -78,7 +82,8 @@ one-normal o t s = by-item (itemOf o t) refl
     by-item (some i) e = (kept o t s i e .sound .framed, tt)
 
 -- a tuple that passes its rules is sound
-sound : (o : Bool) (r : List ℕ) → Bytes r → AllPass (frameRules o r ++ (headRules o (tupAt o r) ++ innerRules o (tupAt o r))) → Sound o (tupAt o r)
+sound : (o : Bool) (r : List ℕ) → Bytes r → AllPass (frameRules o r ++ (headRules o (tupAt o r) ++ innerRules o (tupAt o r)))
+    → Sound o (tupAt o r)
 unfolding framing
 sound o r b p =
     let head = headRules o (tupAt o r) in
@@ -91,7 +96,8 @@ sound o r b p =
       inner = both-right (judged head) (judged inner) own;
     }
 
-pub tuple-written : (f : List ℕ) → Bytes f → (room : ℕ) (n : Counts) → singleAnswer f room ≡ Accepted n → Written (singleForm f) (singleTuples f) room (n .written)
+pub tuple-written : (f : List ℕ) → Bytes f → (room : ℕ) (n : Counts) → singleAnswer f room ≡ Accepted n
+    → Written (singleForm f) (singleTuples f) room (n .written)
 unfolding singleAnswer
 tuple-written f b room n e =
     let o = isMsb f in

@@ -39,7 +39,8 @@ unfolding allDigits
 digits-end l i h = rw (drop-of-length-le l h)
 
 -- two digits at i, and digits behind them
-split : (l : List ℕ) (i : ℕ) → i < length l → allDigits (drop i l) ≡ true → (isDigit (getD l i 0) ≡ true) × (allDigits (drop (i + 1) l) ≡ true)
+split : (l : List ℕ) (i : ℕ) → i < length l → allDigits (drop i l) ≡ true
+    → (isDigit (getD l i 0) ≡ true) × (allDigits (drop (i + 1) l) ≡ true)
 split l i h e = both-true _ _ (sym (digits-next l i h) ∙ e)
 
 pub digits-pair : (l : List ℕ) (i : ℕ) → i + 1 < length l → allDigits (drop i l) ≡ true
@@ -51,7 +52,8 @@ digits-pair l i h e =
     (a .0, (b .0, ap (λ (k : ℕ). allDigits (drop k l)) two ∙ b .1))
 
 -- ---- the bytes of a line from i on
-pub bytes-next : (l : List ℕ) (i : ℕ) → i + 1 < length l → bytesIn (drop i l) ≡ (16 * digitOf (getD l i 0) + digitOf (getD l (i + 1) 0)) ∷ bytesIn (drop (i + 2) l)
+pub bytes-next : (l : List ℕ) (i : ℕ) → i + 1 < length l
+    → bytesIn (drop i l) ≡ (16 * digitOf (getD l i 0) + digitOf (getD l (i + 1) 0)) ∷ bytesIn (drop (i + 2) l)
 unfolding bytesIn
 bytes-next l i h =
     let a : i < length l = omega arith in
@@ -69,7 +71,8 @@ length-bytesIn (c ∷ []) = refl
 length-bytesIn (c ∷ d ∷ cs) = omega (arith, length-bytesIn cs)
 
 -- ---- the digits of bytes from i on
-pub hex-next : (bs : List ℕ) (i : ℕ) → i < length bs → hex (drop i bs) ≡ digit (getD bs i 0 / 16) ∷ digit (getD bs i 0 % 16) ∷ hex (drop (i + 1) bs)
+pub hex-next : (bs : List ℕ) (i : ℕ) → i < length bs
+    → hex (drop i bs) ≡ digit (getD bs i 0 / 16) ∷ digit (getD bs i 0 % 16) ∷ hex (drop (i + 1) bs)
 unfolding hex
 hex-next bs i h = rw (drop-cons bs i 0 h, add-one i)
 

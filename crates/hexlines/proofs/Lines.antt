@@ -27,7 +27,10 @@ module _ (t : List ℕ) (i : ℕ) where
   ends-at h e = ap lineLength (drop-cons t i 0 h) ∙ ends (getD t i 0) (drop (suc i) t) (eq-eqb _ _ e)
 
   pub goes-past : i < length t → (getD t i 0 ≡ lineFeed → ⊥) → lineLength (drop i t) ≡ lineLength (drop (i + 1) t) + 1
-  goes-past h e = ap lineLength (drop-cons t i 0 h) ∙ goes-on (getD t i 0) (drop (suc i) t) (ne-eqb _ _ e) ∙ ap (λ (k : ℕ). lineLength (drop k t) + 1) (sym (add-one i))
+  goes-past h e =
+      ap lineLength (drop-cons t i 0 h)
+      ∙ goes-on (getD t i 0) (drop (suc i) t) (ne-eqb _ _ e)
+      ∙ ap (λ (k : ℕ). lineLength (drop k t) + 1) (sym (add-one i))
 
   pub ends-last : length t ≤ i → lineLength (drop i t) ≡ 0
   unfolding lineLength
@@ -45,11 +48,13 @@ parted-here : (c : ℕ) (cs : List ℕ) → eqb c lineFeed ≡ true → Parted (
 unfolding linesOf
 parted-here c cs e = rw (ends c cs e, e, linesOf)
 
-parted-past : (c : ℕ) (cs : List ℕ) → inFront c (linesOf cs) ≡ (c ∷ take (lineLength cs) cs) ∷ linesOf (drop (lineLength cs + 1) cs) → eqb c lineFeed ≡ false → Parted (c ∷ cs)
+parted-past : (c : ℕ) (cs : List ℕ) → inFront c (linesOf cs) ≡ (c ∷ take (lineLength cs) cs) ∷ linesOf (drop (lineLength cs + 1) cs)
+    → eqb c lineFeed ≡ false → Parted (c ∷ cs)
 unfolding linesOf
 parted-past c cs f e = rw (goes-on c cs e, add-one (lineLength cs), add-one (suc (lineLength cs)), e, linesOf) (rw add-one at f)
 
 pub lines-cons : (t : List ℕ) → 0 < length t → Parted t
 lines-cons [] h = absurd (omega arith)
 lines-cons (c ∷ []) h = by-bool (eqb c lineFeed) (parted-here c []) (parted-past c [] (unfold linesOf in unfold lineLength in refl))
-lines-cons (c ∷ d ∷ ds) h = by-bool (eqb c lineFeed) (parted-here c (d ∷ ds)) (parted-past c (d ∷ ds) (ap (inFront c) (lines-cons (d ∷ ds) (omega arith))))
+lines-cons (c ∷ d ∷ ds) h =
+    by-bool (eqb c lineFeed) (parted-here c (d ∷ ds)) (parted-past c (d ∷ ds) (ap (inFront c) (lines-cons (d ∷ ds) (omega arith))))

@@ -44,14 +44,16 @@ pub record Printing (form out₀ : List ℕ) (to₀ : ℕ) (ts : List Tup) (out 
   pub memory : sets out to (tupleLines left) ≡ sets out₀ to₀ (tupleLines ts)
 
 pub printing-begin : (form out₀ : List ℕ) (to₀ : ℕ) (ts : List Tup) → Form form ts → Printing form out₀ to₀ ts out₀ to₀ 4
-printing-begin form out₀ to₀ ts f = record { left = ts; rest = behind-mark form ts f; framed = f .framed; long = refl; behind = refl; memory = refl }
+printing-begin form out₀ to₀ ts f =
+    record { left = ts; rest = behind-mark form ts f; framed = f .framed; long = refl; behind = refl; memory = refl }
 
 -- what a turn wants and gives: the tuple at the place is n bytes
 pub record Turn (form out₀ : List ℕ) (to₀ : ℕ) (ts : List Tup) (out : List ℕ) (to at n : ℕ) : Type 0 where
   pub some : 16 ≤ n
   pub within : at + n ≤ length form
   pub room : to + 2 * length (take (at + n - at) (drop at form)) + 1 ≤ to₀ + length (tupleLines ts)
-  pub next : (to′ : ℕ) (out′ : List ℕ) → Put out to (line (hex (take (at + n - at) (drop at form)))) to′ out′ → Printing form out₀ to₀ ts out′ to′ (at + n)
+  pub next : (to′ : ℕ) (out′ : List ℕ) → Put out to (line (hex (take (at + n - at) (drop at form)))) to′ out′
+      → Printing form out₀ to₀ ts out′ to′ (at + n)
 
 module _ (form out₀ : List ℕ) (to₀ : ℕ) (ts : List Tup) (out : List ℕ) (to at : ℕ) (h : at < length form) where
   turn-of : (us : List Tup) → drop at form ≡ frames false us → AllFramed us → length out ≡ length out₀
@@ -66,7 +68,8 @@ module _ (form out₀ : List ℕ) (to₀ : ℕ) (ts : List Tup) (out : List ℕ)
       let z : at + n - at ≡ lengthOf t = omega arith in
       let part : take (at + n - at) (drop at form) ≡ frame false t =
       ap₂ (λ (k : ℕ) (r : List ℕ). take k r) z rest ∙ take-at (frame false t) fs (lengthOf t) (length-frame false t) in
-      let long-line : length (line (hex (frame false t))) ≡ 2 * lengthOf t + 1 = length-line (frame false t) ∙ ap (λ (k : ℕ). 2 * k + 1) (length-frame false t) in
+      let long-line : length (line (hex (frame false t))) ≡ 2 * lengthOf t + 1 = length-line (frame false t)
+      ∙ ap (λ (k : ℕ). 2 * k + 1) (length-frame false t) in
       let both = length-append (line (hex (frame false t))) (tupleLines us) in
       record {
         some = omega (arith, allowed-16 (lengthOf t) (framed .0 .allowed));
@@ -85,12 +88,15 @@ module _ (form out₀ : List ℕ) (to₀ : ℕ) (ts : List Tup) (out : List ℕ)
       }
 
   pub printing-turn : Printing form out₀ to₀ ts out to at → (n : ℕ) → n ≡ lenAt false (drop at form) → Turn form out₀ to₀ ts out to at n
-  printing-turn g n e = subst (Turn form out₀ to₀ ts out to at) (sym e) (turn-of (g .left) (g .rest) (g .framed) (g .long) (g .behind) (g .memory))
+  printing-turn g n e =
+      subst (Turn form out₀ to₀ ts out to at) (sym e) (turn-of (g .left) (g .rest) (g .framed) (g .long) (g .behind) (g .memory))
 
 -- nothing is left at the end
-pub printing-done : {form out₀ : List ℕ} {to₀ : ℕ} {ts : List Tup} {out : List ℕ} {to at : ℕ} → Printing form out₀ to₀ ts out to at → length form ≤ at
+pub printing-done : {form out₀ : List ℕ} {to₀ : ℕ} {ts : List Tup} {out : List ℕ} {to at : ℕ} → Printing form out₀ to₀ ts out to at
+    → length form ≤ at
     → to₀ + length (tupleLines ts) ≤ length out₀ → Put out₀ to₀ (tupleLines ts) to out
-printing-done {form} {out₀} {to₀} {ts} {out} {to} {at} g h room = done (g .left) (sym (g .rest) ∙ drop-of-length-le form h) (g .behind) (g .memory)
+printing-done {form} {out₀} {to₀} {ts} {out} {to} {at} g h room =
+    done (g .left) (sym (g .rest) ∙ drop-of-length-le form h) (g .behind) (g .memory)
   where
     done : (us : List Tup) → frames false us ≡ [] → to + length (tupleLines us) ≡ to₀ + length (tupleLines ts)
         → sets out to (tupleLines us) ≡ sets out₀ to₀ (tupleLines ts) → Put out₀ to₀ (tupleLines ts) to out

@@ -45,7 +45,13 @@ length-tupleLines (t ∷ ts) =
 few : (ts : List Tup) → AllFramed ts → 16 * length ts ≤ length (frames false ts)
 few [] f = omega arith
 few (t ∷ ts) f =
-    omega (arith, length-append (frame false t) (frames false ts), length-frame false t, allowed-16 (lengthOf t) (f .0 .allowed), few ts (f .1))
+    omega (
+      arith,
+      length-append (frame false t) (frames false ts),
+      length-frame false t,
+      allowed-16 (lengthOf t) (f .0 .allowed),
+      few ts (f .1),
+    )
 
 pub most : (form : List ℕ) (ts : List Tup) → Form form ts → length form ≤ room → length (fileLines ts) ≤ mostPrinted
 most form ts f h =
@@ -64,7 +70,8 @@ pub record Answered (text : List ℕ) (a : Answer) (left : List ℕ) : Type 0 wh
   pub ready : Ready a left
   pub says : printedBy a left ≡ text
 
-answered : (form lent left : List ℕ) (ts : List Tup) (a : Answer) → length lent ≡ room → ((n : Counts) → a ≡ Accepted n → Written form ts room (n .written))
+answered : (form lent left : List ℕ) (ts : List Tup) (a : Answer) → length lent ≡ room
+    → ((n : Counts) → a ≡ Accepted n → Written form ts room (n .written))
     → left ≡ leftBy a form lent → Answered (printed ts a) a left
 answered form lent left ts (Refused c p) h w e = record { ready = tt; says = refl }
 answered form lent left ts (Accepted n) h w e =
@@ -77,7 +84,13 @@ answered form lent left ts (Accepted n) h w e =
           record {
             long = omega (arith, g .bytes, ap length e, length-append form (drop (length form) lent));
             small = omega (arith, g .bytes, g .fits);
-            form = record { whole = front ∙ g .whole .whole ∙ ap (λ (us : List Tup). mark false ++ frames false us) (sym tuples); framed = subst AllFramed (sym tuples) (g .whole .framed) };
+            form =
+                record {
+                  whole = front
+                      ∙ g .whole .whole
+                      ∙ ap (λ (us : List Tup). mark false ++ frames false us) (sym tuples);
+                  framed = subst AllFramed (sym tuples) (g .whole .framed);
+                };
           };
       says = ap fileLines tuples;
     }
@@ -87,13 +100,15 @@ module _ (f lent left : List ℕ) (b : Bytes f) (h : length lent ≡ room) (r : 
   file-answered n =
       let e : r ≡ normalAnswer f room = n .answer .is ∙ ap (normalAnswer f) h in
       subst (λ (a : Answer). Answered (printed (normalTuples (contentOf f)) a) r left) e
-      (answered (normalOf f) lent left (normalTuples (contentOf f)) r h (λ n q. file-written f b room n (sym e ∙ q)) (n .memory ∙ ap (λ (a : Answer). leftBy a (normalOf f) lent) (sym (n .answer .is))))
+      (answered (normalOf f) lent left (normalTuples (contentOf f)) r h (λ n q. file-written f b room n (sym e ∙ q))
+      (n .memory ∙ ap (λ (a : Answer). leftBy a (normalOf f) lent) (sym (n .answer .is))))
 
   pub tuple-answered : NormalisedTuple f lent r left → Answered (tupleProgram (bytes f)) r left
   tuple-answered n =
       let e : r ≡ singleAnswer f room = n .answer .is ∙ ap (singleAnswer f) h in
       subst (λ (a : Answer). Answered (printed (singleTuples f) a) r left) e
-      (answered (singleForm f) lent left (singleTuples f) r h (λ n q. tuple-written f b room n (sym e ∙ q)) (n .memory ∙ ap (λ (a : Answer). leftBy a (singleForm f) lent) (sym (n .answer .is))))
+      (answered (singleForm f) lent left (singleTuples f) r h (λ n q. tuple-written f b room n (sym e ∙ q))
+      (n .memory ∙ ap (λ (a : Answer). leftBy a (singleForm f) lent) (sym (n .answer .is))))
 
 -- ---- what is printed of the input is what is printed of the text
 prints : {out says whole left : List ℕ} {r : ℕ} → says ≡ whole → Put out 0 says r left → Prints whole out r left

@@ -82,7 +82,10 @@ unfolding linesOf inputFrom bytesBefore
 reading-done {text} {bytes₀} {bytes} {number} {decoded} {at} g h =
     let e : drop at text ≡ [] = drop-of-length-le text h in
     record {
-      answer = ap Bytes (sym (add-zero decoded)) ∙ ap (λ (t : List ℕ). counted decoded (inputFrom number decoded (linesOf t))) (sym e) ∙ g .answer;
+      answer =
+          ap Bytes (sym (add-zero decoded))
+          ∙ ap (λ (t : List ℕ). counted decoded (inputFrom number decoded (linesOf t))) (sym e)
+          ∙ g .answer;
       memory = ap (λ (t : List ℕ). sets bytes decoded (bytesBefore decoded (linesOf t))) (sym e) ∙ g .memory;
     }
 
@@ -110,8 +113,12 @@ module _ (text : List ℕ) (at end : ℕ) (h : at < length text) (e : end ≡ at
     reading-bad b =
         record {
           answer =
-              ap (counted decoded) (sym (ap (inputFrom number decoded) parted ∙ input-bad decoded line (linesOf (drop (end + 1) text)) number b)) ∙ g .answer;
-          memory = ap (sets bytes decoded) (sym (ap (bytesBefore decoded) parted ∙ before-bad decoded line (linesOf (drop (end + 1) text)) b)) ∙ g .memory;
+              ap (counted decoded) (sym
+              (ap (inputFrom number decoded) parted ∙ input-bad decoded line (linesOf (drop (end + 1) text)) number b))
+              ∙ g .answer;
+          memory =
+              ap (sets bytes decoded) (sym (ap (bytesBefore decoded) parted ∙ before-bad decoded line (linesOf (drop (end + 1) text)) b))
+              ∙ g .memory;
         }
 
     pub reading-again : isBad decoded line ≡ false → (left : List ℕ) → left ≡ sets bytes decoded (bytesIn line)
@@ -135,7 +142,8 @@ module _ (text : List ℕ) (at end : ℕ) (h : at < length text) (e : end ≡ at
           memory =
               ap (λ (x : List ℕ). sets x (decoded + (end - at) / 2) (bytesBefore (decoded + (end - at) / 2) ls)) put
               ∙ ap (λ (m : ℕ). sets (sets bytes decoded (bytesIn line)) (decoded + m) (bytesBefore (decoded + (end - at) / 2) ls)) (sym n)
-              ∙ ap (λ (m : ℕ). sets (sets bytes decoded (bytesIn line)) (decoded + length (bytesIn line)) (bytesBefore (decoded + m) ls)) (sym k)
+              ∙ ap (λ (m : ℕ). sets (sets bytes decoded (bytesIn line)) (decoded + length (bytesIn line)) (bytesBefore (decoded + m) ls))
+              (sym k)
               ∙ sym (ap (sets bytes decoded) (ap (bytesBefore decoded) parted ∙ before-good decoded line ls b)
               ∙ sets-append (bytesIn line) (bytesBefore (decoded + length line / 2) ls) bytes decoded)
               ∙ g .memory;
@@ -160,7 +168,8 @@ input-before : (ls : List (List ℕ)) (i n : ℕ) (bs : List ℕ) → n ≤ room
 input-before [] i n bs h e = unfold inputFrom bytesBefore in let none : [] ≡ bs = cc in (none, omega (arith, ap length none))
 input-before (l ∷ ls) i n bs h e =
     by-bool (isBad n l) (λ b. absurd (let z : _≡_ {A = ℕ} 0 1 = cc (input-bad n l ls i b) in omega arith))
-    (λ b. before-line l ls n bs _ b (λ cs q. input-before ls (i + 1) (n + length l / 2) cs (good n l b .within) q) (sym (input-good n l ls i b) ∙ e))
+    (λ b. before-line l ls n bs _ b (λ cs q. input-before ls (i + 1) (n + length l / 2) cs (good n l b .within) q)
+    (sym (input-good n l ls i b) ∙ e))
 
 module _ {text bytes₀ left : List ℕ} {r : Decoded} (p : Read text bytes₀ r left) (n : ℕ) where
   pub read-bad : r ≡ Bad n → inputOf text ≡ bad n
@@ -178,5 +187,7 @@ module _ {text bytes₀ left : List ℕ} {r : Decoded} (p : Read text bytes₀ r
       by-input (bytes bs) q z =
           let m : n ≡ 0 + length bs = cc in
           let b = input-before (linesOf text) 1 0 bs (omega arith) q in
-          let stored : left ≡ bs ++ drop (0 + length bs) bytes₀ = p .memory ∙ ap (sets bytes₀ 0) (b .0) ∙ sets-eq bs bytes₀ 0 (omega (arith, b .1)) in
+          let stored : left ≡ bs ++ drop (0 + length bs) bytes₀ = p .memory
+          ∙ ap (sets bytes₀ 0) (b .0)
+          ∙ sets-eq bs bytes₀ 0 (omega (arith, b .1)) in
           (omega (arith, b .1), q ∙ ap bytes (sym (ap (take n) stored ∙ take-at bs (drop (0 + length bs) bytes₀) n (omega arith))))

@@ -72,7 +72,8 @@ module _ (i n k : ℕ) (t : List ℕ) (h : n ≤ room) (g : enough ≤ 3 * n + k
         let le : end ≤ k = omega arith in
         lines-cons (take k t) (simp length-take (omega arith))
         ∙ ap (λ (x : ℕ). take x (take k t) ∷ linesOf (drop (x + 1) (take k t))) (cut-behind t k e)
-        ∙ ap₂ (λ (a b : List ℕ). a ∷ linesOf b) (take-take end k t le) (ap (λ (x : ℕ). drop (end + 1) (take x t)) z ∙ drop-take (end + 1) (k - (end + 1)) t)
+        ∙ ap₂ (λ (a b : List ℕ). a ∷ linesOf b) (take-take end k t le)
+        (ap (λ (x : ℕ). drop (end + 1) (take x t)) z ∙ drop-take (end + 1) (k - (end + 1)) t)
 
     same-whole : ((n′ k′ : ℕ) → n′ ≤ room → enough ≤ 3 * n′ + k′ → Same (i + 1) n′ k′ (drop (end + 1) t)) → Same i n k t
     same-whole rest =

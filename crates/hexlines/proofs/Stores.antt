@@ -20,7 +20,11 @@ store-two l xs rest to v w e = rw (add-one to, add-two to) (ap (sets l to) (sym 
 -- ---- a text put at a place
 pub put-one : (out text : List ℕ) (at v : ℕ) → at < length out → text ≡ v ∷ [] → Put out at text (at + 1) (set out at v)
 put-one out text at v h e =
-    record { behind = ap (λ (x : List ℕ). at + length x) (sym e); within = simp length-set (omega arith); memory = store-one out text [] at v e }
+    record {
+      behind = ap (λ (x : List ℕ). at + length x) (sym e);
+      within = simp length-set (omega arith);
+      memory = store-one out text [] at v e;
+    }
 
 pub put-same : {out a left b : List ℕ} {at r : ℕ} → a ≡ b → Put out at a r left → Put out at b r left
 put-same {out} {left = left} {at = at} {r = r} e p = subst (λ (x : List ℕ). Put out at x r left) e p
@@ -31,4 +35,5 @@ put-rest {out} {a} {left} {at} {r} p b =
     ap (λ (x : List ℕ). sets x r b) (p .memory) ∙ ap (λ (k : ℕ). sets (sets out at a) k b) (p .behind) ∙ sym (sets-append a b out at)
 
 pub put-then : {out a left b last : List ℕ} {at r s : ℕ} → Put out at a r left → Put left r b s last → Put out at (a ++ b) s last
-put-then {a = a} {b = b} p q = record { behind = omega (arith, p .behind, q .behind, length-append a b); within = q .within; memory = q .memory ∙ put-rest p b }
+put-then {a = a} {b = b} p q =
+    record { behind = omega (arith, p .behind, q .behind, length-append a b); within = q .within; memory = q .memory ∙ put-rest p b }

@@ -15,5 +15,6 @@ pub record Prints (text out : List ℕ) (r : ℕ) (left : List ℕ) : Type 0 whe
   pub within : r ≤ length left
   pub memory : left ≡ sets out 0 text
 
-pub prints-settled : {text out : List ℕ} {r s : ℕ} {left kept : List ℕ} → Prints text out r left → Prints text out s kept → (r ≡ s) × (left ≡ kept)
+pub prints-settled : {text out : List ℕ} {r s : ℕ} {left kept : List ℕ} → Prints text out r left → Prints text out s kept
+    → (r ≡ s) × (left ≡ kept)
 prints-settled p q = (p .answer ∙ sym (q .answer), p .memory ∙ sym (q .memory))

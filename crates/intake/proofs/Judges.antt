@@ -31,9 +31,11 @@ use Rattle.links.specs.inner.Tables.{comparing, linking}
 use Rattle.links.proofs.Rows.{told-fine, told-fault}
 use Rattle.samples.specs.Judging.{judgedPairs, judgedWords}
 use Rattle.content.specs.Items.{identifiedBy, headRules, innerRules, unless, digest}
-use Rattle.content.proofs.Places.{by-code, fieldAt, fits-place, identifier-place, identified-other, link-sounder, link-channel, link-threshold, link-attitude, link-ping-U, link-ping-C, link-alone, inner-U, inner-C, inner-other}
+use Rattle.content.proofs.Places.{by-code, fieldAt, fits-place, identifier-place, identified-other, link-sounder, link-channel}
+use Rattle.content.proofs.Places.{link-threshold, link-attitude, link-ping-U, link-ping-C, link-alone, inner-U, inner-C, inner-other}
 use Rattle.intake.specs.declared.Tally.{Tally}
-use Rattle.intake.specs.inner.Tallies.{Tables, soundersBy, channelsBy, Here, Fits, sounderAt, channelAt, namedAt, headVerdict, linkVerdict, innerVerdict, ownVerdict, turnVerdict, said, comparesAt, linkTold, turnTold}
+use Rattle.intake.specs.inner.Tallies.{Tables, soundersBy, channelsBy, Here, Fits, sounderAt, channelAt, namedAt, headVerdict}
+use Rattle.intake.specs.inner.Tallies.{linkVerdict, innerVerdict, ownVerdict, turnVerdict, said, comparesAt, linkTold, turnTold}
 
 -- the tuple at a place; whether its identifier is known
 abbrev pub tupIn : Bool → List ℕ → ℕ → Tup
@@ -94,7 +96,8 @@ module _ {o : Bool} {f : List ℕ} {at n k : ℕ} (h : Here o f at n k) where
   unfolding headVerdict
   own-head =
       let signs = by-code o t .signs ∙ ap (λ (j : ℕ). eqb j 65535) (h .kind) in
-      ap (λ (a : Bool). both (judged ((cond (eqb k 65535) (not a) a ⇒ 7 byte 0) ∷ [])) (judged (headRules o t))) signs ∙ signed (eqb k 65535) (judged (headRules o t))
+      ap (λ (a : Bool). both (judged ((cond (eqb k 65535) (not a) a ⇒ 7 byte 0) ∷ [])) (judged (headRules o t))) signs
+      ∙ signed (eqb k 65535) (judged (headRules o t))
 
   -- 9 and 8, then those of its samples
   pub own-parts : both (headVerdict o (eqb k 65535) (tupIn o f at)) (innerVerdict o (tupIn o f at)) ≡ ownVerdict o (tupIn o f at)
@@ -103,7 +106,12 @@ module _ {o : Bool} {f : List ℕ} {at n k : ℕ} (h : Here o f at n k) where
 
   -- what stands between a header of a bytes and its last 8 is short
   pub few : (a : ℕ) → length (take (at + n - 8 - (at + a)) (drop (at + a) f)) ≤ 262136 - a
-  few a = omega (arith, length-take-le (at + n - 8 - (at + a)) (drop (at + a) f) (simp length-drop (omega (arith, whole .fits))), allowed-most n (whole .allowed))
+  few a =
+      omega (
+        arith,
+        length-take-le (at + n - 8 - (at + a)) (drop (at + a) f) (simp length-drop (omega (arith, whole .fits))),
+        allowed-most n (whole .allowed),
+      )
 
   -- ---- codes of no concern to a rule
   other : {j : ℕ} → (k ≡ j → ⊥) → kindAt o (drop at f) ≡ j → ⊥
@@ -150,15 +158,19 @@ module _ {o : Bool} {f : List ℕ} {at n k : ℕ} (h : Here o f at n k) where
     channel-link e = link-channel o f at n whole (kind-of e) (eqb-true n 108 (length-of e))
 
     -- an attitude of all channels, and of one
-    attitude : {b : Bool} → k ≡ 40 → eqb (namedAt o f at .0) 65535 ≡ b → digest o (tupIn o f at) .link ≡ unless b (Links.names (namedAt o f at))
+    attitude : {b : Bool} → k ≡ 40 → eqb (namedAt o f at .0) 65535 ≡ b
+        → digest o (tupIn o f at) .link ≡ unless b (Links.names (namedAt o f at))
     unfolding kindOf inClass classes listingOf
-    attitude e d = link-attitude o f at n whole (kind-of e) (eqb-true n 36 (length-of e)) ∙ ap (λ (b : Bool). unless b (Links.names (namedAt o f at))) d
+    attitude e d =
+        link-attitude o f at n whole (kind-of e) (eqb-true n 36 (length-of e))
+        ∙ ap (λ (b : Bool). unless b (Links.names (namedAt o f at))) d
 
     names-link : Names k → digest o (tupIn o f at) .link ≡ Links.names (namedAt o f at)
     unfolding kindOf inClass classes listingOf
     names-link =
         ⊎-elim (λ e. link-ping-U o f at n whole (kind-of e) (long-U e))
-        (⊎-elim (λ e. link-ping-C o f at n whole (kind-of e) (long-C e)) (λ e. link-threshold o f at n whole (kind-of e) (eqb-true n 44 (length-of e))))
+        (⊎-elim (λ e. link-ping-C o f at n whole (kind-of e) (long-C e))
+        (λ e. link-threshold o f at n whole (kind-of e) (eqb-true n 44 (length-of e))))
 
     -- its samples, from behind the header to its last 8 bytes
     pub inner-pairs : k ≡ 10000 → innerVerdict o (tupIn o f at) ≡ judgedPairs o (take (at + n - 8 - (at + 24)) (drop (at + 24) f))
@@ -167,7 +179,8 @@ module _ {o : Bool} {f : List ℕ} {at n k : ℕ} (h : Here o f at n k) where
         let z : n - 32 ≡ at + n - 8 - (at + 24) = omega (arith, long-U e) in
         inner-U o f at n whole (kind-of e) (long-U e) ∙ ap (λ (i : ℕ). judgedPairs o (take i (drop (at + 24) f))) z
 
-    pub inner-words : k ≡ 10010 → innerVerdict o (tupIn o f at) ≡ judgedWords o (fieldAt o f at 4 24) (take (at + n - 8 - (at + 28)) (drop (at + 28) f))
+    pub inner-words : k ≡ 10010
+        → innerVerdict o (tupIn o f at) ≡ judgedWords o (fieldAt o f at 4 24) (take (at + n - 8 - (at + 28)) (drop (at + 28) f))
     unfolding innerVerdict kindOf inClass classes
     inner-words e =
         let z : n - 36 ≡ at + n - 8 - (at + 28) = omega (arith, long-C e) in
@@ -209,11 +222,13 @@ module _ {o : Bool} {f : List ℕ} (w : Tally) (c : Tables) {n k : ℕ} (h : Her
     attitude-all e d = alone (attitude h g e (eq-eqb _ _ d))
 
     -- what names a channel
-    named-told : digest o (tupIn o f (w .at)) .link ≡ Links.names (namedAt o f (w .at)) → linking [] (channelsBy w c) (Links.names (namedAt o f (w .at))) ≡ linkTold o f w c
+    named-told : digest o (tupIn o f (w .at)) .link ≡ Links.names (namedAt o f (w .at))
+        → linking [] (channelsBy w c) (Links.names (namedAt o f (w .at))) ≡ linkTold o f w c
     unfolding linking
     named-told e = sym (told e)
 
-    pub attitude-one : k ≡ 40 → (namedAt o f (w .at) .0 ≡ 65535 → ⊥) → linking [] (channelsBy w c) (Links.names (namedAt o f (w .at))) ≡ linkTold o f w c
+    pub attitude-one : k ≡ 40 → (namedAt o f (w .at) .0 ≡ 65535 → ⊥)
+        → linking [] (channelsBy w c) (Links.names (namedAt o f (w .at))) ≡ linkTold o f w c
     attitude-one e d = named-told (attitude h g e (ne-eqb _ _ d))
 
     pub names-told : Names k → linking [] (channelsBy w c) (Links.names (namedAt o f (w .at))) ≡ linkTold o f w c

@@ -35,7 +35,8 @@ use Rattle.intake.specs.Asking.{noChannel, channelNth, channelFor, sound
 use Rattle.intake.specs.inner.Tallies.{Tables, Sized, courseOf, Standing, pingAt, namedAt, askWhere, AskIn}
 use Rattle.intake.proofs.Asks.{Fair}
 
-module _ (o : Bool) (f : List ℕ) (w : Tally) (c : Tables) (s : Standing f w) (l : Sized c) (g : Fair o f (courseOf w c)) (h : Steady (courseOf w c .links)) where
+module _ (o : Bool) (f : List ℕ) (w : Tally) (c : Tables) (s : Standing f w) (l : Sized c) (g : Fair o f (courseOf w c))
+    (h : Steady (courseOf w c .links)) where
   at : ℕ
   at = w .at
 
@@ -64,14 +65,22 @@ module _ (o : Bool) (f : List ℕ) (w : Tally) (c : Tables) (s : Standing f w) (
   pinged-U e =
       let q : kindOf k ≡ PingU = ap kindOf e in
       let long = upward-least 40 n _ (subst (λ (x : Kind). fitting (listingOf x .length) n ≡ true) q fits) in
-      record { it = contentU o (tupAt o (drop (w .at) f) .body); item = ap (λ (x : Kind). itemBy (listingOf x .shape) o (tupAt o (drop (w .at) f))) q; named = header o f (w .at) n whole long }
+      record {
+        it = contentU o (tupAt o (drop (w .at) f) .body);
+        item = ap (λ (x : Kind). itemBy (listingOf x .shape) o (tupAt o (drop (w .at) f))) q;
+        named = header o f (w .at) n whole long;
+      }
 
   pinged-C : k ≡ 10010 → Pinged
   unfolding itemOf contentC listingOf kindOf inClass classes k
   pinged-C e =
       let q : kindOf k ≡ PingC = ap kindOf e in
       let long = upward-least 40 n _ (subst (λ (x : Kind). fitting (listingOf x .length) n ≡ true) q fits) in
-      record { it = contentC o (tupAt o (drop (w .at) f) .body); item = ap (λ (x : Kind). itemBy (listingOf x .shape) o (tupAt o (drop (w .at) f))) q; named = header o f (w .at) n whole long }
+      record {
+        it = contentC o (tupAt o (drop (w .at) f) .body);
+        item = ap (λ (x : Kind). itemBy (listingOf x .shape) o (tupAt o (drop (w .at) f))) q;
+        named = header o f (w .at) n whole long;
+      }
 
   pinged : pingAt o f (w .at) ≡ true → Pinged
   unfolding k
@@ -93,7 +102,8 @@ module _ (o : Bool) (f : List ℕ) (w : Tally) (c : Tables) (s : Standing f w) (
   parents p =
       let e : digest o (tupAt o (drop (w .at) f)) .link ≡ Link.names (namedAt o f (w .at)) =
       ap (λ (i : Option Item). digestItem i .link) (p .item) ∙ ap (λ (i : ℕ). Link.names (record { 0 = i })) (p .named) in
-      parents-of links (namedAt o f (w .at)) h (named-declared links (digest o (tupAt o (drop (w .at) f)) .link) (namedAt o f (w .at)) (g .judged .linking) e)
+      parents-of links (namedAt o f (w .at)) h
+      (named-declared links (digest o (tupAt o (drop (w .at) f)) .link) (namedAt o f (w .at)) (g .judged .linking) e)
 
   sounder-room : w .sounders ≤ length (c .sounders)
   sounder-room = omega (arith, s .sounders, l .sounders)
@@ -108,7 +118,8 @@ module _ (o : Bool) (f : List ℕ) (w : Tally) (c : Tables) (s : Standing f w) (
   below-s : Pinged → sounderNth (courseOf w c) (channelFor (courseOf w c) x .parent) < w .sounders
   unfolding links
   below-s p =
-      let e = ap (λ (y : Channel). placeOf docOf (y .parent .0) (courseOf w c .links .sounders)) (one-place (parents p .channel) noChannel) in
+      let e =
+      ap (λ (y : Channel). placeOf docOf (y .parent .0) (courseOf w c .links .sounders)) (one-place (parents p .channel) noChannel) in
       omega (arith, e, one-below (parents p .sounder), rows-length sounderOf (c .sounders) (w .sounders) sounder-room)
 
   pub ask-in : AskIn o f w c
@@ -122,15 +133,18 @@ module _ (o : Bool) (f : List ℕ) (w : Tally) (c : Tables) (s : Standing f w) (
       }
 
   -- ---- a listed ping's parents, by the course
-  by-ping : (m : Counts) (p : Pinged) → askItem (courseOf w c) (w .at) m (itemOf o (tupAt o (drop (w .at) f))) ≡ parentsIn (courseOf w c) (namedAt o f (w .at)) m
+  by-ping : (m : Counts) (p : Pinged)
+      → askItem (courseOf w c) (w .at) m (itemOf o (tupAt o (drop (w .at) f))) ≡ parentsIn (courseOf w c) (namedAt o f (w .at)) m
   by-ping m p = ap (askItem (courseOf w c) (w .at) m) (p .item) ∙ ap (λ (y : ℕ). parentsIn (courseOf w c) (record { 0 = y }) m) (p .named)
 
   -- any other tuple gives 9
-  by-other : (m : Counts) → pingAt o f (w .at) ≡ false → askItem (courseOf w c) (w .at) m (itemOf o (tupAt o (drop (w .at) f))) ≡ Asked.Refused 9 (w .at)
+  by-other : (m : Counts) → pingAt o f (w .at) ≡ false
+      → askItem (courseOf w c) (w .at) m (itemOf o (tupAt o (drop (w .at) f))) ≡ Asked.Refused 9 (w .at)
   unfolding itemOf k
   by-other m e = by-shape (shapeOf k) (shaped k)
     where
-      by-shape : (q : Shape) → Shaped k q → askItem (courseOf w c) (w .at) m (itemBy q o (tupAt o (drop (w .at) f))) ≡ Asked.Refused 9 (w .at)
+      by-shape : (q : Shape) → Shaped k q
+          → askItem (courseOf w c) (w .at) m (itemBy q o (tupAt o (drop (w .at) f))) ≡ Asked.Refused 9 (w .at)
       by-shape indexed z = refl
       by-shape (row fs y) z = refl
       by-shape pairs z = absurd (true≢false (sym (ap (λ (b : Bool). b || eqb k 10010) (eq-eqb k 10000 z)) ∙ e))
@@ -144,7 +158,9 @@ module _ (o : Bool) (f : List ℕ) (w : Tally) (c : Tables) (s : Standing f w) (
       here : Asked
       here = parentsIn (courseOf w c) (namedAt o f (w .at)) m
 
-      by-bool : (b : Bool) → pingAt o f (w .at) ≡ b → cond (pingAt o f (w .at)) here (Asked.Refused 9 (w .at)) ≡ askItem (courseOf w c) (w .at) m (itemOf o (tupAt o (drop (w .at) f)))
+      by-bool : (b : Bool) → pingAt o f (w .at) ≡ b
+          → cond (pingAt o f (w .at)) here (Asked.Refused 9 (w .at))
+          ≡ askItem (courseOf w c) (w .at) m (itemOf o (tupAt o (drop (w .at) f)))
       by-bool true e = ap (λ (z : Bool). cond z here (Asked.Refused 9 (w .at))) e ∙ sym (by-ping m (pinged e))
       by-bool false e = ap (λ (z : Bool). cond z here (Asked.Refused 9 (w .at))) e ∙ sym (by-other m e)
 
@@ -155,7 +171,8 @@ module _ (o : Bool) (f : List ℕ) (w : Tally) (m : Counts) (c : Tables) where
   ask-other e = rw e
 
   -- the rows that the lookups found
-  module _ (r : AskIn o f w c) (e : pingAt o f (w .at) ≡ true) (a : SoftwareChannel) (b : ℕ) (n : a ≡ namedAt o f (w .at)) (q : b ≡ placeOf idOf (a .0) (channelsIn (w .channels) (c .channels))) where
+  module _ (r : AskIn o f w c) (e : pingAt o f (w .at) ≡ true) (a : SoftwareChannel) (b : ℕ) (n : a ≡ namedAt o f (w .at))
+      (q : b ≡ placeOf idOf (a .0) (channelsIn (w .channels) (c .channels))) where
     row-named : b ≡ channelNth (courseOf w c) (namedAt o f (w .at))
     row-named = q ∙ ap (λ (y : SoftwareChannel). placeOf idOf (y .0) (channelsIn (w .channels) (c .channels))) n
 
@@ -174,11 +191,17 @@ module _ (o : Bool) (f : List ℕ) (w : Tally) (m : Counts) (c : Tables) where
       pub sounder-below : d < length (c .sounders)
       sounder-below = omega (arith, under, r .declared e .1, r .sounderRoom)
 
-      pub ask-ping : (x k y : ℕ) → x ≡ tupleOf (getD (c .channels) b []) → k ≡ getD (getD (c .channels) b []) 4 0 % 65536 → y ≡ tupleOf (getD (c .sounders) d [])
-          → Asked.Parents a x (getD (getD (c .channels) b []) 3 0) k (record { 0 = getD (getD (c .channels) b []) 1 0 }) y m ≡ askWhere o f m (courseOf w c)
+      pub ask-ping : (x k y : ℕ) → x ≡ tupleOf (getD (c .channels) b []) → k ≡ getD (getD (c .channels) b []) 4 0 % 65536
+          → y ≡ tupleOf (getD (c .sounders) d [])
+          → Asked.Parents a x (getD (getD (c .channels) b []) 3 0) k (record { 0 = getD (getD (c .channels) b []) 1 0 }) y m
+          ≡ askWhere o f m (courseOf w c)
       unfolding askWhere
       ask-ping x k y s j t =
-          let u = s ∙ sym (rows-at tupleOf (c .channels) (w .channels) b [] (omega (arith, row-named, r .declared e .0))) ∙ ap (λ (z : ℕ). getD (tuplesIn (w .channels) (c .channels)) z 0) row-named in
+          let u = s
+          ∙ sym (rows-at tupleOf (c .channels) (w .channels) b [] (omega (arith, row-named, r .declared e .0)))
+          ∙ ap (λ (z : ℕ). getD (tuplesIn (w .channels) (c .channels)) z 0) row-named in
           let h = j ∙ ap (λ (y : Channel). y .samples) row-says in
-          let v = t ∙ sym (rows-at tupleOf (c .sounders) (w .sounders) d [] (omega (arith, under, r .declared e .1))) ∙ ap (λ (z : ℕ). getD (tuplesIn (w .sounders) (c .sounders)) z 0) under in
+          let v = t
+          ∙ sym (rows-at tupleOf (c .sounders) (w .sounders) d [] (omega (arith, under, r .declared e .1)))
+          ∙ ap (λ (z : ℕ). getD (tuplesIn (w .sounders) (c .sounders)) z 0) under in
           rw e (λ i. Asked.Parents (n i) (u i) (row-says i .rate) (h i) (row-says i .parent) (v i) m)

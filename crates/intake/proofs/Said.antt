@@ -9,7 +9,7 @@ use borrow.Author.Tests.{eqb-true, leb-true, leb-false, not-false}
 use lib.Dec.{eqb, leb, lit≤}
 use lib.ListN.{length, take, drop, length-take, length-drop}
 use Rattle.rules.specs.Rules.{_⇒_}
-use Rattle.rules.proofs.Laws.{by-rules}
+use Rattle.rules.proofs.Laws.{_⊳_, by-rules}
 use Rattle.rules.proofs.Bools.{both-true}
 use Rattle.layout.specs.declared.Verdict.the-variants.{Fine, Fault}
 use Rattle.layout.specs.declared.Kind.{Kind}
@@ -29,7 +29,8 @@ use Rattle.links.specs.Links
 use Rattle.links.specs.declared.Sounder.{Sounder}
 use Rattle.links.specs.declared.Channel.{Channel}
 use Rattle.links.specs.Links.{Link, mostSounders, mostChannels, signRules, rulesAmong}
-use Rattle.content.specs.Items.{rowIn, itemBy, itemOf, unless, linkBy, numberAt, digestOf, digestItem, digest, headRules, innerBy, innerRules}
+use Rattle.content.specs.Items.{rowIn, itemBy, itemOf, unless, linkBy, numberAt, digestOf, digestItem, digest, headRules, innerBy}
+use Rattle.content.specs.Items.{innerRules}
 use Rattle.content.specs.Pings.{headU, headC, wordsIn, contentU}
 use Rattle.intake.specs.inner.Tallies.{headVerdict, linkVerdict, innerVerdict, ownVerdict, turnVerdict}
 use Rattle.intake.proofs.Turns.{emptied}
@@ -83,7 +84,9 @@ module _ (o : Bool) (r : List ℕ) where
 
   pub own-near : framing o r ≡ Fine → Near far (ownVerdict o front)
   unfolding ownVerdict
-  own-near e = near-rules far (headRules o front ++ innerRules o front) (near-append far (headRules o front) (innerRules o front) head-near (inner-near e))
+  own-near e =
+      near-rules far (headRules o front ++ innerRules o front)
+      (near-append far (headRules o front) (innerRules o front) head-near (inner-near e))
 
   frame-near : Near far (framing o r)
   unfolding framing
@@ -100,11 +103,14 @@ module _ (o : Bool) (r : List ℕ) where
         let head = judged (headRules o front) in
         let link = judged (rulesAmong ss cs (digest o front .link)) in
         let inner = judged (innerRules o front) in
-        near-both far (emptied r) (both (framing o r) (both (both sign head) (both link inner))) (near-rules far ((eqb (length r) 0 ⇒ 4 byte 0) ∷ []) (here-near, tt))
+        near-both far (emptied r) (both (framing o r) (both (both sign head) (both link inner)))
+        (near-rules far ((eqb (length r) 0 ⇒ 4 byte 0) ∷ []) (here-near, tt))
         (λ _. near-both far (framing o r) (both (both sign head) (both link inner)) frame-near
         (λ e. near-both far (both sign head) (both link inner)
-        (near-both far sign head (near-rules far (signRules first (digest o front)) (here-near, tt)) (λ _. near-rules far (headRules o front) head-near))
-        (λ _. near-both far link inner (near-rules far (rulesAmong ss cs (digest o front .link)) (link-near ss cs (digest o front .link))) (λ _. near-rules far (innerRules o front) (inner-near e)))))
+        (near-both far sign head (near-rules far (signRules first (digest o front)) (here-near, tt))
+        (λ _. near-rules far (headRules o front) head-near))
+        (λ _. near-both far link inner (near-rules far (rulesAmong ss cs (digest o front .link)) (link-near ss cs (digest o front .link)))
+        (λ _. near-rules far (innerRules o front) (inner-near e)))))
 
     pub fault-near : (c p : ℕ) → turnVerdict o first ss cs r ≡ Fault c p → p ≤ far
     fault-near c p h = near-fault far turn-near h
@@ -115,7 +121,8 @@ pub record FineParts (o first : Bool) (ss : List Sounder) (cs : List Channel) (r
   pub headed : headVerdict o first (tupAt o r) ≡ Fine
   pub linked : linkVerdict o (tupAt o r) ss cs ≡ Fine
 
-pub fine-parts : (o first : Bool) (ss : List Sounder) (cs : List Channel) (r : List ℕ) → turnVerdict o first ss cs r ≡ Fine → FineParts o first ss cs r
+pub fine-parts : (o first : Bool) (ss : List Sounder) (cs : List Channel) (r : List ℕ) → turnVerdict o first ss cs r ≡ Fine
+    → FineParts o first ss cs r
 unfolding turnVerdict
 fine-parts o first ss cs r e =
     let head = headVerdict o first (tupAt o r) in
@@ -125,10 +132,12 @@ fine-parts o first ss cs r e =
     record { framed = both-left (framing o r) _ a; headed = both-left head _ b; linked = both-left link _ (both-right head _ b) }
 
 -- on a sounder or a channel it tells that there is room for one
-pub sounder-room : (ss : List Sounder) (cs : List Channel) (s : Sounder) → judged (rulesAmong ss cs (Links.sounder s)) ≡ Fine → length ss < mostSounders
+pub sounder-room : (ss : List Sounder) (cs : List Channel) (s : Sounder) → judged (rulesAmong ss cs (Links.sounder s)) ≡ Fine
+    → length ss < mostSounders
 sounder-room ss cs s e = leb-false mostSounders _ (passes (rulesAmong ss cs (Links.sounder s)) e .1 .0)
 
-pub channel-room : (ss : List Sounder) (cs : List Channel) (c : Channel) → judged (rulesAmong ss cs (Links.channel c)) ≡ Fine → length cs < mostChannels
+pub channel-room : (ss : List Sounder) (cs : List Channel) (c : Channel) → judged (rulesAmong ss cs (Links.channel c)) ≡ Fine
+    → length cs < mostChannels
 channel-room ss cs c e = leb-false mostChannels _ (passes (rulesAmong ss cs (Links.channel c)) e .1 .0)
 
 -- ---- what a tuple declares
@@ -148,7 +157,10 @@ module _ (o : Bool) (t : Tup) (a : t .kind ≡ 100 → ⊥) (b : t .kind ≡ 100
   unfolding kindOf
   quiet-row vs =
       by-rules (λ (q : Kind). Quiet (linkBy q vs)) (kindRules (t .kind)) Unlisted
-      (λ _. tt, λ _. (λ _. tt, λ _. (λ e. absurd (a (eqb-true (t .kind) 100 e)), λ _. (λ e. absurd (b (eqb-true (t .kind) 1000 e)), λ _. (λ _. tt, λ _. (λ _. tt, λ _. (λ _. quiet-unless (eqb (numberAt vs 2) 65535) (Links.names (record { 0 = numberAt vs 2 })) tt, λ _. (λ _. tt, λ _. (λ _. tt, λ _. (λ _. tt, λ _. (λ _. tt, λ _. (λ _. tt, λ _. (λ _. tt, λ _. (λ _. tt, λ _. tt))))))))))))))
+      ((λ _. tt) ⊳ (λ _. tt) ⊳ (λ e. absurd (a (eqb-true (t .kind) 100 e)))
+      ⊳ (λ e. absurd (b (eqb-true (t .kind) 1000 e))) ⊳ (λ _. tt) ⊳ (λ _. tt)
+      ⊳ (λ _. quiet-unless (eqb (numberAt vs 2) 65535) (Links.names (record { 0 = numberAt vs 2 })) tt) ⊳ (λ _. tt)
+      ⊳ (λ _. tt) ⊳ (λ _. tt) ⊳ (λ _. tt) ⊳ (λ _. tt) ⊳ (λ _. tt) ⊳ (λ _. tt) ⊳ tt)
 
   -- a code that is neither a sounder's nor a channel's
   pub quiet : Quiet (digest o t .link)

@@ -20,7 +20,9 @@ ghost use mathlib.Core.Bool.{_&&_, _||_};
 ghost use Rattle.frame.specs.Frames.{tupAt};
 ghost use Rattle.frame.specs.Files.{limit};
 ghost use Rattle.links.specs.Links.{mostChannels, Steady};
-ghost use Rattle.intake.specs.inner.Tallies.{Here, Fits, headVerdict, innerVerdict, ownVerdict, sounderAt, channelAt, namedAt, linkTold, turnTold, tallyBegin, tallyPast, Standing, Held, Tables, tables, Sized, courseOf, TurnedTo, RunTo, AskIn, askWhere};
+ghost use Rattle.intake.specs.inner.Tallies.{Here, Fits, headVerdict, innerVerdict, ownVerdict, sounderAt, channelAt, namedAt};
+ghost use Rattle.intake.specs.inner.Tallies.{linkTold, turnTold, tallyBegin, tallyPast, Standing, Held, Tables, tables, Sized};
+ghost use Rattle.intake.specs.inner.Tallies.{courseOf, TurnedTo, RunTo, AskIn, askWhere};
 ghost use Rattle.intake.specs.Check.{checkFile, ending, Checked};
 ghost use Rattle.intake.specs.Asking.{AskedFor, askAccepted};
 

@@ -10,9 +10,11 @@ use borrow.Author.Tests.{le-leb, lt-leb}
 use lib.Dec.{eqb, leb, lit<}
 use lib.ListN.{getD, List·getD-map}
 use Rattle.layout.specs.declared.Kind.{Kind}
-use Rattle.layout.specs.declared.Kind.the-variants.{Signature, Sounder, Channel, Position, Navigation, Attitude, Threshold, Event, PingU, PingC, RunStart, RunEnd, FileEnd, Index, Unlisted}
+use Rattle.layout.specs.declared.Kind.the-variants.{Signature, Sounder, Channel, Position, Navigation, Attitude, Threshold, Event}
+use Rattle.layout.specs.declared.Kind.the-variants.{PingU, PingC, RunStart, RunEnd, FileEnd, Index, Unlisted}
 use Rattle.layout.specs.Fields.{Field, u, size}
-use Rattle.layout.specs.Types.{Shape, indexed, row, pairs, words, unlisted, Length, exactly, upward, free, fitting, pingRow, listingOf, listed, placeIn, lengthFrom}
+use Rattle.layout.specs.Types.{Shape, indexed, row, pairs, words, unlisted, Length, exactly, upward, free, fitting, pingRow}
+use Rattle.layout.specs.Types.{listingOf, listed, placeIn, lengthFrom}
 use Rattle.layout.specs.inner.Codes.{fieldOf, fieldsOf, rowCodes, leasts, steps, measures, measured, lengthBy}
 
 -- the fields that a shape begins with
@@ -120,7 +122,9 @@ long least (suc step) n e h = rw (le-leb least n h)
 -- any length fits a kind that is not listed
 pub any : (q : Kind) → 13 ≤ placeIn q → (n : ℕ) → true ≡ fitting (listingOf q .length) n
 unfolding listingOf
-any = by-kind (λ (q : Kind). 13 ≤ placeIn q → (n : ℕ) → true ≡ fitting (listingOf q .length) n) (λ q h k n. absurd (omega arith)) (λ k n. refl) (λ k n. refl)
+any =
+    by-kind (λ (q : Kind). 13 ≤ placeIn q → (n : ℕ) → true ≡ fitting (listingOf q .length) n) (λ q h k n. absurd (omega arith))
+    (λ k n. refl) (λ k n. refl)
 
 -- a kind's lengths are those of its row
 pub lengths-from : (q : Kind) → listingOf q .length ≡ lengthFrom (listingOf q .shape)

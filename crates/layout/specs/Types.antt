@@ -8,7 +8,8 @@ use lib.ListN.{getD}
 use Rattle.rules.specs.Rules.{Rule, _⇒_, firstOf}
 use Rattle.layout.specs.Fields.{Field, u, s, c, z, ident, size}
 use Rattle.layout.specs.declared.Kind.{Kind}
-use Rattle.layout.specs.declared.Kind.the-variants.{Signature, Sounder, Channel, Position, Navigation, Attitude, Threshold, Event, PingU, PingC, RunStart, RunEnd, FileEnd, Index, Unlisted}
+use Rattle.layout.specs.declared.Kind.the-variants.{Signature, Sounder, Channel, Position, Navigation, Attitude, Threshold, Event}
+use Rattle.layout.specs.declared.Kind.the-variants.{PingU, PingC, RunStart, RunEnd, FileEnd, Index, Unlisted}
 
 -- ---- classes by type code: position, sounder, channel, ping, index
 unfoldable pub classes : List (List ℕ)
@@ -93,11 +94,13 @@ pingRow = u 2 ∷ u 4 ∷ u 2 ∷ u 2 ∷ u 4 ∷ s 4 ∷ []
 -- one row for each type, each row the widths in order
 unfoldable pub listingOf : Kind → Listing
 listingOf Signature = listing (exactly 24) (row (ident ∷ u 2 ∷ u 2 ∷ u 4 ∷ []) none)
-listingOf Sounder = listing (exactly 72) (row (u 2 ∷ u 4 ∷ u 2 ∷ u 2 ∷ s 2 ∷ u 2 ∷ s 2 ∷ u 2 ∷ u 2 ∷ s 2 ∷ u 2 ∷ u 2 ∷ c 30 ∷ z 2 ∷ []) none)
+listingOf Sounder =
+    listing (exactly 72) (row (u 2 ∷ u 4 ∷ u 2 ∷ u 2 ∷ s 2 ∷ u 2 ∷ s 2 ∷ u 2 ∷ u 2 ∷ s 2 ∷ u 2 ∷ u 2 ∷ c 30 ∷ z 2 ∷ []) none)
 listingOf Channel =
     listing (exactly 108)
     (row
-    (u 2 ∷ u 4 ∷ u 4 ∷ u 2 ∷ u 2 ∷ u 2 ∷ z 2 ∷ u 4 ∷ u 4 ∷ s 2 ∷ s 2 ∷ s 2 ∷ s 2 ∷ u 2 ∷ u 2 ∷ u 2 ∷ u 2 ∷ u 2 ∷ u 2 ∷ u 2 ∷ s 2 ∷ s 2 ∷ s 2 ∷ u 4 ∷ u 4 ∷ c 30 ∷ z 2 ∷ [])
+    (u 2 ∷ u 4 ∷ u 4 ∷ u 2 ∷ u 2 ∷ u 2 ∷ z 2 ∷ u 4 ∷ u 4 ∷ s 2 ∷ s 2 ∷ s 2 ∷ s 2 ∷ u 2 ∷ u 2 ∷ u 2 ∷ u 2 ∷ u 2 ∷ u 2 ∷ u 2 ∷ s 2 ∷ s 2 ∷ s 2
+    ∷ u 4 ∷ u 4 ∷ c 30 ∷ z 2 ∷ [])
     none)
 listingOf Position = listing (exactly 36) (row (s 2 ∷ u 4 ∷ u 4 ∷ u 2 ∷ z 2 ∷ s 4 ∷ s 4 ∷ []) none)
 listingOf Navigation = listing (exactly 28) (row (u 2 ∷ u 4 ∷ u 2 ∷ s 2 ∷ u 2 ∷ z 2 ∷ []) none)
@@ -122,7 +125,8 @@ lengthsOf k = listingOf (kindOf k) .length
 -- ---- the code's tables
 -- the listed kinds in the tables' order, and the place of each there
 unfoldable pub listed : List Kind
-listed = Signature ∷ Sounder ∷ Channel ∷ Position ∷ Navigation ∷ Attitude ∷ Threshold ∷ Event ∷ PingU ∷ PingC ∷ RunStart ∷ RunEnd ∷ FileEnd ∷ []
+listed =
+    Signature ∷ Sounder ∷ Channel ∷ Position ∷ Navigation ∷ Attitude ∷ Threshold ∷ Event ∷ PingU ∷ PingC ∷ RunStart ∷ RunEnd ∷ FileEnd ∷ []
 
 abbrev pub placeIn : Kind → ℕ
 placeIn Signature = 0

@@ -37,7 +37,8 @@ module _ {A : Type 0} (key : A → ℕ) (x : ℕ) where
   has-place [] = refl
   has-place (y ∷ l) = by (eqb x (key y)) (has-place l)
     where
-      by : (b : Bool) → has key x l ≡ ltb (placeOf key x l) (length l) → b || has key x l ≡ ltb (cond b 0 (suc (placeOf key x l))) (suc (length l))
+      by : (b : Bool) → has key x l ≡ ltb (placeOf key x l) (length l)
+          → b || has key x l ≡ ltb (cond b 0 (suc (placeOf key x l))) (suc (length l))
       by true h = sym (lt-ltb 0 (suc (length l)) (omega arith))
       by false h = h ∙ sym (leb·suc-suc (suc (placeOf key x l)) (length l))
 
@@ -47,7 +48,8 @@ module _ {A : Type 0} (key : A → ℕ) (x : ℕ) where
   compared-found [] h = absurd (true≢false (sym h))
   compared-found (y ∷ l) h = by (eqb x (key y)) h (compared-found l)
     where
-      by : (b : Bool) → b || has key x l ≡ true → (has key x l ≡ true → comparedIn key x l ≡ placeOf key x l + 1) → cond b 1 (suc (comparedIn key x l)) ≡ cond b 0 (suc (placeOf key x l)) + 1
+      by : (b : Bool) → b || has key x l ≡ true → (has key x l ≡ true → comparedIn key x l ≡ placeOf key x l + 1)
+          → cond b 1 (suc (comparedIn key x l)) ≡ cond b 0 (suc (placeOf key x l)) + 1
       by true q r = omega arith
       by false q r = let e = r q in omega arith
 
@@ -116,7 +118,8 @@ module _ {A : Type 0} (key : A → ℕ) (x : ℕ) where
   place-in [] d h = absurd (true≢false (sym h))
   place-in (a ∷ l) d h = by (eqb x (key a)) refl h (place-in l d)
     where
-      by : (b : Bool) → eqb x (key a) ≡ b → b || has key x l ≡ true → (has key x l ≡ true → In (getD l (placeOf key x l) d) l × (key (getD l (placeOf key x l) d) ≡ x))
+      by : (b : Bool) → eqb x (key a) ≡ b → b || has key x l ≡ true
+          → (has key x l ≡ true → In (getD l (placeOf key x l) d) l × (key (getD l (placeOf key x l) d) ≡ x))
           → In (getD (a ∷ l) (cond b 0 (suc (placeOf key x l))) d) (a ∷ l) × (key (getD (a ∷ l) (cond b 0 (suc (placeOf key x l))) d) ≡ x)
       by true e q r = (first, sym (eqb-true x (key a) e))
       by false e q r = let w = r q in (later (w .0), w .1)
@@ -149,7 +152,8 @@ module _ {A : Type 0} (key : A → ℕ) (d : A) where
       rw ne (ap suc (place-at l i (p .1) (omega arith)))
 
 -- so a row that has a channel's identifier is the one that a search finds
-pub guessed : (rows : List (List ℕ)) (n x i : ℕ) → n ≤ length rows → Apart idOf (channelsIn n rows) → i < n → keyOf (getD rows i []) ≡ x → i ≡ placeOf idOf x (channelsIn n rows)
+pub guessed : (rows : List (List ℕ)) (n x i : ℕ) → n ≤ length rows → Apart idOf (channelsIn n rows) → i < n → keyOf (getD rows i []) ≡ x
+    → i ≡ placeOf idOf x (channelsIn n rows)
 guessed rows n x i fits p h e =
     place-at idOf (channelOf []) (channelsIn n rows) i p (omega (arith, rows-length channelOf rows n fits))
     ∙ ap (λ (y : ℕ). placeOf idOf y (channelsIn n rows)) (ap idOf (rows-at channelOf rows n i [] h) ∙ e)

@@ -60,5 +60,6 @@ pub record Normalised (f out : List ℕ) (r : Answer) (left : List ℕ) : Type 0
   pub answer : Tells numbers r (normalAnswer f (length out))
   pub memory : left ≡ leftBy (normalAnswer f (length out)) (normalOf f) out
 
-pub normalised-settled : {f out : List ℕ} {r s : Answer} {left kept : List ℕ} → Normalised f out r left → Normalised f out s kept → (r ≡ s) × (left ≡ kept)
+pub normalised-settled : {f out : List ℕ} {r s : Answer} {left kept : List ℕ} → Normalised f out r left → Normalised f out s kept
+    → (r ≡ s) × (left ≡ kept)
 normalised-settled p q = (p .answer .is ∙ sym (q .answer .is), p .memory ∙ sym (q .memory))

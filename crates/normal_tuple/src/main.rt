@@ -1,4 +1,5 @@
-// Program two: reads a mark and one tuple as lines of hexadecimal from standard input and prints the mark and the normal tuple, or why there is none.
+// Program two: reads a mark and one tuple as lines of hexadecimal from standard input and prints the mark and the
+// normal tuple, or why there is none.
 use libc::STDERR_FILENO;
 use libc::STDIN_FILENO;
 use libc::STDOUT_FILENO;

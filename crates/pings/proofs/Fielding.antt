@@ -61,8 +61,10 @@ module _ {f : List ℕ} {p n k : ℕ} {o : Bool} (s : SoundPing f p o n k) where
   item-C e = ap (λ (j : ℕ). pingBy (itemBy (listingOf (kindOf j) .shape) (isMsb f) (tupleThere f p))) (here (s .found) .kind ∙ e)
 
   -- what is read at the places is what the reader hands over
-  module _ (h : PingHeader) (a : ℤ) (v : ℕ) (eh : h ≡ headerOf (valuesOf o pingRow (drop (p + 6) f))) (ea : a ≡ signedOf 4 (numOf o (take 4 (drop (p + (n - 8)) f)))) where
-    by-content : (q : Ping) (t : PingKind) → pingBy (readItem f p) ≡ q → q .head ≡ valuesOf (isMsb f) pingRow (tupleThere f p .body) → q .attr ≡ attributeIn (isMsb f) (tupleThere f p .body)
+  module _ (h : PingHeader) (a : ℤ) (v : ℕ) (eh : h ≡ headerOf (valuesOf o pingRow (drop (p + 6) f)))
+      (ea : a ≡ signedOf 4 (numOf o (take 4 (drop (p + (n - 8)) f)))) where
+    by-content : (q : Ping) (t : PingKind) → pingBy (readItem f p) ≡ q → q .head ≡ valuesOf (isMsb f) pingRow (tupleThere f p .body)
+        → q .attr ≡ attributeIn (isMsb f) (tupleThere f p .body)
         → t ≡ kindOfPing (tupleThere f p .kind) → v ≡ length (samplesAt f p) → Read h a t v ≡ pingFields f p
     unfolding pingFields
     by-content q t e eq-head eq-attr et ev =
@@ -77,7 +79,9 @@ module _ {f : List ℕ} {p n k : ℕ} {o : Bool} (s : SoundPing f p o n k) where
     fields-U e ev =
         let r = whole-there s in
         let part = take (p + n - 8 - (p + 24)) (drop (p + 24) f) in
-        let long : length (take (p + n - 8 - (p + 24)) (drop (p + 24) f)) ≡ n - 24 - 8 = length-take-le (p + n - 8 - (p + 24)) (drop (p + 24) f) (simp length-drop (omega (arith, r .0, r .2))) ∙ omega (arith, r .0) in
+        let long : length (take (p + n - 8 - (p + 24)) (drop (p + 24) f))
+        ≡ n - 24 - 8 = length-take-le (p + n - 8 - (p + 24)) (drop (p + 24) f) (simp length-drop (omega (arith, r .0, r .2)))
+        ∙ omega (arith, r .0) in
         by-content (contentU (isMsb f) (tupleThere f p .body)) U32 (item-U e) refl refl
         (sym (ap kindOfPing (here (s .found) .kind ∙ e)))
         (ev ∙ ap (λ (i : ℕ). i / 8) (sym long) ∙ length-pairs (isMsb f) part ∙ ap length (sym (pairs-there s e)))

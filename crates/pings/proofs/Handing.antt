@@ -37,9 +37,11 @@ module _ (s : List Sample) (ns : List ℕ) (vs : List ℤ) where
   length-map g [] = refl
   length-map g (x ∷ xs) = ap suc (length-map g xs)
 
-  pub handed : Room s ns vs → {ms : List ℕ} {us : List ℤ} → ms ≡ sets ns 0 (numbersOf s) → us ≡ sets vs 0 (valuesOf s) → Handed s ns vs (accepting 1 (length s)) ms us
+  pub handed : Room s ns vs → {ms : List ℕ} {us : List ℤ} → ms ≡ sets ns 0 (numbersOf s) → us ≡ sets vs 0 (valuesOf s)
+      → Handed s ns vs (accepting 1 (length s)) ms us
   handed r a b =
-      let e : ltb (length ns) (length s) || ltb (length vs) (length s) ≡ false = rw (le-ltb (length ns) (length s) (r .forNumbers), le-ltb (length vs) (length s) (r .forValues)) in
+      let e : ltb (length ns) (length s) || ltb (length vs) (length s)
+      ≡ false = rw (le-ltb (length ns) (length s) (r .forNumbers), le-ltb (length vs) (length s) (r .forValues)) in
       record {
         answer = rw e;
         numbersLeft = rw e (a ∙ over ns (numbersOf s) (rw (length-map _ s) (r .forNumbers)));

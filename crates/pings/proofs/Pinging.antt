@@ -43,7 +43,21 @@ use Rattle.pings.specs.inner.Sound.{SoundList}
 
 -- ---- the header's row has 18 bytes
 length-head : (o : Bool) (h : PingHeader) → length (encode o pingRow (headOf h)) ≡ 18
-length-head o h = rw (length-append, length-append, length-append, length-append, length-append, length-append, length-bytesOf, length-bytesOf, length-bytesOf, length-bytesOf, length-bytesOf, length-bytesOf)
+length-head o h =
+    rw (
+      length-append,
+      length-append,
+      length-append,
+      length-append,
+      length-append,
+      length-append,
+      length-bytesOf,
+      length-bytesOf,
+      length-bytesOf,
+      length-bytesOf,
+      length-bytesOf,
+      length-bytesOf,
+    )
 
 length-start : (o : Bool) (n k : ℕ) (h : PingHeader) → length (openingBytes o n k (encode o pingRow (headOf h))) ≡ 24
 length-start o n k h = omega (arith, length-opening o n k (encode o pingRow (headOf h)), length-head o h)
@@ -62,7 +76,8 @@ module _ (ns : List ℕ) (vs : List ℤ) (rest : List (Rule Answer)) (bytes out 
   abbrev W : Answer → List ℕ → Type 0
   W r left = Written (countRules ns vs ++ rest) bytes out r left
 
-  said : {x : Answer} → First (rules ++ ((ltb (length out) (length bytes) ⇒ Refused 19 0) ∷ [])) (accepting 1 (length bytes)) x → x ≡ writeAnswer rules bytes (length out)
+  said : {x : Answer} → First (rules ++ ((ltb (length out) (length bytes) ⇒ Refused 19 0) ∷ [])) (accepting 1 (length bytes)) x
+      → x ≡ writeAnswer rules bytes (length out)
   said w = first-eq w
 
   pub unequal : (length ns ≡ length vs → ⊥) → W (Refused 23 (min (length ns) (length vs))) out
@@ -82,7 +97,8 @@ module _ (ns : List ℕ) (vs : List ℤ) (rest : List (Rule Answer)) (bytes out 
       pub refuse : (c q : ℕ) → First own (accepting 1 (length bytes)) (Refused c q) → W (Refused c q) out
       refuse c q w = unwritten rules bytes out c q (passed w)
 
-      pub accept : (n : ℕ) (left : List ℕ) → length bytes ≡ n → n ≤ length out → First own (accepting 1 (length bytes)) (accepting 1 (length bytes)) → left ≡ sets out 0 bytes → W (accepting 1 n) left
+      pub accept : (n : ℕ) (left : List ℕ) → length bytes ≡ n → n ≤ length out
+          → First own (accepting 1 (length bytes)) (accepting 1 (length bytes)) → left ≡ sets out 0 bytes → W (accepting 1 n) left
       accept n left l r w s = all-written rules bytes out n left l r (ap (accepting 1) (sym l) ∙ passed w) s
 
 -- ---- numbers that rise, or drop at a place
@@ -123,18 +139,23 @@ module _ (o : Bool) (h : PingHeader) (a : ℤ) (ns : List ℕ) (vs : List ℤ) (
         some = ne-eqb (length ns) 0 z
 
         pub drops : i < length ns → U (Refused 23 i) out
-        drops l = rw (first-there ns vs e i d) (refuse ns vs ownU bytes out e m 23 (firstDrop 0 (paired ns vs)) (pass some (here (drop-there ns vs e i d l))))
+        drops l =
+            rw (first-there ns vs e i d)
+            (refuse ns vs ownU bytes out e m 23 (firstDrop 0 (paired ns vs)) (pass some (here (drop-there ns vs e i d l))))
 
         module _ (l : length ns ≤ i) where
           -- its bytes: 24 before the pairs, 8 behind them
           length-pairs : length (unwords 4 o (unpair (paired ns vs))) ≡ 8 * length ns
-          length-pairs = omega (arith, length-unwords 4 o (unpair (paired ns vs)), length-unpair (paired ns vs), length-paired ns vs (sym e))
+          length-pairs =
+              omega (arith, length-unwords 4 o (unpair (paired ns vs)), length-unpair (paired ns vs), length-paired ns vs (sym e))
 
           length-body : length (dataU o (handedPing h a ns vs)) ≡ 22 + 8 * length ns
           unfolding dataU
           length-body =
               let w : 18 + 8 * length ns + 4 ≡ 22 + 8 * length ns = omega arith in
-              length-three (encode o pingRow (headOf h)) (unwords 4 o (unpair (paired ns vs))) (bytesOf o 4 (patternOf 4 a)) 18 (8 * length ns) 4 (length-head o h) length-pairs (length-bytesOf o 4 (patternOf 4 a)) ∙ w
+              length-three (encode o pingRow (headOf h)) (unwords 4 o (unpair (paired ns vs))) (bytesOf o 4 (patternOf 4 a)) 18
+              (8 * length ns) 4 (length-head o h) length-pairs (length-bytesOf o 4 (patternOf 4 a))
+              ∙ w
 
           fits : ltb 262144 (lengthOf (tupleU o (handedPing h a ns vs))) ≡ false
           fits = le-ltb 262144 (lengthOf (tupleU o (handedPing h a ns vs))) (omega (arith, length-body, m))
@@ -143,10 +164,15 @@ module _ (o : Bool) (h : PingHeader) (a : ℤ) (ns : List ℕ) (vs : List ℤ) (
           length-bytes = length-frame o (tupleU o (handedPing h a ns vs)) ∙ omega (arith, length-body)
 
           pub no-room : length out < 32 + 8 * length ns → U (Refused 19 0) out
-          no-room r = refuse ns vs ownU bytes out e m 19 0 (pass some (pass (no-drop ns vs e i d l) (pass fits (here (lt-ltb (length out) (length bytes) (omega (arith, length-bytes, r)))))))
+          no-room r =
+              refuse ns vs ownU bytes out e m 19 0
+              (pass some (pass (no-drop ns vs e i d l)
+              (pass fits (here (lt-ltb (length out) (length bytes) (omega (arith, length-bytes, r)))))))
 
           -- the three runs of stores are one
-          stored : sets (sets (sets out 0 (openingBytes o (32 + 8 * length ns) 10000 (encode o pingRow (headOf h)))) 24 (unwords 4 o (unpair (paired ns vs)))) (24 + 8 * length ns) (closeBytes o (32 + 8 * length ns) (patternOf 4 a))
+          stored : sets (sets (sets out 0 (openingBytes o (32 + 8 * length ns) 10000 (encode o pingRow (headOf h)))) 24
+              (unwords 4 o (unpair (paired ns vs))))
+              (24 + 8 * length ns) (closeBytes o (32 + 8 * length ns) (patternOf 4 a))
               ≡ sets out 0 (bytesU o (handedPing h a ns vs))
           unfolding frame openBytes openingBytes closeBytes dataU
           stored =
@@ -154,26 +180,43 @@ module _ (o : Bool) (h : PingHeader) (a : ℤ) (ns : List ℕ) (vs : List ℤ) (
               let us = unwords 4 o (unpair (paired ns vs)) in
               let size : 32 + 8 * length ns - 10 ≡ length (dataU o (handedPing h a ns vs)) = omega (arith, length-body) in
               let whole : 32 + 8 * length ns ≡ lengthOf (tupleU o (handedPing h a ns vs)) = omega (arith, length-body) in
-              in-three (openingBytes o (32 + 8 * length ns) 10000 (encode o pingRow (headOf h))) us (closeBytes o (32 + 8 * length ns) (patternOf 4 a)) out 24 (8 * length ns) (length-start o (32 + 8 * length ns) 10000 h) length-pairs
-              ∙ ap (sets out 0) (sym (regroup (bytesOf o 4 (32 + 8 * length ns - 10)) (bytesOf o 2 10000) enc us (bytesOf o 4 (patternOf 4 a)) (bytesOf o 4 (32 + 8 * length ns))))
-              ∙ ap (λ (n : ℕ). sets out 0 (bytesOf o 4 n ++ (bytesOf o 2 10000 ++ ((enc ++ (us ++ bytesOf o 4 (patternOf 4 a))) ++ bytesOf o 4 (32 + 8 * length ns))))) size
-              ∙ ap (λ (n : ℕ). sets out 0 (bytesOf o 4 (length (dataU o (handedPing h a ns vs))) ++ (bytesOf o 2 10000 ++ ((enc ++ (us ++ bytesOf o 4 (patternOf 4 a))) ++ bytesOf o 4 n)))) whole
+              in-three (openingBytes o (32 + 8 * length ns) 10000 (encode o pingRow (headOf h))) us
+              (closeBytes o (32 + 8 * length ns) (patternOf 4 a)) out 24 (8 * length ns) (length-start o (32 + 8 * length ns) 10000 h)
+              length-pairs
+              ∙ ap (sets out 0) (sym (regroup (bytesOf o 4 (32 + 8 * length ns - 10)) (bytesOf o 2 10000) enc us
+              (bytesOf o 4 (patternOf 4 a)) (bytesOf o 4 (32 + 8 * length ns))))
+              ∙ ap (λ (n : ℕ). sets out 0
+              (bytesOf o 4 n ++ (bytesOf o 2 10000
+              ++ ((enc ++ (us ++ bytesOf o 4 (patternOf 4 a))) ++ bytesOf o 4 (32 + 8 * length ns)))))
+              size
+              ∙ ap (λ (n : ℕ). sets out 0
+              (bytesOf o 4 (length (dataU o (handedPing h a ns vs)))
+              ++ (bytesOf o 2 10000 ++ ((enc ++ (us ++ bytesOf o 4 (patternOf 4 a))) ++ bytesOf o 4 n))))
+              whole
 
           done : (left : List ℕ) → 32 + 8 * length ns ≤ length out → left ≡ sets out 0 bytes → U (accepting 1 (32 + 8 * length ns)) left
           done left r =
               accept ns vs ownU bytes out e m (32 + 8 * length ns) left length-bytes r
-              (pass some (pass (no-drop ns vs e i d l) (pass fits (pass (le-ltb (length out) (length bytes) (omega (arith, length-bytes, r))) none))))
+              (pass some (pass (no-drop ns vs e i d l)
+              (pass fits (pass (le-ltb (length out) (length bytes) (omega (arith, length-bytes, r))) none))))
 
           pub written : (n : ℕ) → n ≡ 32 + 8 * length ns → (left : List ℕ) → n ≤ length out
-              → left ≡ sets (sets (sets out 0 (openingBytes o n 10000 (encode o pingRow (headOf h)))) 24 (unwords 4 o (unpair (paired ns vs)))) (n - 8) (closeBytes o n (patternOf 4 a)) → U (accepting 1 n) left
+              → left ≡ sets (sets (sets out 0 (openingBytes o n 10000 (encode o pingRow (headOf h)))) 24
+              (unwords 4 o (unpair (paired ns vs))))
+              (n - 8) (closeBytes o n (patternOf 4 a))
+              → U (accepting 1 n) left
           written n w left r s =
               let us = unwords 4 o (unpair (paired ns vs)) in
               let z : 32 + 8 * length ns - 8 ≡ 24 + 8 * length ns = omega arith in
               rw w
               (done left (omega arith)
               (s
-              ∙ ap (λ (i : ℕ). sets (sets (sets out 0 (openingBytes o i 10000 (encode o pingRow (headOf h)))) 24 us) (i - 8) (closeBytes o i (patternOf 4 a))) w
-              ∙ ap (λ (i : ℕ). sets (sets (sets out 0 (openingBytes o (32 + 8 * length ns) 10000 (encode o pingRow (headOf h)))) 24 us) i (closeBytes o (32 + 8 * length ns) (patternOf 4 a))) z
+              ∙ ap (λ (i : ℕ). sets (sets (sets out 0 (openingBytes o i 10000 (encode o pingRow (headOf h)))) 24 us) (i - 8)
+              (closeBytes o i (patternOf 4 a)))
+              w
+              ∙ ap (λ (i : ℕ). sets (sets (sets out 0 (openingBytes o (32 + 8 * length ns) 10000 (encode o pingRow (headOf h)))) 24 us) i
+              (closeBytes o (32 + 8 * length ns) (patternOf 4 a)))
+              z
               ∙ stored))
 
 -- ---- the C-32 writer
@@ -191,7 +234,8 @@ module _ (o : Bool) (h : PingHeader) (a : ℤ) (ns : List ℕ) (vs : List ℤ) w
   unfolding dataC
   length-body-C =
       let w : 18 + 4 + 4 * length ws + 4 ≡ 26 + 4 * length ws = omega arith in
-      length-four (encode o pingRow (headOf h)) (bytesOf o 4 (length (paired ns vs))) (unwords 4 o ws) (bytesOf o 4 (patternOf 4 a)) 18 4 (4 * length ws) 4
+      length-four (encode o pingRow (headOf h)) (bytesOf o 4 (length (paired ns vs))) (unwords 4 o ws) (bytesOf o 4 (patternOf 4 a)) 18 4
+      (4 * length ws) 4
       (length-head o h) (length-bytesOf o 4 (length (paired ns vs))) length-words (length-bytesOf o 4 (patternOf 4 a))
       ∙ w
 
@@ -200,7 +244,9 @@ module _ (o : Bool) (h : PingHeader) (a : ℤ) (ns : List ℕ) (vs : List ℤ) w
 
   -- its four runs of stores are one
   pub stored-C : (n room : ℕ) (out : List ℕ) → SoundList ns vs n room
-      → sets (sets (sets (sets out 0 (openingBytes o n 10010 (encode o pingRow (headOf h)))) 24 (bytesOf o 4 (length ns))) 28 (unwords 4 o (fewest radix (paired ns vs)))) (n - 8) (closeBytes o n (patternOf 4 a))
+      → sets (sets (sets (sets out 0 (openingBytes o n 10010 (encode o pingRow (headOf h)))) 24 (bytesOf o 4 (length ns))) 28
+      (unwords 4 o (fewest radix (paired ns vs))))
+      (n - 8) (closeBytes o n (patternOf 4 a))
       ≡ sets out 0 (bytesC o (handedPing h a ns vs))
   unfolding frame openBytes openingBytes closeBytes dataC
   stored-C n room out g =
@@ -210,17 +256,34 @@ module _ (o : Bool) (h : PingHeader) (a : ℤ) (ns : List ℕ) (vs : List ℤ) w
       let count : length ns ≡ length (paired ns vs) = sym (length-paired ns vs (g .equal)) in
       let size : n - 10 ≡ length (dataC o (handedPing h a ns vs) ws) = omega (arith, length-body-C, g .size) in
       let whole : n ≡ lengthOf (tupleC o (handedPing h a ns vs)) = omega (arith, length-body-C, g .size) in
-      ap (λ (i : ℕ). sets (sets (sets (sets out 0 (openingBytes o n 10010 (encode o pingRow (headOf h)))) 24 (bytesOf o 4 (length ns))) 28 us) i (closeBytes o n (patternOf 4 a))) last
-      ∙ in-four (openingBytes o n 10010 (encode o pingRow (headOf h))) (bytesOf o 4 (length ns)) us (closeBytes o n (patternOf 4 a)) out 24 4 (4 * length ws)
+      ap (λ (i : ℕ).
+      sets (sets (sets (sets out 0 (openingBytes o n 10010 (encode o pingRow (headOf h)))) 24 (bytesOf o 4 (length ns))) 28 us)
+      i (closeBytes o n (patternOf 4 a)))
+      last
+      ∙ in-four (openingBytes o n 10010 (encode o pingRow (headOf h))) (bytesOf o 4 (length ns)) us (closeBytes o n (patternOf 4 a))
+      out 24 4 (4 * length ws)
       (length-start o n 10010 h) (length-bytesOf o 4 (length ns)) length-words
-      ∙ ap (sets out 0) (sym (regroup-C (bytesOf o 4 (n - 10)) (bytesOf o 2 10010) enc (bytesOf o 4 (length ns)) us (bytesOf o 4 (patternOf 4 a)) (bytesOf o 4 n)))
-      ∙ ap (λ (i : ℕ). sets out 0 (bytesOf o 4 (n - 10) ++ (bytesOf o 2 10010 ++ ((enc ++ (bytesOf o 4 i ++ (us ++ bytesOf o 4 (patternOf 4 a)))) ++ bytesOf o 4 n)))) count
-      ∙ ap (λ (i : ℕ). sets out 0 (bytesOf o 4 i ++ (bytesOf o 2 10010 ++ ((enc ++ (bytesOf o 4 (length (paired ns vs)) ++ (us ++ bytesOf o 4 (patternOf 4 a)))) ++ bytesOf o 4 n)))) size
-      ∙ ap (λ (i : ℕ). sets out 0 (bytesOf o 4 (length (dataC o (handedPing h a ns vs) ws)) ++ (bytesOf o 2 10010 ++ ((enc ++ (bytesOf o 4 (length (paired ns vs)) ++ (us ++ bytesOf o 4 (patternOf 4 a)))) ++ bytesOf o 4 i)))) whole
+      ∙ ap (sets out 0) (sym (regroup-C (bytesOf o 4 (n - 10)) (bytesOf o 2 10010) enc (bytesOf o 4 (length ns)) us
+      (bytesOf o 4 (patternOf 4 a)) (bytesOf o 4 n)))
+      ∙ ap (λ (i : ℕ). sets out 0
+      (bytesOf o 4 (n - 10) ++ (bytesOf o 2 10010
+      ++ ((enc ++ (bytesOf o 4 i ++ (us ++ bytesOf o 4 (patternOf 4 a)))) ++ bytesOf o 4 n))))
+      count
+      ∙ ap (λ (i : ℕ). sets out 0
+      (bytesOf o 4 i ++ (bytesOf o 2 10010
+      ++ ((enc ++ (bytesOf o 4 (length (paired ns vs)) ++ (us ++ bytesOf o 4 (patternOf 4 a)))) ++ bytesOf o 4 n))))
+      size
+      ∙ ap (λ (i : ℕ). sets out 0
+      (bytesOf o 4 (length (dataC o (handedPing h a ns vs) ws))
+      ++ (bytesOf o 2 10010 ++ ((enc ++ (bytesOf o 4 (length (paired ns vs)) ++ (us ++ bytesOf o 4 (patternOf 4 a))))
+      ++ bytesOf o 4 i))))
+      whole
 
   module _ (out : List ℕ) where
     abbrev ownC : List (Rule Answer)
-    ownC = risingRule (paired ns vs) ∷ (ltb (firstWordless (paired ns vs)) (length (paired ns vs)) ⇒ Refused 21 (firstWordless (paired ns vs))) ∷ tooLong (tupleC o (handedPing h a ns vs)) ∷ []
+    ownC =
+        risingRule (paired ns vs) ∷ (ltb (firstWordless (paired ns vs)) (length (paired ns vs)) ⇒ Refused 21 (firstWordless (paired ns vs)))
+        ∷ tooLong (tupleC o (handedPing h a ns vs)) ∷ []
 
     abbrev bytes-of : List ℕ
     bytes-of = bytesC o (handedPing h a ns vs)
@@ -237,7 +300,9 @@ module _ (o : Bool) (h : PingHeader) (a : ℤ) (ns : List ℕ) (vs : List ℤ) w
 
       module _ (m : length ns ≤ 32764) (i : ℕ) (d : i ≡ firstDrop 0 (numbered ns)) where
         pub drops-C : i < length ns → C (Refused 23 i) out
-        drops-C l = rw (first-there ns vs e i d) (refuse ns vs ownC bytes-of out e m 23 (firstDrop 0 (paired ns vs)) (here (drop-there ns vs e i d l)))
+        drops-C l =
+            rw (first-there ns vs e i d)
+            (refuse ns vs ownC bytes-of out e m 23 (firstDrop 0 (paired ns vs)) (here (drop-there ns vs e i d l)))
 
         module _ (l : length ns ≤ i) (j : ℕ) (v : j ≡ firstWordless (valued vs)) where
           first-wordless : j ≡ firstWordless (paired ns vs)
@@ -250,28 +315,43 @@ module _ (o : Bool) (h : PingHeader) (a : ℤ) (ns : List ℕ) (vs : List ℤ) w
           wordless-C q =
               rw first-wordless
               (refuse ns vs ownC bytes-of out e m 21 (firstWordless (paired ns vs))
-              (pass rises (here (lt-ltb (firstWordless (paired ns vs)) (length (paired ns vs)) (omega (arith, length-paired ns vs (sym e), first-wordless))))))
+              (pass rises (here (lt-ltb (firstWordless (paired ns vs)) (length (paired ns vs))
+              (omega (arith, length-paired ns vs (sym e), first-wordless))))))
 
           module _ (q : length ns ≤ j) (n : ℕ) (z : n ≡ 36 + 4 * length (fewest radix (paired ns vs))) where
             worded : ltb (firstWordless (paired ns vs)) (length (paired ns vs)) ≡ false
-            worded = le-ltb (firstWordless (paired ns vs)) (length (paired ns vs)) (omega (arith, length-paired ns vs (sym e), first-wordless))
+            worded =
+                le-ltb (firstWordless (paired ns vs)) (length (paired ns vs)) (omega (arith, length-paired ns vs (sym e), first-wordless))
 
             pub long-C : 262144 < n → C (Refused 11 0) out
-            long-C b = refuse ns vs ownC bytes-of out e m 11 0 (pass rises (pass worded (here (lt-ltb 262144 (lengthOf (tupleC o (handedPing h a ns vs))) (omega (arith, length-body-C, z))))))
+            long-C b =
+                refuse ns vs ownC bytes-of out e m 11 0
+                (pass rises (pass worded
+                (here (lt-ltb 262144 (lengthOf (tupleC o (handedPing h a ns vs))) (omega (arith, length-body-C, z))))))
 
             module _ (b : n ≤ 262144) where
               fits-C : ltb 262144 (lengthOf (tupleC o (handedPing h a ns vs))) ≡ false
               fits-C = le-ltb 262144 (lengthOf (tupleC o (handedPing h a ns vs))) (omega (arith, length-body-C, z))
 
               pub no-room-C : length out < n → C (Refused 19 0) out
-              no-room-C r = refuse ns vs ownC bytes-of out e m 19 0 (pass rises (pass worded (pass fits-C (here (lt-ltb (length out) (length bytes-of) (omega (arith, length-bytes-C, z)))))))
+              no-room-C r =
+                  refuse ns vs ownC bytes-of out e m 19 0
+                  (pass rises (pass worded (pass fits-C (here (lt-ltb (length out) (length bytes-of) (omega (arith, length-bytes-C, z)))))))
 
               module _ (r : n ≤ length out) where
                 pub sound-C : SoundList ns vs n (length out)
                 sound-C =
-                    record { equal = sym e; rising = omega (arith, first-there ns vs e i d, drop-most (paired ns vs) 0, length-paired ns vs (sym e)); few = m; size = z; short = b; fits = r }
+                    record {
+                      equal = sym e;
+                      rising = omega (arith, first-there ns vs e i d, drop-most (paired ns vs) 0, length-paired ns vs (sym e));
+                      few = m;
+                      size = z;
+                      short = b;
+                      fits = r;
+                    }
 
                 pub written-C : (left : List ℕ) → left ≡ sets out 0 (bytesC o (handedPing h a ns vs)) → C (accepting 1 n) left
                 written-C left =
                     accept ns vs ownC bytes-of out e m n left (length-bytes-C ∙ sym z) r
-                    (pass rises (pass worded (pass fits-C (pass (le-ltb (length out) (length bytes-of) (omega (arith, length-bytes-C, z))) none))))
+                    (pass rises (pass worded
+                    (pass fits-C (pass (le-ltb (length out) (length bytes-of) (omega (arith, length-bytes-C, z))) none))))

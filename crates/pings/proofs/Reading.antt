@@ -39,9 +39,11 @@ module _ {f : List ℕ} {p : ℕ} (ns : List ℕ) (vs : List ℤ) where
   unfolding sampleAnswer
   refused c q e = record { answer = rw (← e) (tells refl); numbersLeft = rw (← e); valuesLeft = rw (← e) }
 
-  pub read : accepting 1 0 ≡ readAnswer isPing f p → {r : Answer} {ms : List ℕ} {us : List ℤ} → Handed (samplesAt f p) ns vs r ms us → SamplesRead f p ns vs r ms us
+  pub read : accepting 1 0 ≡ readAnswer isPing f p → {r : Answer} {ms : List ℕ} {us : List ℤ} → Handed (samplesAt f p) ns vs r ms us
+      → SamplesRead f p ns vs r ms us
   unfolding sampleAnswer
-  read e h = record { answer = rw (← e) (tells (h .answer)); numbersLeft = rw (← e) (h .numbersLeft); valuesLeft = rw (← e) (h .valuesLeft) }
+  read e h =
+      record { answer = rw (← e) (tells (h .answer)); numbersLeft = rw (← e) (h .numbersLeft); valuesLeft = rw (← e) (h .valuesLeft) }
 
 -- ---- a sound ping's samples, by their places
 module _ {f : List ℕ} {p n k : ℕ} {o : Bool} (s : SoundPing f p o n k) where
@@ -76,13 +78,16 @@ module _ {f : List ℕ} {p n k : ℕ} {o : Bool} (s : SoundPing f p o n k) where
   -- its words keep the rules
   kept : k ≡ 10010 → AllPass (wordRules (fieldAt (isMsb f) f p 4 24) (allWords 4 (isMsb f) (take (p + n - 8 - (p + 28)) (drop (p + 28) f))))
   unfolding judgedWords
-  kept e = passes (wordRules (fieldAt (isMsb f) f p 4 24) (allWords 4 (isMsb f) (take (p + n - 8 - (p + 28)) (drop (p + 28) f)))) (sym (inner-words h fits e) ∙ both-right (headVerdict (isMsb f) (eqb k 65535) (tupleThere f p)) _ parts)
+  kept e =
+      passes (wordRules (fieldAt (isMsb f) f p 4 24) (allWords 4 (isMsb f) (take (p + n - 8 - (p + 28)) (drop (p + 28) f))))
+      (sym (inner-words h fits e) ∙ both-right (headVerdict (isMsb f) (eqb k 65535) (tupleThere f p)) _ parts)
 
   few-words : k ≡ 10010 → length (samplesAt f p) ≤ 32764
   few-words e = rw (words-there e, length-decode radix (lit< tt)) (ltb-false _ _ (kept e .0))
 
   -- its number of samples is the number of its values
-  pub count-there : k ≡ 10010 → fieldAt (isMsb f) f p 4 24 ≡ length (decode radix (allWords 4 (isMsb f) (take (p + n - 8 - (p + 28)) (drop (p + 28) f))))
+  pub count-there : k ≡ 10010
+      → fieldAt (isMsb f) f p 4 24 ≡ length (decode radix (allWords 4 (isMsb f) (take (p + n - 8 - (p + 28)) (drop (p + 28) f))))
   count-there e = eqb-true _ _ (not-false _ (kept e .1 .1 .0)) ∙ sym (length-decode radix (lit< tt) _ 0)
 
   -- it is long enough for its samples, and stands in the file
@@ -117,7 +122,12 @@ module _ {f : List ℕ} {p n k : ℕ} {o : Bool} (s : SoundPing f p o n k) where
       few-pairs : length (pairUp (allWords 4 (isMsb f) (take (p + n - 8 - (p + 24)) (drop (p + 24) f)))) ≤ 32764
       few-pairs =
           let part = take (p + n - 8 - (p + 24)) (drop (p + 24) f) in
-          omega (arith, r .1, length-pairs (isMsb f) part, length-take-le (p + n - 8 - (p + 24)) (drop (p + 24) f) (simp length-drop (omega (arith, r .0, r .2))))
+          omega (
+            arith,
+            r .1,
+            length-pairs (isMsb f) part,
+            length-take-le (p + n - 8 - (p + 24)) (drop (p + 24) f) (simp length-drop (omega (arith, r .0, r .2))),
+          )
 
       by : (b : Bool) → eqb k 10000 ≡ b → length (samplesAt f p) ≤ 32764
       by true e = rw (pairs-there (eqb-true k 10000 e)) few-pairs

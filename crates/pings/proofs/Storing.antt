@@ -13,7 +13,11 @@ use Rattle.pings.specs.Headers.{headOf}
 
 module _ (o : Bool) (l : List ℕ) (h : PingHeader) where
   pub header-stored :
-      sets (sets (sets (sets (sets (sets l 6 (bytesOf o 2 (h .«time_fraction»))) 8 (bytesOf o 4 (h .«time_cpu»))) 12 (bytesOf o 2 (h .«software_channel_identifier» .0))) 14 (bytesOf o 2 (h .«transmitter_mode»))) 16 (bytesOf o 4 (h .«ping_number»))) 20 (bytesOf o 4 (patternOf 4 (h .«detected_bottom_range»)))
+      sets (sets (sets (sets (sets (sets l 6 (bytesOf o 2 (h .«time_fraction»))) 8 (bytesOf o 4 (h .«time_cpu»))) 12
+      (bytesOf o 2 (h .«software_channel_identifier» .0)))
+      14 (bytesOf o 2 (h .«transmitter_mode»)))
+      16 (bytesOf o 4 (h .«ping_number»)))
+      20 (bytesOf o 4 (patternOf 4 (h .«detected_bottom_range»)))
       ≡ sets l 6 (encode o pingRow (headOf h))
   header-stored =
       sym

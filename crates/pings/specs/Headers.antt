@@ -14,7 +14,9 @@ use Rattle.pings.specs.Writers.{rulesU, rulesC, pingOf, bytesU, bytesC}
 
 -- the values of a header's row
 abbrev pub headOf : PingHeader → List Value
-headOf h = number (h .«time_fraction») ∷ number (h .«time_cpu») ∷ number (h .«software_channel_identifier» .0) ∷ number (h .«transmitter_mode») ∷ number (h .«ping_number») ∷ number (patternOf 4 (h .«detected_bottom_range»)) ∷ []
+headOf h =
+    number (h .«time_fraction») ∷ number (h .«time_cpu») ∷ number (h .«software_channel_identifier» .0) ∷ number (h .«transmitter_mode»)
+    ∷ number (h .«ping_number») ∷ number (patternOf 4 (h .«detected_bottom_range»)) ∷ []
 
 -- the ping that a writer is handed
 abbrev pub handedPing : PingHeader → ℤ → List ℕ → List ℤ → Ping

@@ -91,7 +91,9 @@ pub enum PingRead {
 
 // Hands over the samples of a U-32 ping's pairs; 19 where either slice is short.
 fn hand_pairs(part: &[u8], msb: bool, numbers: &mut [u32], values: &mut [i32]) -> Answer
-    ensures { λ r. ⌜ Handed (pairUp (allWords 4 msb (now (part .entry)))) (now (numbers .entry)) (now (values .entry)) r (now (numbers .exit)) (now (values .exit)) ⌝ }
+    ensures { λ r.
+        ⌜ Handed (pairUp (allWords 4 msb (now (part .entry)))) (now (numbers .entry)) (now (values .entry)) r (now (numbers .exit))
+        (now (values .exit)) ⌝ }
 {
     let n = part.len() / PAIR;
     if numbers.len() < n {
@@ -108,7 +110,9 @@ fn hand_pairs(part: &[u8], msb: bool, numbers: &mut [u32], values: &mut [i32]) -
 fn hand_words(part: &[u8], msb: bool, n: usize, numbers: &mut [u32], values: &mut [i32]) -> Answer
     requires { ⌜ length (now part) ≤ 262108 ⌝ }
     requires { ⌜ n ≡ length (decode radix (allWords 4 msb (now part))) ⌝ }
-    ensures { λ r. ⌜ Handed (decode radix (allWords 4 msb (now (part .entry)))) (now (numbers .entry)) (now (values .entry)) r (now (numbers .exit)) (now (values .exit)) ⌝ }
+    ensures { λ r.
+        ⌜ Handed (decode radix (allWords 4 msb (now (part .entry)))) (now (numbers .entry)) (now (values .entry)) r (now (numbers .exit))
+        (now (values .exit)) ⌝ }
 {
     if numbers.len() < n {
         return layout::refuse(codes::NO_ROOM, 0);
@@ -131,7 +135,9 @@ fn hand_over(
     values: &mut [i32],
 ) -> Answer
     requires { ⌜ SoundPing (now file) place msb whole code ⌝ }
-    ensures { λ r. ⌜ Handed (samplesAt (now (file .entry)) place) (now (numbers .entry)) (now (values .entry)) r (now (numbers .exit)) (now (values .exit)) ⌝ }
+    ensures { λ r.
+        ⌜ Handed (samplesAt (now (file .entry)) place) (now (numbers .entry)) (now (values .entry)) r (now (numbers .exit))
+        (now (values .exit)) ⌝ }
 {
     let until = place + whole - frame::TAIL;
     if code == types::PING_U {
@@ -149,7 +155,9 @@ fn hand_over(
 
 // Reads a listed ping's samples into two lent slices: numbers and signed values, one entry a sample.
 pub fn read_samples(file: &[u8], place: usize, numbers: &mut [u32], values: &mut [i32]) -> Answer
-    ensures { λ r. ⌜ SamplesRead (now (file .entry)) place (now (numbers .entry)) (now (values .entry)) r (now (numbers .exit)) (now (values .exit)) ⌝ }
+    ensures { λ r.
+        ⌜ SamplesRead (now (file .entry)) place (now (numbers .entry)) (now (values .entry)) r (now (numbers .exit))
+        (now (values .exit)) ⌝ }
 {
     match tuples::open_ping(file, place) {
         Opened::Refused { code, place } => layout::refuse(code, place),
@@ -306,7 +314,9 @@ fn put_c32(
     out: &mut [u8],
 )
     requires { ⌜ SoundList (now numbers) (now values) whole (length (now out)) ⌝ }
-    ensures { λ _. ⌜ now (out .exit) ≡ sets (now (out .entry)) 0 (bytesC msb (handedPing header attribute (now (numbers .entry)) (now (values .entry)))) ⌝ }
+    ensures { λ _.
+        ⌜ now (out .exit) ≡ sets (now (out .entry)) 0
+        (bytesC msb (handedPing header attribute (now (numbers .entry)) (now (values .entry)))) ⌝ }
 {
     write_opening(out, msb, whole, types::PING_C, header);
     order::store4(out, samples::COUNT, msb, numbers.len() as u32);

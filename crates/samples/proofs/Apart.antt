@@ -67,7 +67,8 @@ pub length-numbered : (ns : List ℕ) → length (numbered ns) ≡ length ns
 length-numbered [] = refl
 length-numbered (n ∷ ns) = ap suc (length-numbered ns)
 
-pub valued-next : (vs : List ℤ) (i : ℕ) → i < length vs → valued (drop i vs) ≡ (0, patternOf 4 (getD vs i (pos 0))) ∷ valued (drop (i + 1) vs)
+pub valued-next : (vs : List ℤ) (i : ℕ) → i < length vs
+    → valued (drop i vs) ≡ (0, patternOf 4 (getD vs i (pos 0))) ∷ valued (drop (i + 1) vs)
 valued-next vs i h = rw (drop-cons vs i (pos 0) h, add-one i)
 
 pub valued-end : (vs : List ℤ) (i : ℕ) → length vs ≤ i → valued (drop i vs) ≡ []
@@ -109,7 +110,8 @@ wordless-valued (x ∷ ns) (v ∷ vs) e =
     ∙ sym (wordless-later (x, patternOf 4 v) (paired ns vs) t))
 
 module _ (R : ℕ) (some : 0 < R) where
-  count-from : (ns : List ℕ) (vs : List ℤ) (n : ℕ) → length vs ≡ length ns → length (encodeFrom R n (numbered ns) 0) ≡ length (encodeFrom R n (paired ns vs) 0)
+  count-from : (ns : List ℕ) (vs : List ℤ) (n : ℕ) → length vs ≡ length ns
+      → length (encodeFrom R n (numbered ns) 0) ≡ length (encodeFrom R n (paired ns vs) 0)
   count-from [] vs n e = refl
   count-from (x ∷ ns) [] n e = absurd (omega arith)
   count-from (x ∷ ns) (v ∷ vs) n e =
@@ -117,7 +119,8 @@ module _ (R : ℕ) (some : 0 < R) where
       ∙ ap (λ (k : ℕ). length (gap R (x - n)) + suc k) (count-from ns vs (x + 1) (omega arith))
       ∙ sym (encode-length R some n (x, patternOf 4 v) (paired ns vs) 0)
 
-  pub count-numbered : (ns : List ℕ) (vs : List ℤ) → length vs ≡ length ns → length (fewest R (numbered ns)) ≡ length (fewest R (paired ns vs))
+  pub count-numbered : (ns : List ℕ) (vs : List ℤ) → length vs ≡ length ns
+      → length (fewest R (numbered ns)) ≡ length (fewest R (paired ns vs))
   count-numbered [] vs e = refl
   count-numbered (x ∷ ns) [] e = absurd (omega arith)
   count-numbered (x ∷ ns) (v ∷ vs) e = count-from (x ∷ ns) (v ∷ vs) 0 e

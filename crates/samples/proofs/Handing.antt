@@ -22,14 +22,23 @@ pub record Handing (s left : List Sample) (ns₀ : List ℕ) (vs₀ : List ℤ) 
 
 pub handing-begin : {s : List Sample} {ns : List ℕ} {vs : List ℤ} → Room s ns vs → Handing s s ns vs ns vs 0
 handing-begin r =
-    record { longNumbers = refl; longValues = refl; roomNumbers = omega (arith, r .forNumbers); roomValues = omega (arith, r .forValues); numbers = refl; values = refl }
+    record {
+      longNumbers = refl;
+      longValues = refl;
+      roomNumbers = omega (arith, r .forNumbers);
+      roomValues = omega (arith, r .forValues);
+      numbers = refl;
+      values = refl;
+    }
 
 -- by another name for what is left
-pub handing-as : {s left rest : List Sample} {ns₀ : List ℕ} {vs₀ : List ℤ} {ns : List ℕ} {vs : List ℤ} {j : ℕ} → left ≡ rest → Handing s left ns₀ vs₀ ns vs j → Handing s rest ns₀ vs₀ ns vs j
+pub handing-as : {s left rest : List Sample} {ns₀ : List ℕ} {vs₀ : List ℤ} {ns : List ℕ} {vs : List ℤ} {j : ℕ} → left ≡ rest
+    → Handing s left ns₀ vs₀ ns vs j → Handing s rest ns₀ vs₀ ns vs j
 handing-as {s} {ns₀ = ns₀} {vs₀ = vs₀} {ns = ns} {vs = vs} {j = j} e h = subst (λ (l : List Sample). Handing s l ns₀ vs₀ ns vs j) e h
 
 -- one more handed over, its value v as the code has it
-pub handing-one : {s r : List Sample} (x : Sample) (v : ℤ) {ns₀ : List ℕ} {vs₀ : List ℤ} {ns : List ℕ} {vs : List ℤ} {j : ℕ} → v ≡ signedOf 4 (x .1)
+pub handing-one : {s r : List Sample} (x : Sample) (v : ℤ) {ns₀ : List ℕ} {vs₀ : List ℤ} {ns : List ℕ} {vs : List ℤ} {j : ℕ}
+    → v ≡ signedOf 4 (x .1)
     → Handing s (x ∷ r) ns₀ vs₀ ns vs j → Handing s r ns₀ vs₀ (set ns j (x .0)) (set vs j v) (j + 1)
 handing-one x v {ns = ns} {vs = vs} {j = j} z h =
     let e : j + 1 ≡ suc j = omega arith in
@@ -48,8 +57,10 @@ pub handing-end : {s : List Sample} {ns₀ : List ℕ} {vs₀ : List ℤ} {ns : 
 handing-end h = (h .numbers, h .values)
 
 -- there is an entry for one still to come
-pub entry-numbers : {s r : List Sample} {x : Sample} {ns₀ : List ℕ} {vs₀ : List ℤ} {ns : List ℕ} {vs : List ℤ} {j : ℕ} → Handing s (x ∷ r) ns₀ vs₀ ns vs j → j < length ns
+pub entry-numbers : {s r : List Sample} {x : Sample} {ns₀ : List ℕ} {vs₀ : List ℤ} {ns : List ℕ} {vs : List ℤ} {j : ℕ}
+    → Handing s (x ∷ r) ns₀ vs₀ ns vs j → j < length ns
 entry-numbers h = omega (arith, h .roomNumbers, h .longNumbers)
 
-pub entry-values : {s r : List Sample} {x : Sample} {ns₀ : List ℕ} {vs₀ : List ℤ} {ns : List ℕ} {vs : List ℤ} {j : ℕ} → Handing s (x ∷ r) ns₀ vs₀ ns vs j → j < length vs
+pub entry-values : {s r : List Sample} {x : Sample} {ns₀ : List ℕ} {vs₀ : List ℤ} {ns : List ℕ} {vs : List ℤ} {j : ℕ}
+    → Handing s (x ∷ r) ns₀ vs₀ ns vs j → j < length vs
 entry-values h = omega (arith, h .roomValues, h .longValues)

@@ -110,7 +110,8 @@ module _ (o : Bool) (part : List ℕ) (p x : ℕ) (h : 8 ≤ length part - p) (e
   pub fall-there : (n : ℕ) → x < n → firstDrop n (pairUp (wordsFrom 4 o part p)) ≡ 0
   fall-there n t = ap (firstDrop n) next-pair ∙ drop-here n _ _ (lt-leb n x t)
 
-  pub fall-behind : (n : ℕ) → n ≤ x → firstDrop n (pairUp (wordsFrom 4 o part p)) ≡ firstDrop (x + 1) (pairUp (wordsFrom 4 o part (p + 8))) + 1
+  pub fall-behind : (n : ℕ) → n ≤ x
+      → firstDrop n (pairUp (wordsFrom 4 o part p)) ≡ firstDrop (x + 1) (pairUp (wordsFrom 4 o part (p + 8))) + 1
   fall-behind n t = ap (firstDrop n) next-pair ∙ drop-later n _ _ t
 
 -- drops that are counted: one more, or none
@@ -127,10 +128,12 @@ module _ (o : Bool) (part : List ℕ) (p : ℕ) where
       → (not (eqb (d + boolByte (leb x n)) 0) || anyDrop (x + 1) (pairUp (wordsFrom 4 o part (p + 8))))
       ≡ (not (eqb d 0) || anyDrop (n + 1) (pairUp (wordsFrom 4 o part p)))
   count-turn x h e d n =
-      ap (λ (b : Bool). b || anyDrop (x + 1) (pairUp (wordsFrom 4 o part (p + 8)))) (some-more d (leb x n)) ∙ drop-turn o part p x h e (not (eqb d 0)) n
+      ap (λ (b : Bool). b || anyDrop (x + 1) (pairUp (wordsFrom 4 o part (p + 8)))) (some-more d (leb x n))
+      ∙ drop-turn o part p x h e (not (eqb d 0)) n
 
 -- two pairs a turn
-module _ (o : Bool) (part : List ℕ) (p x y : ℕ) (h : 16 ≤ length part - p) (e : x ≡ wordAt 4 o part p) (f : y ≡ wordAt 4 o part (p + 8)) where
+module _ (o : Bool) (part : List ℕ) (p x y : ℕ) (h : 16 ≤ length part - p) (e : x ≡ wordAt 4 o part p)
+    (f : y ≡ wordAt 4 o part (p + 8)) where
   pub count-two : (d n : ℕ)
       → (not (eqb (d + boolByte (leb x n) + boolByte (leb y x)) 0) || anyDrop (y + 1) (pairUp (wordsFrom 4 o part (p + 16))))
       ≡ (not (eqb d 0) || anyDrop (n + 1) (pairUp (wordsFrom 4 o part p)))

@@ -57,10 +57,12 @@ pub decode-rises : (R : ℕ) → 0 < R → (ws : List ℕ) → firstDrop 0 (deco
 decode-rises R pos ws = rising-all (decode R ws) 0 (fit-rising R (decode R ws) 0 (decode-fit R pos ws 0))
 
 -- ---- a turn over pairs: the pair at p, and those from p + 8 on
-pub pairs-next : (o : Bool) (s : List ℕ) (p : ℕ) → p + 8 ≤ length s → pairUp (wordsFrom 4 o s p) ≡ (wordAt 4 o s p, wordAt 4 o s (p + 4)) ∷ pairUp (wordsFrom 4 o s (p + 8))
+pub pairs-next : (o : Bool) (s : List ℕ) (p : ℕ) → p + 8 ≤ length s
+    → pairUp (wordsFrom 4 o s p) ≡ (wordAt 4 o s p, wordAt 4 o s (p + 4)) ∷ pairUp (wordsFrom 4 o s (p + 8))
 unfolding pairUp
 pairs-next o s p h =
-    ap pairUp (from-cons 4 o s p (lit< tt) (omega arith) ∙ ap (λ (l : List ℕ). wordAt 4 o s p ∷ l) (from-cons 4 o s (p + 4) (lit< tt) (omega arith)))
+    ap pairUp (from-cons 4 o s p (lit< tt) (omega arith)
+    ∙ ap (λ (l : List ℕ). wordAt 4 o s p ∷ l) (from-cons 4 o s (p + 4) (lit< tt) (omega arith)))
     ∙ ap (λ (q : ℕ). pairUp (wordAt 4 o s p ∷ wordAt 4 o s (p + 4) ∷ wordsFrom 4 o s q)) (omega arith)
 
 pub pairs-end : (o : Bool) (s : List ℕ) (p : ℕ) → length s < p + 8 → pairUp (wordsFrom 4 o s p) ≡ []

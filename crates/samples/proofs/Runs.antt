@@ -4,7 +4,8 @@ use mathlib.Core.Logic.{_↔_}
 use mathlib.Core.Bool.{Bool, true, false}
 use mathlib.Core.List.{List, [], _∷_, _++_, append-assoc, append-nil}
 use Prim.Native.Nat.{ℕ, zero, suc, _+_, _-_, _*_, _/_, _%_, _≤_, _<_}
-use native.Mathlib.Nat.{div-add-mod', mod-lt, add-assoc, add-zero, zero-add, add-sub-cancel-left, le-trans, le-of-mul-le-mul-right, lt-of-mul-lt-mul-right}
+use native.Mathlib.Nat.{div-add-mod', mod-lt, add-assoc, add-zero, zero-add, add-sub-cancel-left, le-trans, le-of-mul-le-mul-right}
+use native.Mathlib.Nat.{lt-of-mul-lt-mul-right}
 use native.Mathlib.Numerals.{add-one}
 use native.Mathlib.Omega.{arith}
 use lib.Arith.{digits-div, digits-mod}
@@ -60,7 +61,8 @@ module _ (R : ℕ) (pos : 0 < R) where
   run-long r h = rw (digits-mod (R - 1) {m = R} {r = r} h)
 
   -- whatever passes over a run by adding its length passes over a gap by adding the gap
-  module _ {A : Type 0} (F : ℕ → List ℕ → A) (step : (n w : ℕ) (ws : List ℕ) → isRun R w ≡ true → F n (w ∷ ws) ≡ F (n + runLength R w) ws) where
+  module _ {A : Type 0} (F : ℕ → List ℕ → A)
+      (step : (n w : ℕ) (ws : List ℕ) → isRun R w ≡ true → F n (w ∷ ws) ≡ F (n + runLength R w) ws) where
     past-one : (n r : ℕ) (ws : List ℕ) → r < R → F n (((R - 1) * R + r) ∷ ws) ≡ F (n + (r + 1)) ws
     past-one n r ws h = step n ((R - 1) * R + r) ws (run-is r h) ∙ ap (λ (k : ℕ). F (n + k) ws) (run-long r h)
 
@@ -117,7 +119,8 @@ module _ (R : ℕ) (pos : 0 < R) where
   decode-fit [] n = tt
   decode-fit (w ∷ ws) n =
       by-bool (isRun R w)
-      (λ e. rw (decode-run n w ws e) (fit-less (decodeFrom R (n + runLength R w) ws) (n + runLength R w) n (omega arith) (decode-fit ws (n + runLength R w))))
+      (λ e. rw (decode-run n w ws e)
+      (fit-less (decodeFrom R (n + runLength R w) ws) (n + runLength R w) n (omega arith) (decode-fit ws (n + runLength R w))))
       (λ e. rw (decode-value n w ws e) (omega arith, e, decode-fit ws (n + 1)))
 
   -- ---- the fewest words
@@ -153,7 +156,8 @@ module _ (R : ℕ) (pos : 0 < R) where
   gap-none : length (gap R 0) ≡ 0
   gap-none = omega (arith, gap-least 0 0 (omega arith))
 
-  pub encode-length : (n : ℕ) (x : Sample) (s : List Sample) (t : ℕ) → length (encodeFrom R n (x ∷ s) t) ≡ length (gap R (x .0 - n)) + suc (length (encodeFrom R (x .0 + 1) s t))
+  pub encode-length : (n : ℕ) (x : Sample) (s : List Sample) (t : ℕ)
+      → length (encodeFrom R n (x ∷ s) t) ≡ length (gap R (x .0 - n)) + suc (length (encodeFrom R (x .0 + 1) s t))
   unfolding encodeFrom
   encode-length n x s t = length-append (gap R (x .0 - n)) (x .1 ∷ encodeFrom R (x .0 + 1) s t)
 
@@ -162,7 +166,8 @@ module _ (R : ℕ) (pos : 0 < R) where
   fewest-from [] n g = unfold encodeFrom decodeFrom tailFrom in omega arith
   fewest-from (w ∷ ws) n g =
       by-bool (isRun R w)
-      (λ e. rw (decode-run (n + g) w ws e, tail-run g w ws e, add-assoc n g (runLength R w)) (omega (arith, fewest-from ws n (g + runLength R w), gap-more g w)))
+      (λ e. rw (decode-run (n + g) w ws e, tail-run g w ws e, add-assoc n g (runLength R w))
+      (omega (arith, fewest-from ws n (g + runLength R w), gap-more g w)))
       (λ e.
       rw (decode-value (n + g) w ws e, tail-value g w ws e)
       (rw (encode-length n (n + g, w), add-sub-cancel-left n g) (omega (arith, gap-none, rw add-zero at (fewest-from ws (n + g + 1) 0)))))
@@ -196,5 +201,6 @@ module _ (R : ℕ) (pos : 0 < R) where
   fewest-words ws [] e h = h
   fewest-words ws (x ∷ s) e h =
       let a = no-tail R pos (x ∷ s) 0 (tailFrom R 0 ws) in
-      let b : length (encodeFrom R 0 (decode R ws) (tailFrom R 0 ws)) ≤ length ws = omega (arith, gap-none R pos, rw (zero-add 0) at (fewest-from R pos ws 0 0)) in
+      let b : length (encodeFrom R 0 (decode R ws) (tailFrom R 0 ws))
+      ≤ length ws = omega (arith, gap-none R pos, rw (zero-add 0) at (fewest-from R pos ws 0 0)) in
       le-trans a (rw e at b)

@@ -25,9 +25,11 @@ module _ (o z : Bool) (part out₀ : List ℕ) (to : ℕ) where
   pub turning-begin : Turning out₀ 0
   turning-begin =
       let e : to + 0 ≡ to = omega arith in
-      ap (λ (n : ℕ). sets out₀ n (unwords 4 z (wordsFrom 4 o part 0))) e ∙ ap (λ (ws : List ℕ). sets out₀ to (unwords 4 z ws)) (from-all 4 o part)
+      ap (λ (n : ℕ). sets out₀ n (unwords 4 z (wordsFrom 4 o part 0))) e
+      ∙ ap (λ (ws : List ℕ). sets out₀ to (unwords 4 z ws)) (from-all 4 o part)
 
-  pub turning-one : (out put : List ℕ) (p w : ℕ) → 4 ≤ length part - p → w ≡ wordAt 4 o part p → put ≡ sets out (to + p) (bytesOf z 4 w) → Turning out p → Turning put (p + 4)
+  pub turning-one : (out put : List ℕ) (p w : ℕ) → 4 ≤ length part - p → w ≡ wordAt 4 o part p → put ≡ sets out (to + p) (bytesOf z 4 w)
+      → Turning out p → Turning put (p + 4)
   turning-one out put p w h e b t =
       let a : to + (p + 4) ≡ to + p + 4 = omega arith in
       ap (λ (l : List ℕ). sets l (to + (p + 4)) (unwords 4 z (wordsFrom 4 o part (p + 4)))) b
@@ -41,7 +43,8 @@ module _ (o z : Bool) (part out₀ : List ℕ) (to : ℕ) where
   turning-end out p h t = ap (λ (ws : List ℕ). sets out (to + p) (unwords 4 z ws)) (sym (from-end 4 o part p (lit< tt) (omega arith))) ∙ t
 
 -- a word behind a word
-pub pair-put : (k : ℕ) (z : Bool) (l : List ℕ) (q n v : ℕ) → sets (sets l q (bytesOf z k n)) (q + k) (bytesOf z k v) ≡ sets l q (unwords k z (n ∷ v ∷ []))
+pub pair-put : (k : ℕ) (z : Bool) (l : List ℕ) (q n v : ℕ)
+    → sets (sets l q (bytesOf z k n)) (q + k) (bytesOf z k v) ≡ sets l q (unwords k z (n ∷ v ∷ []))
 unfolding unwords
 pair-put k z l q n v = ap (sets (sets l q (bytesOf z k n)) (q + k)) (sym (append-nil (bytesOf z k v))) ∙ past-word k z l q n (v ∷ [])
 
@@ -66,11 +69,14 @@ pub record Spreading (z : Bool) (s left : List Sample) (out₀ : List ℕ) (to�
   pub bytes : sets out to (unwords 4 z (unpair left)) ≡ sets out₀ to₀ (unwords 4 z (unpair s))
 
 -- by another name for what is left
-pub spreading-as : {z : Bool} {s left rest : List Sample} {out₀ out : List ℕ} {to₀ end to : ℕ} → left ≡ rest → Spreading z s left out₀ to₀ end out to → Spreading z s rest out₀ to₀ end out to
-spreading-as {z} {s} {out₀ = out₀} {out = out} {to₀ = to₀} {end = end} {to = to} e h = subst (λ (l : List Sample). Spreading z s l out₀ to₀ end out to) e h
+pub spreading-as : {z : Bool} {s left rest : List Sample} {out₀ out : List ℕ} {to₀ end to : ℕ} → left ≡ rest
+    → Spreading z s left out₀ to₀ end out to → Spreading z s rest out₀ to₀ end out to
+spreading-as {z} {s} {out₀ = out₀} {out = out} {to₀ = to₀} {end = end} {to = to} e h =
+    subst (λ (l : List Sample). Spreading z s l out₀ to₀ end out to) e h
 
 -- a pair is written at `to`, which makes put of out
-module _ {z : Bool} {s : List Sample} (n v : ℕ) {out₀ out put : List ℕ} {to₀ end to : ℕ} (e : put ≡ sets out to (unwords 4 z (n ∷ v ∷ []))) (l : length put ≡ length out) where
+module _ {z : Bool} {s : List Sample} (n v : ℕ) {out₀ out put : List ℕ} {to₀ end to : ℕ} (e : put ≡ sets out to (unwords 4 z (n ∷ v ∷ [])))
+    (l : length put ≡ length out) where
   -- the next of those left
   spreading-one : {r : List Sample} → Spreading z s ((n, v) ∷ r) out₀ to₀ end out to → Spreading z s r out₀ to₀ end put (to + 8)
   unfolding unpair
@@ -78,7 +84,10 @@ module _ {z : Bool} {s : List Sample} (n v : ℕ) {out₀ out put : List ℕ} {t
       record {
         long = l ∙ h .long;
         ends = omega (arith, h .ends);
-        bytes = ap (λ (b : List ℕ). sets b (to + 8) (unwords 4 z (unpair r))) e ∙ past-words 4 z out to (n ∷ v ∷ []) (unpair r) (to + 8) (omega arith) ∙ h .bytes;
+        bytes =
+            ap (λ (b : List ℕ). sets b (to + 8) (unwords 4 z (unpair r))) e
+            ∙ past-words 4 z out to (n ∷ v ∷ []) (unpair r) (to + 8) (omega arith)
+            ∙ h .bytes;
       }
 
   -- none of them: some being left, the next will be written over it
@@ -86,7 +95,8 @@ module _ {z : Bool} {s : List Sample} (n v : ℕ) {out₀ out put : List ℕ} {t
   spreading-over {r} m h =
       let us = unwords 4 z (n ∷ v ∷ []) in
       let vs = unwords 4 z (unpair r) in
-      let few : length us ≤ length vs = omega (arith, h .ends, length-unwords 4 z (n ∷ v ∷ []), length-unwords 4 z (unpair r), length-unpair r) in
+      let few : length us ≤ length vs =
+      omega (arith, h .ends, length-unwords 4 z (n ∷ v ∷ []), length-unwords 4 z (unpair r), length-unpair r) in
       record {
         long = l ∙ h .long;
         ends = h .ends;
@@ -120,7 +130,8 @@ word-left o part p n h =
     (λ t. absurd (omega (arith, rw (from-end 4 o part p (lit< tt) (leb-false (p + 4) (length part) t)) at h)))
 
 -- none is left
-pub spreading-end : {z : Bool} {s left : List Sample} {out₀ out : List ℕ} {to₀ end to : ℕ} → end ≤ to → Spreading z s left out₀ to₀ end out to → out ≡ sets out₀ to₀ (unwords 4 z (unpair s))
+pub spreading-end : {z : Bool} {s left : List Sample} {out₀ out : List ℕ} {to₀ end to : ℕ} → end ≤ to
+    → Spreading z s left out₀ to₀ end out to → out ≡ sets out₀ to₀ (unwords 4 z (unpair s))
 unfolding unwords unpair
 spreading-end {left = []} m h = h .bytes
 spreading-end {left = x ∷ r} m h = absurd (omega (arith, h .ends))

@@ -44,7 +44,8 @@ bytes-unwords k o [] = tt
 bytes-unwords k o (w ∷ ws) = bytes-append (bytesOf o k w) (unwords k o ws) (bytes-ordered o _ (bytes-lows k w)) (bytes-unwords k o ws)
 
 -- words read from bytes are within their width, and as many as asked
-pub words-below : (k n : ℕ) (o : Bool) (d : List ℕ) → Bytes d → k * n ≤ length d → Below (256 ^ k) (words k o n d) × (length (words k o n d) ≡ n)
+pub words-below : (k n : ℕ) (o : Bool) (d : List ℕ) → Bytes d → k * n ≤ length d
+    → Below (256 ^ k) (words k o n d) × (length (words k o n d) ≡ n)
 unfolding words
 words-below k zero o d b h = (tt, refl)
 words-below k (suc n) o d b h =
@@ -91,7 +92,8 @@ pub from-all : (k : ℕ) (o : Bool) (s : List ℕ) → wordsFrom k o s 0 ≡ all
 unfolding wordsFrom allWords
 from-all k o s = ap (λ (n : ℕ). words k o (n / k) s) (omega arith)
 
-pub from-cons : (k : ℕ) (o : Bool) (s : List ℕ) (p : ℕ) → 0 < k → p + k ≤ length s → wordsFrom k o s p ≡ wordAt k o s p ∷ wordsFrom k o s (p + k)
+pub from-cons : (k : ℕ) (o : Bool) (s : List ℕ) (p : ℕ) → 0 < k → p + k ≤ length s
+    → wordsFrom k o s p ≡ wordAt k o s p ∷ wordsFrom k o s (p + k)
 unfolding wordsFrom words
 from-cons k o s p pos h =
     let e : (length s - p) / k ≡ suc ((length s - (p + k)) / k) =

@@ -3,7 +3,8 @@ use mathlib.Core.Path.{_≡_, refl, sym, ap, subst, _∙_}
 use mathlib.Core.Bool.{Bool}
 use mathlib.Core.List.{List, [], _∷_, _++_, append-assoc}
 use Prim.Native.Nat.{ℕ, zero, suc, _+_, _-_, _*_, _/_, _≤_, _<_}
-use native.Mathlib.Nat.{div-eq-sub-div, mod-eq-sub-mod, div-eq-of-lt, mod-eq-of-lt, div-add-mod', mod-lt, div-lt-iff-lt-mul, le-mul-of-pos-right}
+use native.Mathlib.Nat.{div-eq-sub-div, mod-eq-sub-mod, div-eq-of-lt, mod-eq-of-lt, div-add-mod', mod-lt, div-lt-iff-lt-mul}
+use native.Mathlib.Nat.{le-mul-of-pos-right}
 use native.Mathlib.Numerals.{add-one}
 use native.Mathlib.Omega.{arith}
 use lib.IntN.{ℤ, pos}
@@ -24,7 +25,9 @@ use Rattle.samples.proofs.Apart.{paired-next}
 unwords-append : (k : ℕ) (o : Bool) (us ws : List ℕ) → unwords k o (us ++ ws) ≡ unwords k o us ++ unwords k o ws
 unfolding unwords
 unwords-append k o [] ws = refl
-unwords-append k o (u ∷ us) ws = ap (λ (l : List ℕ). bytesOf o k u ++ l) (unwords-append k o us ws) ∙ sym (append-assoc (bytesOf o k u) (unwords k o us) (unwords k o ws))
+unwords-append k o (u ∷ us) ws =
+    ap (λ (l : List ℕ). bytesOf o k u ++ l) (unwords-append k o us ws)
+    ∙ sym (append-assoc (bytesOf o k u) (unwords k o us) (unwords k o ws))
 
 module _ (k : ℕ) (o : Bool) (l : List ℕ) (q : ℕ) where
   -- l holds what stood there with the words us at q; the words ws follow at p
@@ -62,7 +65,8 @@ module _ (R : ℕ) (some : 0 < R) (g : ℕ) where
   pub gap-count : (g + (R - 1)) / R ≡ length (gap R g)
   gap-count =
       let n = length (gap R g) in
-      let up : (g + (R - 1)) / R < n + 1 = div-lt-iff-lt-mul {k = R} {x = g + (R - 1)} {y = n + 1} some .1 (omega (arith, gap-covers R some g)) in
+      let up : (g + (R - 1)) / R
+      < n + 1 = div-lt-iff-lt-mul {k = R} {x = g + (R - 1)} {y = n + 1} some .1 (omega (arith, gap-covers R some g)) in
       let down = gap-least R some g ((g + (R - 1)) / R) (omega (arith, div-add-mod' (g + (R - 1)) R, mod-lt (g + (R - 1)) some)) in
       omega arith
 
@@ -105,14 +109,16 @@ module _ (ns : List ℕ) (vs : List ℤ) (i n : ℕ) (h : i < length ns) (g : le
 
     module _ (R : ℕ) (some : 0 < R) where
       -- its words: those of its gap, its value, and the rest
-      pub sample-words : length (encodeFrom R m (left ns vs i) 0) ≡ length (gap R (n - m)) + suc (length (encodeFrom R (n + 1) (left ns vs (i + 1)) 0))
+      pub sample-words : length (encodeFrom R m (left ns vs i) 0)
+          ≡ length (gap R (n - m)) + suc (length (encodeFrom R (n + 1) (left ns vs (i + 1)) 0))
       sample-words = rw sample-next (encode-length R some m _ (left ns vs (i + 1)) 0)
 
       -- the gap is written at q, which makes l₁ of l; then at p the value, which makes l₂
       pub sample-turn : (k : ℕ) (o : Bool) (l l₁ l₂ : List ℕ) (q p v : ℕ)
           → p ≡ q + k * length (gap R (n - m)) → l₁ ≡ sets l q (unwords k o (gap R (n - m)))
           → v ≡ patternOf 4 (getD vs i (pos 0)) → l₂ ≡ sets l₁ p (bytesOf o k v)
-          → sets l₂ (p + k) (unwords k o (encodeFrom R (n + 1) (left ns vs (i + 1)) 0)) ≡ sets l q (unwords k o (encodeFrom R m (left ns vs i) 0))
+          → sets l₂ (p + k) (unwords k o (encodeFrom R (n + 1) (left ns vs (i + 1)) 0))
+          ≡ sets l q (unwords k o (encodeFrom R m (left ns vs i) 0))
       unfolding encodeFrom
       sample-turn k o l l₁ l₂ q p v place e₁ ev e₂ =
           let rest = encodeFrom R (n + 1) (left ns vs (i + 1)) 0 in

@@ -115,7 +115,9 @@ within-each b [] f = tt
 within-each b (x ∷ s) f = (f .1, within-each b s (f .2))
 
 pub below-fewest : (s : List Sample) → Within (256 ^ 4) s → Below (256 ^ 4) (fewest radix s)
-below-fewest s f = below-each (256 ^ 4) (fewest radix s) (each-fewest radix (lit< tt) (λ (w : ℕ). w < 256 ^ 4) (λ r h. omega arith) s (within-each (256 ^ 4) s f))
+below-fewest s f =
+    below-each (256 ^ 4) (fewest radix s)
+    (each-fewest radix (lit< tt) (λ (w : ℕ). w < 256 ^ 4) (λ r h. omega arith) s (within-each (256 ^ 4) s f))
 
 -- ---- the pairs written, in either byte order
 pub pairs-back : (s : List Sample) (o : Bool) → Within (256 ^ 4) s → pairUp (allWords 4 o (unwords 4 o (unpair s))) ≡ s

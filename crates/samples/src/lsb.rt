@@ -38,7 +38,8 @@ pub fn spread_words(part: &[u8], msb: bool, out: &mut [u8], to: usize, end: usiz
     requires { ⌜ length (now part) ≤ 262108 ⌝ }
     requires { ⌜ end ≡ to + 8 * length (decode radix (allWords 4 msb (now part))) ⌝ }
     requires { ⌜ end ≤ length (now out) ⌝ }
-    ensures { λ _. ⌜ now (out .exit) ≡ sets (now (out .entry)) to (unwords 4 false (unpair (decode radix (allWords 4 msb (now (part .entry)))))) ⌝ }
+    ensures { λ _.
+        ⌜ now (out .exit) ≡ sets (now (out .entry)) to (unwords 4 false (unpair (decode radix (allWords 4 msb (now (part .entry)))))) ⌝ }
 {
     let mut number: u32 = 0;
     let mut at = to;

@@ -107,7 +107,9 @@ pub fn write_words(numbers: &[u32], values: &[i32], msb: bool, out: &mut [u8], a
     requires { ⌜ length (now values) ≡ length (now numbers) ⌝ }
     requires { ⌜ firstDrop 0 (paired (now numbers) (now values)) ≡ length (now numbers) ⌝ }
     requires { ⌜ at + 4 * length (fewest radix (paired (now numbers) (now values))) ≤ length (now out) ⌝ }
-    ensures { λ _. ⌜ now (out .exit) ≡ sets (now (out .entry)) at (unwords 4 msb (fewest radix (paired (now (numbers .entry)) (now (values .entry))))) ⌝ }
+    ensures { λ _.
+        ⌜ now (out .exit) ≡ sets (now (out .entry)) at
+        (unwords 4 msb (fewest radix (paired (now (numbers .entry)) (now (values .entry))))) ⌝ }
 {
     // a ping has at least one word, so one without samples gets a run
     if numbers.len() == 0 {
@@ -131,7 +133,8 @@ pub fn write_words(numbers: &[u32], values: &[i32], msb: bool, out: &mut [u8], a
 pub fn write_pairs(numbers: &[u32], values: &[i32], msb: bool, out: &mut [u8], at: usize)
     requires { ⌜ length (now values) ≡ length (now numbers) ⌝ }
     requires { ⌜ at + 8 * length (now numbers) ≤ length (now out) ⌝ }
-    ensures { λ _. ⌜ now (out .exit) ≡ sets (now (out .entry)) at (unwords 4 msb (unpair (paired (now (numbers .entry)) (now (values .entry))))) ⌝ }
+    ensures { λ _.
+        ⌜ now (out .exit) ≡ sets (now (out .entry)) at (unwords 4 msb (unpair (paired (now (numbers .entry)) (now (values .entry))))) ⌝ }
 {
     let mut to = at;
     let mut i: usize = 0;

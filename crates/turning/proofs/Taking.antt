@@ -83,7 +83,8 @@ module _ (fs : List Field) where
         let taken = fieldNumbers o f (drop from src) in
         let rest = numbersIn (valuesOf o fs (drop (widthOf f) (drop from src))) in
         ap (λ (i : ℕ). sets (sets ns next taken) (next + takes f) (numbersIn (valuesOf o fs (drop (from + i) src)))) e
-        ∙ ap (λ (l : List ℕ). sets (sets ns next taken) (next + takes f) (numbersIn (valuesOf o fs l))) (sym (drop-drop (widthOf f) from src))
+        ∙ ap (λ (l : List ℕ). sets (sets ns next taken) (next + takes f) (numbersIn (valuesOf o fs l)))
+        (sym (drop-drop (widthOf f) from src))
         ∙ ap (λ (i : ℕ). sets (sets ns next taken) (next + i) rest) (sym (length-field-numbers o f bs))
         ∙ sym (sets-append taken rest ns next)
         ∙ ap (sets ns next) (sym (numbers-cons o f fs bs))
@@ -127,7 +128,8 @@ module _ {o : Bool} {src row lent whole numbers : List ℕ} {i next from : ℕ} 
   taken-end h = sym (nothing-read _ (row-end row i h) o numbers _ next) ∙ l .rest
 
   -- at a code, whose field's number is read
-  module _ {left : List ℕ} (more : i < length row) (put : left ≡ sets numbers next (codeNumbers o (fieldOf (getD row i 0)) (drop from src))) where
+  module _ {left : List ℕ} (more : i < length row)
+      (put : left ≡ sets numbers next (codeNumbers o (fieldOf (getD row i 0)) (drop from src))) where
     pub taken-dot : fieldOf (getD row i 0) ≡ none → left ≡ whole
     taken-dot e = rw (put, e) (sym (nothing-read _ (field-none row i more e) o numbers _ next) ∙ l .rest)
 

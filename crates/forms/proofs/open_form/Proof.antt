@@ -7,10 +7,10 @@ use Rattle.forms.proofs.open_form.Tie as tie
 
 returns : tie.Need-returns
 returns c =
-    let turn = c .before .before in
-    let front = turn .before .before .before .before in
+    let fields = c .before .before in
+    let front = fields .before .before .before .before in
     let a = front .before .before .before .before .args in
-    rw (turn .turn-listed .ensures, front .open-frame .ensures) (opening-stored false (a .out .now) (a .to) (a .bytes) (a .code) _)
+    rw (fields .turn-listed .ensures, front .open-frame .ensures) (opening-stored false (a .out .now) (a .to) (a .bytes) (a .code) _)
 
 pub open-form-spec : {M : Type 1} → statement M
 open-form-spec =

@@ -14,6 +14,13 @@ use Rattle.forms.proofs.Texts.{raw-shape, rowed}
 use Rattle.forms.proofs.write_form.Statement.{statement}
 use Rattle.forms.proofs.write_form.Tie as tie
 
+-- places, named by what has been done there
+abbrev start : tie.Else2 → tie.Start
+start c = c .before .before .before .before .before
+
+abbrev no-ping : tie.After-listing → tie.Else2
+no-ping c = c .before .before .before
+
 returns : tie.Need-returns
 returns c =
     let s = c .before .before .before .before in
@@ -38,7 +45,7 @@ whole c = measured-whole (c .before .before .before .before .before .pre .0) (ou
 write-u-requires : tie.Need-write-u-requires
 write-u-requires c κs =
     let k = c .before in
-    let p = k .before .before .before .before .before .before .pre in
+    let p = start (k .before) .pre in
     (subst (SoundHere _ _ _ _) (k .if3 .taken) (p .0), omega (arith, whole (k .before), p .1))
 
 returns-3 : tie.Need-returns-3
@@ -47,7 +54,8 @@ returns-3 c =
     (whole (w .before .before .before), w .write-u .ensures)
 
 -- its listing, as the code looked it up
-placed : (c : tie.After-listing) → c .listing .result ≡ placeIn (kindOf (c .before .before .before .before .before .before .before .before .args .code))
+placed : (c : tie.After-listing)
+    → c .listing .result ≡ placeIn (kindOf (start (c .before .before .before) .args .code))
 placed c = c .listing .ensures ∙ ap placeIn (c .before .kind-of .ensures)
 
 write-raw-requires : tie.Need-write-raw-requires
@@ -61,7 +69,7 @@ write-raw-requires c κs =
 returns-4 : tie.Need-returns-4
 returns-4 c =
     let w = c .before .before in
-    (whole (w .before .before .before .before .before .before), w .write-raw .ensures)
+    (whole (no-ping (w .before .before .before)), w .write-raw .ensures)
 
 write-row-requires : tie.Need-write-row-requires
 write-row-requires c κs =
@@ -75,7 +83,7 @@ write-row-requires c κs =
 returns-5 : tie.Need-returns-5
 returns-5 c =
     let w = c .before .before in
-    (whole (w .before .before .before .before .before .before), w .write-row .ensures)
+    (whole (no-ping (w .before .before .before)), w .write-row .ensures)
 
 pub write-form-spec : {M : Type 1} → statement M
 write-form-spec =

@@ -8,6 +8,10 @@ use Rattle.forms.proofs.Written.{raw-written}
 use Rattle.forms.proofs.write_raw.Statement.{statement}
 use Rattle.forms.proofs.write_raw.Tie as tie
 
+-- places, named by what has been done there
+abbrev start : tie.After-copy-arg → tie.Start
+start c = c .before .before .before .before .before .before .before
+
 -- the tuple stands in the file, and is no longer than a tuple may be
 abbrev Room : tie.Start → Type 0
 Room s = let a = s .args in (16 ≤ a .whole) × (a .whole ≤ 262144) × (a .at + a .whole ≤ length (a .file .now))
@@ -19,10 +23,10 @@ open-frame-requires : tie.Need-open-frame-requires
 open-frame-requires c κs = let r = room (c .before .before .before) in (omega arith, (omega arith, omega arith))
 
 copy-requires : tie.Need-copy-requires
-copy-requires c κs = let r = room (c .before .before .before .before .before .before .before) in (omega arith, omega arith)
+copy-requires c κs = let r = room (start c) in (omega arith, omega arith)
 
 cast-store4 : tie.Need-cast-store4
-cast-store4 c = let r = room (c .before .before .before .before .before .before .before .before .before .before .before) in omega arith
+cast-store4 c = let r = room (start (c .before .before .before .before)) in omega arith
 
 returns : tie.Need-returns
 returns c =

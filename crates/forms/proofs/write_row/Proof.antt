@@ -13,11 +13,16 @@ use Rattle.forms.proofs.Written.{row-written}
 use Rattle.forms.proofs.write_row.Statement.{statement}
 use Rattle.forms.proofs.write_row.Tie as tie
 
+-- places, named by what has been done there
+abbrev text-found : tie.After-close-form-arg → tie.After-text-place
+text-found c = c .before .before .before .before .before .before .before .before .before
+
 -- the tuple stands in the file, and its characters behind its fields
 abbrev Room : tie.After-text-place → Type 0
 Room c =
     let a = c .before .before .before .args in
-    (16 ≤ a .whole) × (a .whole ≤ 262144) × (a .at + a .whole ≤ length (a .file .now)) × (c .text-place .result ≡ 6 + size (listedFields (a .listing)))
+    (16 ≤ a .whole) × (a .whole ≤ 262144) × (a .at + a .whole ≤ length (a .file .now))
+    × (c .text-place .result ≡ 6 + size (listedFields (a .listing)))
 
 room : (c : tie.After-text-place) → Room c
 room c =
@@ -29,8 +34,10 @@ open-form-requires : tie.Need-open-form-requires
 open-form-requires c κs =
     let d = c .before in
     let r = room d in
-    let p = d .before .before .before .pre in
-    (row-listed (p .1 .0) (p .1 .1 .0), (omega (arith, d .text-place .ensures .1), (omega (arith, d .text-place .ensures .1), (omega arith, omega arith))))
+    let p = d .before .before .before .pre in (
+      row-listed (p .1 .0) (p .1 .1 .0),
+      (omega (arith, d .text-place .ensures .1), (omega (arith, d .text-place .ensures .1), (omega arith, omega arith))),
+    )
 
 copy-requires : tie.Need-copy-requires
 copy-requires c κs =
@@ -40,7 +47,7 @@ copy-requires c κs =
 
 close-form-requires : tie.Need-close-form-requires
 close-form-requires c κs =
-    let r = room (c .before .before .before .before .before .before .before .before .before) in
+    let r = room (text-found c) in
     (omega arith, (omega arith, omega arith))
 
 returns : tie.Need-returns
@@ -51,7 +58,8 @@ returns c =
     let d = fields .before .before in
     let p = d .before .before .before .pre in
     let a = d .before .before .before .args in
-    row-written (p .0) (a .out .now) _ (a .to) (p .1 .0 .fields) (p .1 .0 .text) (p .1 .0 .shape) (listedFields (a .listing)) (row-fields (p .1 .0) (p .1 .1 .0))
+    row-written (p .0) (a .out .now) _ (a .to) (p .1 .0 .fields) (p .1 .0 .text) (p .1 .0 .shape) (listedFields (a .listing))
+    (row-fields (p .1 .0) (p .1 .1 .0))
     (d .text-place .result) (room d .3 ∙ ap (λ (fs : List Field). 6 + size fs) (row-fields (p .1 .0) (p .1 .1 .0)))
     (rw (back .close-form .ensures, text .copy .ensures, fields .open-form .ensures))
 

@@ -10,9 +10,17 @@ use Rattle.forms.proofs.Written.{spread-count, spread-few, words-writte
 use Rattle.forms.proofs.write_sampled.Statement.{statement}
 use Rattle.forms.proofs.write_sampled.Tie as tie
 
+-- places, named by what has been done there
+abbrev start : tie.After-slice-known2 → tie.Start
+start c = c .before .before .before .before .before .before .before
+
+abbrev opened : tie.After-close-form-arg → tie.After-slice-known2
+opened c = c .before .before .before .before .before .before
+
 -- the ping has room for its header and its last 8 bytes, and stands in the file; its form is not twice as long
 abbrev Room : tie.Start → Type 0
-Room s = let a = s .args in (40 ≤ a .whole) × (a .whole ≤ 262144) × (a .at + a .whole ≤ length (a .file .now)) × (40 ≤ a .bytes) × (a .bytes ≤ 2 * a .whole)
+Room s = let a = s .args in
+    (40 ≤ a .whole) × (a .whole ≤ 262144) × (a .at + a .whole ≤ length (a .file .now)) × (40 ≤ a .bytes) × (a .bytes ≤ 2 * a .whole)
 
 room : (s : tie.Start) → Room s
 room s =
@@ -29,13 +37,13 @@ open-form-requires c κs =
 
 spread-words-requires : tie.Need-spread-words-requires
 spread-words-requires c κs =
-    let s = c .before .before .before .before .before .before .before .before .before in
+    let s = start (c .before .before) in
     let r = room s in
     (spread-few (s .pre .0) (r .0), (omega (arith, spread-count (s .pre .0) refl, s .pre .1 .1 .0), omega arith))
 
 close-form-requires : tie.Need-close-form-requires
 close-form-requires c κs =
-    let r = room (c .before .before .before .before .before .before .before .before .before .before .before .before .before) in
+    let r = room (start (opened c)) in
     (omega arith, (omega arith, omega arith))
 
 returns : tie.Need-returns
@@ -58,13 +66,13 @@ write-sampled-spec =
     (λ c κs. search needs)
     open-form-requires
     (λ c. search needs)
-    (λ c. let r = room (c .before .before .before .before .before .before .before) in omega arith)
-    (λ c. let r = room (c .before .before .before .before .before .before .before) in omega arith)
-    (λ c. let r = room (c .before .before .before .before .before .before .before) in omega arith)
-    (λ c. let r = room (c .before .before .before .before .before .before .before) in omega arith)
+    (λ c. let r = room (start c) in omega arith)
+    (λ c. let r = room (start c) in omega arith)
+    (λ c. let r = room (start c) in omega arith)
+    (λ c. let r = room (start c) in omega arith)
     (λ c. search needs)
     spread-words-requires
-    (λ c. let r = room (c .before .before .before .before .before .before .before .before .before .before .before .before) in omega arith)
+    (λ c. let r = room (start (c .before .before .before .before .before)) in omega arith)
     close-form-requires
     (λ c. search needs)
     returns)

@@ -10,6 +10,10 @@ use Rattle.forms.proofs.Written.{silent-written}
 use Rattle.forms.proofs.write_silent.Statement.{statement}
 use Rattle.forms.proofs.write_silent.Tie as tie
 
+-- places, named by what has been done there
+abbrev start : tie.After-slice-known3 → tie.Start
+start c = c .before .before .before .before .before .before .before .before .before .before .before
+
 -- the ping has room for its header and its last 8 bytes, and stands in the file
 abbrev Room : tie.Start → Type 0
 Room s = let a = s .args in (40 ≤ a .whole) × (a .at + a .whole ≤ length (a .file .now))
@@ -25,7 +29,7 @@ open-form-requires c κs =
 
 close-form-requires : tie.Need-close-form-requires
 close-form-requires c κs =
-    let r = room (c .before .before .before .before .before .before .before .before .before .before .before .before) in
+    let r = room (start (c .before)) in
     (omega arith, (omega arith, omega arith))
 
 returns : tie.Need-returns
@@ -35,7 +39,8 @@ returns c =
     let header = silence .before .before .before .before in
     let listing = header .before .before in
     let s = listing .before .before .before in
-    silent-written (s .pre .0) (s .args .out .now) _ (s .args .to) refl (s .pre .1 .0) (rw (back .close-form .ensures, silence .write-silence .ensures, header .open-form .ensures, listing .listing .ensures))
+    silent-written (s .pre .0) (s .args .out .now) _ (s .args .to) refl (s .pre .1 .0)
+    (rw (back .close-form .ensures, silence .write-silence .ensures, header .open-form .ensures, listing .listing .ensures))
 
 pub write-silent-spec : {M : Type 1} → statement M
 write-silent-spec =
@@ -46,7 +51,7 @@ write-silent-spec =
     open-form-requires
     (λ c. search needs)
     (λ c κs. search needs)
-    (λ c. let r = room (c .before .before .before .before .before .before .before .before .before .before .before) in omega arith)
+    (λ c. let r = room (start c) in omega arith)
     (λ c. search needs)
     (λ c. search needs)
     close-form-requires

@@ -21,11 +21,14 @@ finds-bad : (c : tie.After-number) → inputOf (text (c .before .before .before)
 finds-bad c = read-bad (c .before .before .before .decode .ensures) _ (c .number .given .1)
 
 finds-bytes : (c : tie.After-n) →
-    let n = c .n .given .0 .0 in (n ≤ room) × (inputOf (text (c .before .before .before)) ≡ bytes (take n (c .before .before .before .decode .last .1 .0)))
-finds-bytes c = let d = c .before .before .before in read-bytes (d .decode .ensures) _ (d .before .before .before .space .ensures) (c .n .given .1)
+    let n = c .n .given .0 .0 in
+    (n ≤ room) × (inputOf (text (c .before .before .before)) ≡ bytes (take n (c .before .before .before .decode .last .1 .0)))
+finds-bytes c = let d = c .before .before .before in
+    read-bytes (d .decode .ensures) _ (d .before .before .before .space .ensures) (c .n .given .1)
 
 fits : (c : tie.After-n) → c .n .given .0 .0 ≤ length (c .before .before .before .decode .last .1 .0)
-fits c = let d = c .before .before .before in omega (arith, finds-bytes c .0, d .decode .kept .1 .0, d .before .before .before .space .ensures)
+fits c = let d = c .before .before .before in
+    omega (arith, finds-bytes c .0, d .decode .kept .1 .0, d .before .before .before .space .ensures)
 
 slice-aggregate-decode : tie.Need-slice-aggregate-decode
 slice-aggregate-decode c = sym (length-take-le _ _ (c .before .before .before .pre .0))
@@ -40,7 +43,8 @@ returns : tie.Need-returns
 returns c = prints-tuple _ _ (finds-bad (c .before .before .before .before .before)) (c .before .before .print-bad .ensures)
 
 returns-2 : tie.Need-returns-2
-returns-2 c = prints-tuple _ _ (finds-bytes (c .before .before .before .before .before .before) .1) (c .before .before .print .ensures)
+returns-2 c = let printed = c .before .before in
+    prints-tuple _ _ (finds-bytes (printed .before .before .before .before) .1) (printed .print .ensures)
 
 pub normal-tuple-spec : {M : Type 1} → statement M
 normal-tuple-spec =

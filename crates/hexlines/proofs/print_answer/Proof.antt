@@ -13,25 +13,32 @@ use Rattle.hexlines.proofs.print_answer.Tie as tie
 
 -- what is accepted is within the lent bytes
 within : (c : tie.After-answer2) → Within (c .answer2 .given .0 .0 .written) (c .before .before .before .before .args .form .now)
-within c = subst (λ (a : Answer). Ready a (c .before .before .before .before .args .form .now)) (c .answer2 .given .1) (c .before .before .before .before .pre .1)
+within c =
+    subst (λ (a : Answer). Ready a (c .before .before .before .before .args .form .now)) (c .answer2 .given .1)
+    (c .before .before .before .before .pre .1)
 
-counted : (c : tie.After-answer2) → let m = c .answer2 .given .0 .0 .written in length (take m (c .before .before .before .before .args .form .now)) ≡ m
+counted : (c : tie.After-answer2) → let m = c .answer2 .given .0 .0 .written in
+    length (take m (c .before .before .before .before .args .form .now)) ≡ m
 counted c = length-take-le _ _ (within c .long)
 
 print-form-requires : tie.Need-print-form-requires
 print-form-requires c κs =
-    let w = within (c .before .before .before) in
-    (w .form, omega (arith, most _ _ (w .form) (omega (arith, counted (c .before .before .before), w .small)), c .before .before .before .before .before .before .before .pre .0))
+    let told = c .before .before .before in
+    let w = within told in
+    (w .form, omega (arith, most _ _ (w .form) (omega (arith, counted told, w .small)), told .before .before .before .before .pre .0))
 
 returns : tie.Need-returns
 returns c =
     let told = c .before .before .before .before .before in
-    put-same (ap (λ (a : Answer). printedBy a (told .before .before .before .before .args .form .now)) (sym (told .answer .given .1))) (c .before .before .print-refused .ensures)
+    put-same (ap (λ (a : Answer). printedBy a (told .before .before .before .before .args .form .now)) (sym (told .answer .given .1)))
+    (c .before .before .print-refused .ensures)
 
 returns-2 : tie.Need-returns-2
 returns-2 c =
-    let told = c .before .before .before .before .before .before in
-    put-same (ap (λ (a : Answer). printedBy a (told .before .before .before .before .args .form .now)) (sym (told .answer2 .given .1))) (c .before .before .print-form .ensures)
+    let printed = c .before .before in
+    let told = printed .before .before .before .before in
+    put-same (ap (λ (a : Answer). printedBy a (told .before .before .before .before .args .form .now)) (sym (told .answer2 .given .1)))
+    (printed .print-form .ensures)
 
 pub print-answer-spec : {M : Type 1} → statement M
 print-answer-spec =

@@ -16,4 +16,6 @@ ask-spec =
     (λ c. search needs)
     (λ c κs. sym (c .before .before .before .check .ensures .is) ∙ c .before .counts .given .1)
     (λ c. tells (sym (ap (askChecked _ _) (sym (c .before .before .before .check .ensures .is) ∙ c .before .code .given .1))))
-    (λ c. tells (c .ask-accepted .ensures ∙ sym (ap (askChecked _ _) (sym (c .before .before .before .before .check .ensures .is) ∙ c .before .before .counts .given .1)))))
+    (λ c.
+    tells (c .ask-accepted .ensures
+    ∙ sym (ap (askChecked _ _) (sym (c .before .before .before .before .check .ensures .is) ∙ c .before .before .counts .given .1)))))

@@ -28,7 +28,8 @@ returns c =
     let w = c .before .before .before .before in
     let r = w .before .before in
     let o = ordered (r .before) in
-    c .ask-here .ensures ∙ seeking-here _ _ _ _ (o .before .before .pre) (o .is-msb .ensures) _ _ (ran-to _ _ _ _ _ _ (r .run .ensures) (w .w .given .1))
+    c .ask-here .ensures
+    ∙ seeking-here _ _ _ _ (o .before .before .pre) (o .is-msb .ensures) _ _ (ran-to _ _ _ _ _ _ (r .run .ensures) (w .w .given .1))
 
 returns-2 : tie.Need-returns-2
 returns-2 c =

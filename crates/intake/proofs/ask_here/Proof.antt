@@ -11,6 +11,10 @@ use Rattle.intake.proofs.Rows.{ask-other, channel-below, sounder-below,
 use Rattle.intake.proofs.ask_here.Statement.{statement}
 use Rattle.intake.proofs.ask_here.Tie as tie
 
+-- places, named by what has been done there
+abbrev start : tie.After-find-channel → tie.Start
+start c = c .before .before .before .before .before .before
+
 abbrev held : tie.Start → Tables
 held s = tables (s .args .sounders .now) (s .args .channels .now)
 
@@ -19,28 +23,35 @@ tested : (c : tie.After-is-ping) → let a = c .before .before .before .args in 
 tested c = c .is-ping .ensures ∙ ap (λ (k : ℕ). eqb k 10000 || eqb k 10010) (c .before .kind-at .ensures)
 
 returns : tie.Need-returns
-returns c = let s = c .before .before .before .before in ask-other _ _ (s .args .w) _ (held s) (sym (tested (c .before)) ∙ not-true _ (c .if1 .taken))
+returns c = let s = c .before .before .before .before in
+    ask-other _ _ (s .args .w) _ (held s) (sym (tested (c .before)) ∙ not-true _ (c .if1 .taken))
 
 pings : (c : tie.Else1) → let a = c .before .before .before .before .args in pingAt (a .msb) (a .file .now) (a .w .at) ≡ true
 pings c = sym (tested (c .before)) ∙ not-false _ (c .if1 .left)
 
 -- the lookups' rows are declared
-below-channel : (c : tie.After-find-channel) → c .find-channel .result < length (c .before .before .before .before .before .before .args .channels .now)
-below-channel c = let s = c .before .before .before .before .before .before in channel-below _ _ _ (s .args .counts) (held s) (s .pre) (pings (c .before .before)) _ _ (c .before .named-at .ensures) (c .find-channel .ensures)
+below-channel : (c : tie.After-find-channel)
+    → c .find-channel .result < length (start c .args .channels .now)
+below-channel c = let s = start c in
+    channel-below _ _ _ (s .args .counts) (held s) (s .pre) (pings (c .before .before)) _ _ (c .before .named-at .ensures)
+    (c .find-channel .ensures)
 
-below-sounder : (c : tie.After-find-sounder) → c .find-sounder .result < length (c .before .before .before .before .before .before .before .before .args .sounders .now)
+below-sounder : (c : tie.After-find-sounder)
+    → c .find-sounder .result < length (start (c .before .before) .args .sounders .now)
 below-sounder c =
     let f = c .before .before in
-    let s = f .before .before .before .before .before .before in
-    sounder-below _ _ _ (s .args .counts) (held s) (s .pre) (pings (f .before .before)) _ _ (f .before .named-at .ensures) (f .find-channel .ensures) _ (c .find-sounder .ensures)
+    let s = start f in
+    sounder-below _ _ _ (s .args .counts) (held s) (s .pre) (pings (f .before .before)) _ _ (f .before .named-at .ensures)
+    (f .find-channel .ensures) _ (c .find-sounder .ensures)
 
 returns-2 : tie.Need-returns-2
 returns-2 c =
     let k = c .before .before in
     let g = k .before .before in
     let f = g .before .before in
-    let s = f .before .before .before .before .before .before in
-    ask-ping _ _ (s .args .w) _ (held s) (s .pre) (pings (f .before .before)) _ _ (f .before .named-at .ensures) (f .find-channel .ensures) _ (g .find-sounder .ensures) _ _ _ (k .before .wide .ensures) (k .narrow .ensures) (c .wide2 .ensures)
+    let s = start f in
+    ask-ping _ _ (s .args .w) _ (held s) (s .pre) (pings (f .before .before)) _ _ (f .before .named-at .ensures) (f .find-channel .ensures)
+    _ (g .find-sounder .ensures) _ _ _ (k .before .wide .ensures) (k .narrow .ensures) (c .wide2 .ensures)
 
 pub ask-here-spec : {M : Type 1} → statement M
 ask-here-spec =

@@ -21,7 +21,9 @@ returns : tie.Need-returns
 returns c = tells (c .refuse .ensures ∙ over-limit _ (c .before .if1 .taken))
 
 returns-2 : tie.Need-returns-2
-returns-2 c = tells (c .refuse2 .ensures ∙ no-mark _ (c .before .before .before .if1 .left) (sym (c .before .before .is-marked .ensures) ∙ not-true _ (c .before .if2 .taken)))
+returns-2 c =
+    tells (c .refuse2 .ensures
+    ∙ no-mark _ (c .before .before .before .if1 .left) (sym (c .before .before .is-marked .ensures) ∙ not-true _ (c .before .if2 .taken)))
 
 is-msb-requires : tie.Need-is-msb-requires
 is-msb-requires c κs = marked-4 (c .before .before .before .before .args .file .now) (marks c)
@@ -34,13 +36,16 @@ run-requires : tie.Need-run-requires
 run-requires c κs = let e = ordered c .before in (marked-4 _ (marks e), (e .before .before .if1 .left, sized-zeros))
 
 -- tuple by tuple, it is the whole check
-whole : (c : tie.After-is-msb) → let f = c .before .before .before .before .before .args .file .now in checkFrom (length f) (c .is-msb .result) f begin ≡ checkFile f
+whole : (c : tie.After-is-msb) → let f = c .before .before .before .before .before .args .file .now in
+    checkFrom (length f) (c .is-msb .result) f begin ≡ checkFile f
 whole c = whole-check _ _ (c .before .before .before .if1 .left) (marks (c .before)) (c .is-msb .ensures)
 
 returns-3 : tie.Need-returns-3
 returns-3 c =
     let r = c .before .before .before in
-    tells (c .refuse3 .ensures ∙ no-end _ _ _ _ (ran-to _ _ _ _ _ _ (r .run .ensures) (c .before .enum-told .given .1)) ∙ whole (ordered (r .before)))
+    tells (c .refuse3 .ensures
+    ∙ no-end _ _ _ _ (ran-to _ _ _ _ _ _ (r .run .ensures) (c .before .enum-told .given .1))
+    ∙ whole (ordered (r .before)))
 
 returns-4 : tie.Need-returns-4
 returns-4 c =

@@ -41,7 +41,8 @@ past2 : (c : tie.Else2) → Past 2 (c .before .before .before .before)
 past2 c x p = past1 (c .before .before) _ (pass (ap not (sym (c .before .complete .ensures)) ∙ c .if2 .left) p)
 
 -- the test of the counts, as the code made it
-tested : (c : tie.After-first-wrong) → let s = c .before .before .before .before .before in counted (course s .links) ≡ leb (s .args .w .sounders) (c .first-wrong .result)
+tested : (c : tie.After-first-wrong) → let s = c .before .before .before .before .before in
+    counted (course s .links) ≡ leb (s .args .w .sounders) (c .first-wrong .result)
 tested c =
     let s = c .before .before .before .before .before in
     rw (c .first-wrong .ensures, rows-length sounderOf (s .args .sounders .now) (s .args .w .sounders) (s .pre .0))
@@ -51,7 +52,9 @@ returns-3 c =
     let t = c .before .before .before in
     let f = t .before .before in
     let s = f .before .before .before .before .before in
-    let p = c .before .wide .ensures ∙ sym (rows-at tupleOf (s .args .sounders .now) (s .args .w .sounders) _ [] (t .if3 .taken)) ∙ ap (λ (y : ℕ). getD (course s .sounders) y 0) (f .first-wrong .ensures) in
+    let p = c .before .wide .ensures
+    ∙ sym (rows-at tupleOf (s .args .sounders .now) (s .args .w .sounders) _ [] (t .if3 .taken))
+    ∙ ap (λ (y : ℕ). getD (course s .sounders) y 0) (f .first-wrong .ensures) in
     c .refuse3 .ensures ∙ ap (Refused 17) p ∙ ends _ _ (past2 (f .before) _ (here (ap not (tested f ∙ lt-leb _ _ (t .if3 .taken)))))
 
 returns-4 : tie.Need-returns-4

@@ -14,9 +14,14 @@ use Rattle.frame.specs.Frames.{lenAt, kindAt}
 use Rattle.links.specs.declared.Sounder.{Sounder}
 use Rattle.links.specs.declared.Channel.{Channel}
 use Rattle.intake.specs.inner.Tallies.{Tables, tables, soundersBy, channelsBy, Here, Fits, turnVerdict}
-use Rattle.intake.proofs.Judges.{room, head-fits, no-inner, fromLinks, fromHead, fromFrame, none-left, some-left, told-stop, told-unlinked, told-linked, told-alone}
+use Rattle.intake.proofs.Judges.{room, head-fits, no-inner, fromLinks, fromHead, fromFrame, none-left, some-left, told-stop}
+use Rattle.intake.proofs.Judges.{told-unlinked, told-linked, told-alone}
 use Rattle.intake.proofs.judge.Statement.{statement}
 use Rattle.intake.proofs.judge.Tie as tie
+
+-- places, named by what has been done there
+abbrev begun : tie.After-enum-told → tie.Start
+begun c = c .before .before .before .before .before .before
 
 abbrev held : tie.Start → Tables
 held s = tables (s .args .sounders .now) (s .args .channels .now)
@@ -31,7 +36,9 @@ returns : tie.Need-returns
 returns c =
     let t = c .before .before in
     let s = t .before .before .before in
-    c .comparing .ensures ∙ told-stop _ _ _ (held s) _ (said s fromFrame) (c .before .fault .ensures) (ap (λ (v : Verdict). both v (said s fromFrame)) (c .before .fault .ensures) ∙ none-left _ _ _ _ _ _ (t .if1 .taken))
+    c .comparing .ensures
+    ∙ told-stop _ _ _ (held s) _ (said s fromFrame) (c .before .fault .ensures)
+    (ap (λ (v : Verdict). both v (said s fromFrame)) (c .before .fault .ensures) ∙ none-left _ _ _ _ _ _ (t .if1 .taken))
 
 -- bytes are left: the frame decides first
 past-end : (c : tie.Else1) → let s = c .before .before .before in said s fromFrame ≡ said s turnVerdict
@@ -41,18 +48,23 @@ returns-2 : tie.Need-returns-2
 returns-2 c =
     let j = c .before .before .before in
     let s = j .before .before .before .before in
-    c .comparing2 .ensures ∙ told-stop _ _ _ (held s) _ (said s fromHead) (c .before .enum-told2 .given .1) (ap (λ (v : Verdict). both v (said s fromHead)) (j .judge-frame .ensures) ∙ past-end (j .before))
+    c .comparing2 .ensures
+    ∙ told-stop _ _ _ (held s) _ (said s fromHead) (c .before .enum-told2 .given .1)
+    (ap (λ (v : Verdict). both v (said s fromHead)) (j .judge-frame .ensures) ∙ past-end (j .before))
 
 -- a tuple is found, and what is said from its head on is said of all
-found : (c : tie.After-enum-told) → let a = c .before .before .before .before .before .before .args in
+found : (c : tie.After-enum-told) → let a = begun c .args in
     let r = drop (a .w .at) (a .file .now) in Here (a .msb) (a .file .now) (a .w .at) (lenAt (a .msb) r) (kindAt (a .msb) r)
 found c = record { framed = sym (c .before .before .judge-frame .ensures) ∙ c .enum-told .given .1; size = refl; kind = refl }
 
-past-frame : (c : tie.After-enum-told) → let s = c .before .before .before .before .before .before in said s fromHead ≡ said s turnVerdict
+past-frame : (c : tie.After-enum-told) →
+    let j = c .before .before in
+    let s = j .before .before .before .before in
+    said s fromHead ≡ said s turnVerdict
 past-frame c = let j = c .before .before in rw (← past-end (j .before), ← j .judge-frame .ensures, c .enum-told .given .1)
 
 -- its length and its type code are read
-here : (c : tie.After-kind-at) → let a = c .before .before .before .before .before .before .before .before .args in
+here : (c : tie.After-kind-at) → let a = begun (c .before .before) .args in
     Here (a .msb) (a .file .now) (a .w .at) (c .before .length-at .result) (c .kind-at .result)
 here c = record { framed = found (c .before .before) .framed; size = sym (c .before .length-at .ensures); kind = sym (c .kind-at .ensures) }
 
@@ -63,7 +75,9 @@ returns-3 : tie.Need-returns-3
 returns-3 c =
     let d = c .before .before .before in
     let s = start d in
-    c .comparing3 .ensures ∙ told-stop _ _ _ (held s) _ (said s fromLinks) (c .before .enum-told4 .given .1) (ap (λ (v : Verdict). both v (said s fromLinks)) (d .judge-head .ensures) ∙ past-frame (d .before .before .before .before))
+    c .comparing3 .ensures
+    ∙ told-stop _ _ _ (held s) _ (said s fromLinks) (c .before .enum-told4 .given .1)
+    (ap (λ (v : Verdict). both v (said s fromLinks)) (d .judge-head .ensures) ∙ past-frame (d .before .before .before .before))
 
 -- its length fits, and what is said from its links on is said of all
 fits : (c : tie.After-enum-told3) → let k = c .before .before .before .before in Fits (k .before .length-at .result) (k .kind-at .result)
@@ -72,7 +86,8 @@ fits c = let d = c .before .before in head-fits (here (d .before .before)) _ (d 
 past-head : (c : tie.After-enum-told3) → let s = start (c .before .before) in said s fromLinks ≡ said s turnVerdict
 past-head c =
     let d = c .before .before in
-    ap (λ (v : Verdict). both v (said (start d) fromLinks)) (sym (sym (d .judge-head .ensures) ∙ c .enum-told3 .given .1)) ∙ past-frame (d .before .before .before .before)
+    ap (λ (v : Verdict). both v (said (start d) fromLinks)) (sym (sym (d .judge-head .ensures) ∙ c .enum-told3 .given .1))
+    ∙ past-frame (d .before .before .before .before)
 
 judge-links-requires : tie.Need-judge-links-requires
 judge-links-requires c κs = let d = c .before .before in (here (d .before .before), (fits c, start d .pre .1))
@@ -80,7 +95,8 @@ judge-links-requires c κs = let d = c .before .before in (here (d .before .befo
 returns-4 : tie.Need-returns-4
 returns-4 c =
     let l = c .before .before in
-    told-unlinked _ _ _ (held (start (l .before .before .before))) (l .judge-links .ensures) (past-head (l .before)) (c .enum-told5 .given .1)
+    told-unlinked _ _ _ (held (start (l .before .before .before))) (l .judge-links .ensures) (past-head (l .before))
+    (c .enum-told5 .given .1)
 
 -- the tuple, once it is linked
 judge-inner-requires : tie.Need-judge-inner-requires
@@ -90,14 +106,17 @@ returns-5 : tie.Need-returns-5
 returns-5 c =
     let m = c .before .before .before .before in
     let l = m .before .before in
-    rw (c .comparing4 .ensures, c .before .judge-inner .ensures) (told-linked _ _ _ (held (start (l .before .before .before))) (l .judge-links .ensures) (past-head (l .before)) (m .linked .given .1))
+    rw (c .comparing4 .ensures, c .before .judge-inner .ensures)
+    (told-linked _ _ _ (held (start (l .before .before .before))) (l .judge-links .ensures) (past-head (l .before))
+    (m .linked .given .1))
 
 -- no ping: nothing is said of its samples
 returns-6 : tie.Need-returns-6
 returns-6 c =
     let m = c .before .before in
     let l = m .before .before in
-    let none = no-inner (here (l .before .before .before .before .before)) (λ e. c .match4 .rest .1 (inl e)) (λ e. c .match4 .rest .1 (inr e)) in
+    let none =
+    no-inner (here (l .before .before .before .before .before)) (λ e. c .match4 .rest .1 (inl e)) (λ e. c .match4 .rest .1 (inr e)) in
     told-alone _ _ _ (held (start (l .before .before .before))) (l .judge-links .ensures) (past-head (l .before)) (m .linked .given .1) none
 
 pub judge-spec : {M : Type 1} → statement M

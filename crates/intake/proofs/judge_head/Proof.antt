@@ -16,6 +16,10 @@ use Rattle.intake.proofs.Judges.{tupIn, identifiedIn, room, head-place,
 use Rattle.intake.proofs.judge_head.Statement.{statement}
 use Rattle.intake.proofs.judge_head.Tie as tie
 
+-- places, named by what has been done there
+abbrev start : tie.Else2 → tie.Start
+start c = c .before .before .before .before .before
+
 returns : tie.Need-returns
 returns c =
     let s = c .before .before .before in
@@ -26,8 +30,11 @@ placed : (c : tie.Else1) → let a = c .before .before .args in not (Bool·beq (
 placed c = c .if1 .left
 
 -- the test of the length, as the code made it
-tested : (c : tie.After-fits2) → let a = c .before .before .before .before .args in fitting (listingOf (kindOf (a .code)) .length) (a .whole) ≡ c .fits2 .result
-tested c = sym (c .fits2 .ensures ∙ ap (λ (q : Kind). fitting (listingOf q .length) (c .before .before .before .before .args .whole)) (c .before .kind-of .ensures))
+tested : (c : tie.After-fits2) → let a = c .before .before .before .before .args in
+    fitting (listingOf (kindOf (a .code)) .length) (a .whole) ≡ c .fits2 .result
+tested c =
+    sym (c .fits2 .ensures
+    ∙ ap (λ (q : Kind). fitting (listingOf q .length) (c .before .before .before .before .args .whole)) (c .before .kind-of .ensures))
 
 returns-2 : tie.Need-returns-2
 returns-2 c =
@@ -40,16 +47,18 @@ fits : (c : tie.Else2) → let a = c .before .before .before .before .before .ar
 fits c = tested (c .before) ∙ not-false _ (c .if2 .left)
 
 past2 : (c : tie.Else2) → let a = c .before .before .before .before .before .args in
-    headVerdict (a .msb) (a .first) (tupIn (a .msb) (a .file .now) (a .at)) ≡ judged ((not (identifiedIn (a .msb) (a .file .now) (a .at)) ⇒ 8 byte 0) ∷ [])
+    headVerdict (a .msb) (a .first) (tupIn (a .msb) (a .file .now) (a .at))
+    ≡ judged ((not (identifiedIn (a .msb) (a .file .now) (a .at)) ⇒ 8 byte 0) ∷ [])
 past2 c =
     let s = c .before .before .before .before .before in
     rw (head-place (s .pre) (s .args .first), placed (c .before .before .before), fits c)
 
 returns-3 : tie.Need-returns-3
-returns-3 c = rw (past2 (c .before), no-identifier (c .before .before .before .before .before .before .pre) (c .if3 .taken))
+returns-3 c = rw (past2 (c .before), no-identifier (start (c .before) .pre) (c .if3 .taken))
 
 -- the identifier that was read
-read : (c : tie.After-read2) → let a = c .before .before .before .before .before .before .before .args in identifiedIn (a .msb) (a .file .now) (a .at) ≡ known (c .read2 .result)
+read : (c : tie.After-read2) → let a = start (c .before .before) .args in
+    identifiedIn (a .msb) (a .file .now) (a .at) ≡ known (c .read2 .result)
 read c =
     let d = c .before .before in
     identifier-read (d .before .before .before .before .before .pre) (fits d) (c .before .if3 .left) ∙ ap known (sym (c .read2 .ensures))
@@ -77,8 +86,8 @@ judge-head-spec =
     (λ c κs. search needs)
     returns-2
     returns-3
-    (λ c. omega (arith, room (c .before .before .before .before .before .before .pre)))
-    (λ c κs. omega (arith, room (c .before .before .before .before .before .before .pre)))
+    (λ c. omega (arith, room (start (c .before) .pre)))
+    (λ c κs. omega (arith, room (start (c .before) .pre)))
     (λ c κs. search needs)
     (λ c κs. search needs)
     returns-4

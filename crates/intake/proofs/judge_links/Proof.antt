@@ -9,7 +9,8 @@ use Rattle.intake.proofs.judge_links.Statement.{statement}
 use Rattle.intake.proofs.judge_links.Tie as tie
 
 -- the channel that an attitude names
-named : (c : tie.After-named-at) → let a = c .before .before .before .before .args in c .named-at .result .0 ≡ namedAt (a .msb) (a .file .now) (a .w .at) .0
+named : (c : tie.After-named-at) → let a = c .before .before .before .before .args in
+    c .named-at .result .0 ≡ namedAt (a .msb) (a .file .now) (a .w .at) .0
 named c = ap (λ (x : SoftwareChannel). x .0) (c .named-at .ensures)
 
 returns : tie.Need-returns
@@ -35,7 +36,8 @@ returns-4 c =
     let r = c .before .before .before in
     let m = r .before in
     let s = m .before .before .before in
-    rw (c .judge-name .ensures, r .named-at .ensures) (attitude-one _ _ (s .pre .0) (s .pre .1 .0) (m .match .keys3) (λ e. c .before .if1 .left (named r ∙ e)))
+    rw (c .judge-name .ensures, r .named-at .ensures)
+    (attitude-one _ _ (s .pre .0) (s .pre .1 .0) (m .match .keys3) (λ e. c .before .if1 .left (named r ∙ e)))
 
 returns-5 : tie.Need-returns-5
 returns-5 c =

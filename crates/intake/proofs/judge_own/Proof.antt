@@ -5,13 +5,16 @@ use Rattle.intake.proofs.judge_own.Statement.{statement}
 use Rattle.intake.proofs.judge_own.Tie as tie
 
 judge-inner-requires : tie.Need-judge-inner-requires
-judge-inner-requires c κs = let d = c .before .before in (d .before .before .pre, head-fits (d .before .before .pre) _ (d .judge-head .ensures) (c .enum-told .given .1))
+judge-inner-requires c κs = let d = c .before .before in
+    (d .before .before .pre, head-fits (d .before .before .pre) _ (d .judge-head .ensures) (c .enum-told .given .1))
 
 returns : tie.Need-returns
-returns c = let d = c .before .before .before in rw (← own-parts (d .before .before .pre), ← d .judge-head .ensures, c .before .code .given .1)
+returns c = let d = c .before .before .before in
+    rw (← own-parts (d .before .before .pre), ← d .judge-head .ensures, c .before .code .given .1)
 
 returns-2 : tie.Need-returns-2
-returns-2 c = let d = c .before .before .before in rw (← own-parts (d .before .before .pre), ← d .judge-head .ensures, c .before .enum-told .given .1) (c .judge-inner .ensures)
+returns-2 c = let d = c .before .before .before in
+    rw (← own-parts (d .before .before .pre), ← d .judge-head .ensures, c .before .enum-told .given .1) (c .judge-inner .ensures)
 
 pub judge-own-spec : {M : Type 1} → statement M
 judge-own-spec =

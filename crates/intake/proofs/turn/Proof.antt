@@ -13,9 +13,20 @@ use Rattle.links.specs.inner.Tables.{channelOf, channelRow}
 use Rattle.intake.specs.inner.Tallies.{Tables, tables, Here, said, comparesAt}
 use Rattle.intake.proofs.Said.{fault-near, fine-parts}
 use Rattle.intake.proofs.Judges.{room, whole, channel-whole, turn-fine, turn-fault}
-use Rattle.intake.proofs.Tallies.{compares-few, fine-fits, holds, room-sounder, room-channel, turns-fault, turns-sounder, turns-channel, turns-end, turns-other}
+use Rattle.intake.proofs.Tallies.{compares-few, fine-fits, holds, room-sounder, room-channel, turns-fault, turns-sounder}
+use Rattle.intake.proofs.Tallies.{turns-channel, turns-end, turns-other}
 use Rattle.intake.proofs.turn.Statement.{statement}
 use Rattle.intake.proofs.turn.Tie as tie
+
+-- places, named by what has been done there
+abbrev asked : tie.After-judge-arg6 → tie.Start
+asked c = c .before .before .before .before .before .before .before
+
+abbrev typed-sounder : tie.After-struct-known → tie.After-kind-at
+typed-sounder c = c .before .before .before .before .before .before
+
+abbrev typed-channel : tie.After-struct-known2 → tie.After-kind-at
+typed-channel c = c .before .before .before .before .before .before .before .before .before
 
 abbrev held : tie.Start → Tables
 held s = tables (s .args .sounders .now) (s .args .channels .now)
@@ -25,7 +36,7 @@ start c = c .before .before .before .before .before .before .before .before
 
 judge-requires : tie.Need-judge-requires
 judge-requires c κs =
-    let s = c .before .before .before .before .before .before .before in
+    let s = asked c in
     (s .pre .0 .within, (holds (s .pre .1 .1 .1) (s .pre .0) (s .pre .1 .0), search needs))
 
 -- no fault is found
@@ -33,10 +44,12 @@ fine : (c : tie.After-compared) → let s = start (c .before .before) in said (s
 fine c = turn-fine _ _ _ _ (c .before .before .judge .ensures) (c .compared .given .1) .0
 
 -- and so many identifiers are compared
-cost : (c : tie.After-compared) → let s = start (c .before .before) in comparesAt (s .args .msb) (s .args .file .now) (s .args .w) (held s) ≡ c .compared .given .0 .0
+cost : (c : tie.After-compared) → let s = start (c .before .before) in
+    comparesAt (s .args .msb) (s .args .file .now) (s .args .w) (held s) ≡ c .compared .given .0 .0
 cost c = turn-fine _ _ _ _ (c .before .before .judge .ensures) (c .compared .given .1) .1
 
-faulty : (c : tie.After-code) → let s = start (c .before .before) in said (s .args .msb) (s .args .file .now) (s .args .w) (held s) ≡ Fault (c .code .given .0 .0) (c .code .given .0 .1 .0)
+faulty : (c : tie.After-code) → let s = start (c .before .before) in
+    said (s .args .msb) (s .args .file .now) (s .args .w) (held s) ≡ Fault (c .code .given .0 .0) (c .code .given .0 .1 .0)
 faulty c = turn-fault _ _ _ _ (c .before .before .judge .ensures) (c .code .given .1)
 
 add-refuse : tie.Need-add-refuse
@@ -45,7 +58,8 @@ add-refuse c =
     let s = start (c .before .before .before) in
     omega (arith, s .pre .0 .within, s .pre .1 .1 .0)
 
-there : (c : tie.After-compared) → let s = start (c .before .before) in Whole (s .args .msb) (s .args .file .now) (s .args .w .at) (lenAt (s .args .msb) (drop (s .args .w .at) (s .args .file .now)))
+there : (c : tie.After-compared) → let s = start (c .before .before) in
+    Whole (s .args .msb) (s .args .file .now) (s .args .w .at) (lenAt (s .args .msb) (drop (s .args .w .at) (s .args .file .now)))
 there c = framing-whole _ _ _ (fine-parts _ _ _ _ _ (fine c) .framed)
 
 length-at-requires : tie.Need-length-at-requires
@@ -58,8 +72,14 @@ kind-at-requires c κs = let h = there (c .before .before) in omega arith
 abbrev from : tie.After-kind-at → tie.Start
 from c = start (c .before .before .before .before .before)
 
-here : (c : tie.After-kind-at) → let s = from c in Here (s .args .msb) (s .args .file .now) (s .args .w .at) (c .before .length-at .result) (c .kind-at .result)
-here c = record { framed = fine-parts _ _ _ _ _ (fine (c .before .before .before)) .framed; size = sym (c .before .length-at .ensures); kind = sym (c .kind-at .ensures) }
+here : (c : tie.After-kind-at) → let s = from c in
+    Here (s .args .msb) (s .args .file .now) (s .args .w .at) (c .before .length-at .result) (c .kind-at .result)
+here c =
+    record {
+      framed = fine-parts _ _ _ _ _ (fine (c .before .before .before)) .framed;
+      size = sym (c .before .length-at .ensures);
+      kind = sym (c .kind-at .ensures);
+    }
 
 past-requires : tie.Need-past-requires
 past-requires c κs =
@@ -67,19 +87,24 @@ past-requires c κs =
     let h = whole (here c) in
     let p = s .pre .0 in
     let l = s .pre .1 .1 .0 in
-    let d = c .before .before .before in
-    (omega (arith, h .fits, l), omega (arith, p .few, p .within, l), omega (arith, p .spent, p .few, p .within, l, cost d, compares-few (s .args .msb) (s .pre .1 .1 .1) p))
+    let d = c .before .before .before in (
+      omega (arith, h .fits, l),
+      omega (arith, p .few, p .within, l),
+      omega (arith, p .spent, p .few, p .within, l, cost d, compares-few (s .args .msb) (s .pre .1 .1 .1) p),
+    )
 
 -- ---- a sounder
 put-sounder-requires : tie.Need-put-sounder-requires
 put-sounder-requires c κs =
     let t = c .before .before in
     let k = t .before .before in
-    let s = from k in
-    (room-sounder _ (s .pre .1 .1 .1) (s .pre .0) (here k) (fine (k .before .before .before)) (t .if1 .taken), omega (arith, s .pre .0 .within, s .pre .1 .1 .0))
+    let s = from k in (
+      room-sounder _ (s .pre .1 .1 .1) (s .pre .0) (here k) (fine (k .before .before .before)) (t .if1 .taken),
+      omega (arith, s .pre .0 .within, s .pre .1 .1 .0),
+    )
 
 add-next : tie.Need-add-next
-add-next c = let s = from (c .before .before .before .before .before .before) in omega (arith, s .pre .0 .sounders)
+add-next c = let s = from (typed-sounder c) in omega (arith, s .pre .0 .sounders)
 
 returns : tie.Need-returns
 returns c =
@@ -88,7 +113,9 @@ returns c =
     let p = t .before in
     let k = p .before in
     let s = from k in
-    rw (p .past .ensures, d .put-sounder .ensures, d .before .sounder-at .ensures) (turns-sounder _ (s .pre .1 .1 .1) (s .pre .0) (s .pre .1 .0) _ (here k) (fine (k .before .before .before)) (cost (k .before .before .before)) (t .if1 .taken))
+    rw (p .past .ensures, d .put-sounder .ensures, d .before .sounder-at .ensures)
+    (turns-sounder _ (s .pre .1 .1 .1) (s .pre .0) (s .pre .1 .0) _ (here k) (fine (k .before .before .before))
+    (cost (k .before .before .before)) (t .if1 .taken))
 
 -- ---- a channel
 channel-at-requires : tie.Need-channel-at-requires
@@ -111,7 +138,8 @@ put-channel-requires c κs =
     (room-for t, omega (arith, s .pre .0 .within, s .pre .1 .1 .0))
 
 add-next-2 : tie.Need-add-next-2
-add-next-2 c = let s = from (c .before .before .before .before .before .before .before .before .before) in omega (arith, s .pre .0 .channels)
+add-next-2 c = let s = from (typed-channel c) in
+    omega (arith, s .pre .0 .channels)
 
 returns-2 : tie.Need-returns-2
 returns-2 c =
@@ -121,7 +149,10 @@ returns-2 c =
     let p = t .before .before in
     let k = p .before in
     let s = from k in
-    rw (p .past .ensures, d .put-channel .ensures .0, n .channel-at .ensures) (turns-channel _ (s .pre .1 .1 .1) (s .pre .0) (s .pre .1 .0) _ (here k) (fine (k .before .before .before)) (cost (k .before .before .before)) (t .if2 .taken) (subst (λ (x : Channel). channelOf (channelRow x (s .args .w .at)) ≡ x) (n .channel-at .ensures) (d .put-channel .ensures .1)))
+    rw (p .past .ensures, d .put-channel .ensures .0, n .channel-at .ensures)
+    (turns-channel _ (s .pre .1 .1 .1) (s .pre .0) (s .pre .1 .0) _ (here k) (fine (k .before .before .before))
+    (cost (k .before .before .before)) (t .if2 .taken)
+    (subst (λ (x : Channel). channelOf (channelRow x (s .args .w .at)) ≡ x) (n .channel-at .ensures) (d .put-channel .ensures .1)))
 
 -- ---- the end of file
 abbrev ended : tie.After-end-arg4 → tie.Then3
@@ -131,7 +162,10 @@ end-requires : tie.Need-end-requires
 end-requires c κs =
     let p = ended c .before .before .before in
     let s = from (p .before) in
-    rw (p .past .ensures) (omega (arith, s .pre .1 .1 .1 .sounders, s .pre .0 .sounders), omega (arith, s .pre .1 .1 .1 .channels, s .pre .0 .channels))
+    rw (p .past .ensures) (
+      omega (arith, s .pre .1 .1 .1 .sounders, s .pre .0 .sounders),
+      omega (arith, s .pre .1 .1 .1 .channels, s .pre .0 .channels),
+    )
 
 returns-3 : tie.Need-returns-3
 returns-3 c =
@@ -139,7 +173,9 @@ returns-3 c =
     let p = t .before .before .before in
     let k = p .before in
     let s = from k in
-    rw (c .end .ensures, p .past .ensures) (turns-end _ (s .pre .1 .1 .1) (s .pre .0) (s .pre .1 .0) (p .past .result .near) (here k) (fine (k .before .before .before)) (cost (k .before .before .before)) (t .if3 .taken))
+    rw (c .end .ensures, p .past .ensures)
+    (turns-end _ (s .pre .1 .1 .1) (s .pre .0) (s .pre .1 .0) (p .past .result .near) (here k) (fine (k .before .before .before))
+    (cost (k .before .before .before)) (t .if3 .taken))
 
 -- ---- a fault, and any other tuple
 returns-4 : tie.Need-returns-4
@@ -152,7 +188,8 @@ returns-5 c =
     let p = c .before .before .before in
     let k = p .before in
     let s = from k in
-    rw (p .past .ensures) (turns-other _ (s .pre .1 .1 .1) (s .pre .0) (s .pre .1 .0) _ (here k) (fine (k .before .before .before)) (cost (k .before .before .before)) (c .before .before .if1 .left) (c .before .if2 .left) (c .if3 .left))
+    rw (p .past .ensures) (turns-other _ (s .pre .1 .1 .1) (s .pre .0) (s .pre .1 .0) _ (here k) (fine (k .before .before .before))
+    (cost (k .before .before .before)) (c .before .before .if1 .left) (c .before .if2 .left) (c .if3 .left))
 
 pub turn-spec : {M : Type 1} → statement M
 turn-spec =

@@ -164,7 +164,19 @@ turnTold o f w c = comparing (said o f w c) (comparesAt o f w c)
 -- ---- the tally behind the mark, and past a tuple of n bytes and of a type code that compares m identifiers, before what it declares;
 -- the next channel is looked for first on any row
 abbrev pub tallyBegin : Tally
-tallyBegin = record { at = 4; count = 0; compared = 0; sounders = 0; channels = 0; near = 0; position = false; sounder = false; channel = false; ping = false }
+tallyBegin =
+    record {
+      at = 4;
+      count = 0;
+      compared = 0;
+      sounders = 0;
+      channels = 0;
+      near = 0;
+      position = false;
+      sounder = false;
+      channel = false;
+      ping = false;
+    }
 
 abbrev pub tallyPast : Tally → ℕ → ℕ → ℕ → ℕ → Tally
 tallyPast w n k m near =
@@ -247,4 +259,6 @@ pub record AskIn (o : Bool) (f : List ℕ) (w : Tally) (c : Tables) : Type 0 whe
   pub left : w .at + 16 ≤ length f
   pub sounderRoom : w .sounders ≤ length (c .sounders)
   pub channelRoom : w .channels ≤ length (c .channels)
-  pub declared : pingAt o f (w .at) ≡ true → (channelNth (courseOf w c) (namedAt o f (w .at)) < w .channels) × (sounderNth (courseOf w c) (channelFor (courseOf w c) (namedAt o f (w .at)) .parent) < w .sounders)
+  pub declared : pingAt o f (w .at) ≡ true
+      → (channelNth (courseOf w c) (namedAt o f (w .at)) < w .channels)
+      × (sounderNth (courseOf w c) (channelFor (courseOf w c) (namedAt o f (w .at)) .parent) < w .sounders)

@@ -3,7 +3,7 @@ use mathlib.Core.Path.{_≡_, refl, sym, ap, _∙_}
 use Prim.Native.Nat.{ℕ}
 use borrow.Author.Needs.{needs}
 use borrow.Author.Tests.{ne-eqb}
-use Rattle.rules.proofs.Laws.{all-pass, first-eq}
+use Rattle.rules.proofs.Laws.{_and_, all-pass, first-eq}
 use Rattle.rules.specs.Rules.First.{here}
 use Rattle.layout.specs.declared.Kind.{Kind}
 use Rattle.layout.specs.declared.Kind.the-variants.{Unlisted}
@@ -19,15 +19,22 @@ arm e h = sym h ∙ sym (ap kindOf e)
 
 returns : tie.Need-returns
 unfolding kindOf
-returns c = first-eq {rs = kindRules (c .before .before .args .code)} {d = Unlisted} (here (sym (c .before .in-class .ensures) ∙ c .if1 .taken))
+returns c =
+    first-eq {rs = kindRules (c .before .before .args .code)} {d = Unlisted} (here (sym (c .before .in-class .ensures) ∙ c .if1 .taken))
 
 returns-15 : tie.Need-returns-15
 unfolding kindOf
 returns-15 c =
     let k = c .before .before .before .args .code in
+    let r = c .match .rest in
     sym
     (all-pass (kindRules k) Unlisted
-    (sym (c .before .before .in-class .ensures) ∙ c .before .if1 .left, (ne-eqb _ _ (c .match .rest .0 .0 .0 .0 .0 .0 .0 .0 .0 .0 .0 .0 .1), (ne-eqb _ _ (c .match .rest .0 .0 .0 .0 .0 .0 .0 .0 .0 .0 .0 .1), (ne-eqb _ _ (c .match .rest .0 .0 .0 .0 .0 .0 .0 .0 .0 .0 .1), (ne-eqb _ _ (c .match .rest .0 .0 .0 .0 .0 .0 .0 .0 .0 .1), (ne-eqb _ _ (c .match .rest .0 .0 .0 .0 .0 .0 .0 .0 .1), (ne-eqb _ _ (c .match .rest .0 .0 .0 .0 .0 .0 .0 .1), (ne-eqb _ _ (c .match .rest .0 .0 .0 .0 .0 .0 .1), (ne-eqb _ _ (c .match .rest .0 .0 .0 .0 .0 .1), (ne-eqb _ _ (c .match .rest .0 .0 .0 .0 .1), (ne-eqb _ _ (c .match .rest .0 .0 .0 .1), (ne-eqb _ _ (c .match .rest .0 .0 .1), (ne-eqb _ _ (c .match .rest .0 .1), (ne-eqb _ _ (c .match .rest .1), tt)))))))))))))))
+    ((sym (c .before .before .in-class .ensures) ∙ c .before .if1 .left)
+    and ne-eqb _ _ (r .0 .0 .0 .0 .0 .0 .0 .0 .0 .0 .0 .0 .1) and ne-eqb _ _ (r .0 .0 .0 .0 .0 .0 .0 .0 .0 .0 .0 .1)
+    and ne-eqb _ _ (r .0 .0 .0 .0 .0 .0 .0 .0 .0 .0 .1) and ne-eqb _ _ (r .0 .0 .0 .0 .0 .0 .0 .0 .0 .1)
+    and ne-eqb _ _ (r .0 .0 .0 .0 .0 .0 .0 .0 .1) and ne-eqb _ _ (r .0 .0 .0 .0 .0 .0 .0 .1)
+    and ne-eqb _ _ (r .0 .0 .0 .0 .0 .0 .1) and ne-eqb _ _ (r .0 .0 .0 .0 .0 .1) and ne-eqb _ _ (r .0 .0 .0 .0 .1)
+    and ne-eqb _ _ (r .0 .0 .0 .1) and ne-eqb _ _ (r .0 .0 .1) and ne-eqb _ _ (r .0 .1) and ne-eqb _ _ (r .1) and tt))
 
 pub kind-of-spec : {M : Type 1} → statement M
 unfolding kindOf inClass classes

@@ -13,5 +13,9 @@ found-first-spec =
     (tie.spec
     (λ c. let a = c .before .args in found-before _ _ (a .at) (isUnlisted (shapeOf (a .code))) (c .if1 .taken))
     (λ c κs. search needs)
-    (λ c. let a = c .before .before .before .args in found-here _ _ (a .at) (isUnlisted (shapeOf (a .code))) (c .before .before .if1 .left) (sym (c .before .is-unlisted .ensures) ∙ c .if2 .taken))
-    (λ c. let a = c .before .before .before .args in found-not _ _ (a .at) (isUnlisted (shapeOf (a .code))) (c .before .before .if1 .left) (sym (c .before .is-unlisted .ensures) ∙ c .if2 .left)))
+    (λ c. let a = c .before .before .before .args in
+    found-here _ _ (a .at) (isUnlisted (shapeOf (a .code))) (c .before .before .if1 .left)
+    (sym (c .before .is-unlisted .ensures) ∙ c .if2 .taken))
+    (λ c. let a = c .before .before .before .args in
+    found-not _ _ (a .at) (isUnlisted (shapeOf (a .code))) (c .before .before .if1 .left)
+    (sym (c .before .is-unlisted .ensures) ∙ c .if2 .left)))

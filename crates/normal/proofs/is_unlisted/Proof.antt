@@ -6,7 +6,7 @@ use borrow.Author.Needs.{needs}
 use lib.Dec.{eqb}
 use lib.ListN.{drop}
 use Rattle.rules.specs.Rules.{firstOf}
-use Rattle.rules.proofs.Laws.{by-rules}
+use Rattle.rules.proofs.Laws.{_⊳_, by-rules}
 use Rattle.layout.specs.declared.Kind.{Kind}
 use Rattle.layout.specs.declared.Kind.the-variants.{Index, Unlisted}
 use Rattle.layout.specs.Types.{inClass, index, kindRules, kindOf, listingOf, shapeOf, placeIn}
@@ -22,13 +22,17 @@ unlisted-by : (k : ℕ) → inClass index k ≡ false → eqb (placeIn (kindOf k
 unfolding kindOf listingOf
 unlisted-by k e =
     by-rules (λ (q : Kind). eqb (placeIn q) 13 ≡ isUnlisted (listingOf q .shape)) (kindRules k) Unlisted
-    (λ h. absurd (true≢false (sym h ∙ e)), λ _. (λ _. refl, λ _. (λ _. refl, λ _. (λ _. refl, λ _. (λ _. refl, λ _. (λ _. refl, λ _. (λ _. refl, λ _. (λ _. refl, λ _. (λ _. refl, λ _. (λ _. refl, λ _. (λ _. refl, λ _. (λ _. refl, λ _. (λ _. refl, λ _. (λ _. refl, λ _. refl))))))))))))))
+    ((λ h. absurd (true≢false (sym h ∙ e))) ⊳ (λ _. refl) ⊳ (λ _. refl) ⊳ (λ _. refl) ⊳ (λ _. refl) ⊳ (λ _. refl)
+    ⊳ (λ _. refl) ⊳ (λ _. refl) ⊳ (λ _. refl) ⊳ (λ _. refl) ⊳ (λ _. refl) ⊳ (λ _. refl) ⊳ (λ _. refl) ⊳ (λ _. refl)
+    ⊳ refl)
 
 returns : tie.Need-returns
 returns c = indexed _ (sym (c .before .in-class .ensures) ∙ c .if1 .taken)
 
 returns-2 : tie.Need-returns-2
-returns-2 c = let k = c .before .before in ap (λ (n : ℕ). eqb n 13) (c .listing .ensures ∙ ap placeIn (c .before .kind-of .ensures)) ∙ unlisted-by _ (sym (k .before .in-class .ensures) ∙ k .if1 .left)
+returns-2 c = let k = c .before .before in
+    ap (λ (n : ℕ). eqb n 13) (c .listing .ensures ∙ ap placeIn (c .before .kind-of .ensures))
+    ∙ unlisted-by _ (sym (k .before .in-class .ensures) ∙ k .if1 .left)
 
 pub is-unlisted-spec : {M : Type 1} → statement M
 is-unlisted-spec = tie.close (tie.spec (λ c κs. search needs) returns (λ c κs. search needs) (λ c κs. search needs) returns-2)

@@ -13,7 +13,8 @@ use Rattle.normal.proofs.judge_alone.Tie as tie
 fine : (c : tie.After-enum-told) → let a = c .before .before .before .before .args in framing (a .msb) (drop (a .at) (a .file .now)) ≡ Fine
 fine c = sym (c .before .before .judge-frame .ensures) ∙ c .enum-told .given .1
 
-there : (c : tie.After-enum-told) → let a = c .before .before .before .before .args in Whole (a .msb) (a .file .now) (a .at) (lenAt (a .msb) (drop (a .at) (a .file .now)))
+there : (c : tie.After-enum-told) → let a = c .before .before .before .before .args in
+    Whole (a .msb) (a .file .now) (a .at) (lenAt (a .msb) (drop (a .at) (a .file .now)))
 there c = framing-whole _ _ _ (fine c)
 
 returns : tie.Need-returns

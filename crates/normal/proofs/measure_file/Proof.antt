@@ -18,7 +18,10 @@ abbrev μ-loop : tie.MeasureT-loop
 μ-loop file msb m₀ place₀ m place = length file - place
 
 -- the tuple where the loop stands
-there : (c : tie.In-loop Inv-loop μ-loop) → let o = c .before .before .before .is-msb .result in let f = c .before .before .before .before .before .args .file .now in let at = c .before .loop .place in Whole o f at (lenAt o (drop at f))
+there : (c : tie.In-loop Inv-loop μ-loop) → let o = c .before .before .before .is-msb .result in
+    let f = c .before .before .before .before .before .args .file .now in
+    let at = c .before .loop .place in
+    Whole o f at (lenAt o (drop at f))
 there c = framing-whole _ _ _ (measuring-sound _ _ _ _ (c .before .loop .inv) (c .loop-test .taken) .here .framed)
 
 pub measure-file-spec : {M : Type 1} → statement M
@@ -34,5 +37,6 @@ measure-file-spec =
     (λ c κs. omega (arith, there (c .before) .long, there (c .before) .fits))
     (λ c. omega (arith, there (c .before .before) .fits, c .length-at .ensures))
     (λ c. measuring-less _ _ _ _ (c .before .before .before .loop .inv) (c .before .before .loop-test .taken) _ (c .length-at .ensures))
-    (λ c. measuring-past _ _ _ _ (c .before .before .before .loop .inv) (c .before .before .loop-test .taken) _ _ (c .length-at .ensures) (c .before .past .ensures .0) (c .before .past .ensures .1))
+    (λ c. measuring-past _ _ _ _ (c .before .before .before .loop .inv) (c .before .before .loop-test .taken) _ _ (c .length-at .ensures)
+    (c .before .past .ensures .0) (c .before .past .ensures .1))
     (λ c. measuring-done _ _ _ _ (c .before .loop .inv) (c .loop-test .left)))

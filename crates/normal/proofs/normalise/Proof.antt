@@ -12,12 +12,21 @@ use Rattle.normal.proofs.Answers.{FoundOf, refused-of, found-unturnable
 use Rattle.normal.proofs.normalise.Statement.{statement}
 use Rattle.normal.proofs.normalise.Tie as tie
 
+-- places, named by what has been done there
+abbrev start : tie.After-counts → tie.Start
+start c = c .before .before .before .before .before
+
+abbrev measured : tie.After-is-unturnable → tie.After-measure-file
+measured c = c .before .before .before
+
 -- the check accepts
-abbrev accepts : (c : tie.After-counts) → Accepts (c .before .before .before .before .before .args .file .now)
+abbrev accepts : (c : tie.After-counts) → Accepts (start c .args .file .now)
 accepts c = record { counts = _; answer = sym (c .before .before .check .ensures .is) ∙ c .counts .given .1 }
 
 -- what is measured
-found : (c : tie.After-measure-file) → FoundOf (c .before .before .before .before .before .before .before .args .file .now) (accepts (c .before .before) .counts) (c .measure-file .result .bytes) (c .measure-file .result .unlisted)
+found : (c : tie.After-measure-file)
+    → FoundOf (start (c .before .before) .args .file .now) (accepts (c .before .before) .counts)
+    (c .measure-file .result .bytes) (c .measure-file .result .unlisted)
 found c =
     let a = accepts (c .before .before) in
     record {
@@ -27,30 +36,57 @@ found c =
     }
 
 -- whether it can be turned
-turns : (c : tie.After-is-unturnable) → let f = c .before .before .before .before .before .before .before .before .before .before .args .file .now in
-    c .is-unturnable .result ≡ isMsb f && ltb (c .before .before .before .measure-file .result .unlisted) (length f)
+turns : (c : tie.After-is-unturnable)
+    → let f = start (measured c .before .before) .args .file .now in
+    c .is-unturnable .result ≡ isMsb f && ltb (measured c .measure-file .result .unlisted) (length f)
 turns c =
-    let f = c .before .before .before .before .before .before .before .before .before .before .args .file .now in
-    c .is-unturnable .ensures ∙ ap (λ (o : Bool). o && ltb (c .before .before .before .measure-file .result .unlisted) (length f)) (c .before .before .is-msb .ensures)
+    let f = start (measured c .before .before) .args .file .now in
+    c .is-unturnable .ensures
+    ∙ ap (λ (o : Bool). o && ltb (measured c .measure-file .result .unlisted) (length f))
+    (c .before .before .is-msb .ensures)
 
 returns : tie.Need-returns
-returns c = rw (c .refuse2 .ensures) (found-unturnable _ _ _ _ _ (found (c .before .before .before .before .before)) (sym (turns (c .before .before)) ∙ c .before .if1 .taken))
+returns c =
+    rw (c .refuse2 .ensures)
+    (found-unturnable _ _ _ _ _ (found (c .before .before .before .before .before))
+    (sym (turns (c .before .before)) ∙ c .before .if1 .taken))
 
 returns-2 : tie.Need-returns-2
-returns-2 c = rw (c .refuse3 .ensures) (found-over _ _ _ _ _ (found (c .before .before .before .before .before .before .before)) (sym (turns (c .before .before .before .before)) ∙ c .before .before .before .if1 .left) (c .before .if2 .taken))
+returns-2 c =
+    let turnable = c .before .before .before in
+    let u = turnable .before in
+    rw (c .refuse3 .ensures)
+    (found-over _ _ _ _ _ (found (measured u)) (sym (turns u) ∙ turnable .if1 .left) (c .before .if2 .taken))
 
 returns-3 : tie.Need-returns-3
-returns-3 c = rw (c .refuse4 .ensures) (found-no-room _ _ _ _ _ (found (c .before .before .before .before .before .before .before .before .before)) (sym (turns (c .before .before .before .before .before .before)) ∙ c .before .before .before .before .before .if1 .left) (c .before .before .before .if2 .left) (c .before .if3 .taken))
+returns-3 c =
+    let small = c .before .before .before in
+    let turnable = small .before .before in
+    let u = turnable .before in
+    rw (c .refuse4 .ensures)
+    (found-no-room _ _ _ _ _ (found (measured u)) (sym (turns u) ∙ turnable .if1 .left) (small .if2 .left) (c .before .if3 .taken))
 
 write-normal-requires : tie.Need-write-normal-requires
-write-normal-requires c κs = found-writable _ (c .before .before .before .before .before .before .before .before .before .before .before .before .before .before .before .before .args .out .now) _ _ _ (found (c .before .before .before .before .before .before .before .before .before)) (sym (turns (c .before .before .before .before .before .before)) ∙ c .before .before .before .before .before .if1 .left) (c .before .if3 .left)
+write-normal-requires c κs =
+    let turnable = c .before .before .before .before .before in
+    let u = turnable .before in
+    let s = start (measured u .before .before) in
+    found-writable _ (s .args .out .now) _ _ _ (found (measured u)) (sym (turns u) ∙ turnable .if1 .left) (c .before .if3 .left)
 
 returns-4 : tie.Need-returns-4
-returns-4 c = rw (c .refuse .ensures) (refused-of _ _ _ _ (sym (c .before .before .code .given .1) ∙ c .before .before .before .before .check .ensures .is))
+returns-4 c =
+    rw (c .refuse .ensures) (refused-of _ _ _ _
+    (sym (c .before .before .code .given .1) ∙ c .before .before .before .before .check .ensures .is))
 
 returns-5 : tie.Need-returns-5
 returns-5 c =
-    (found-written _ _ _ _ _ (found (c .before .before .before .before .before .before .before .before .before .before .before .before)) (sym (turns (c .before .before .before .before .before .before .before .before .before)) ∙ c .before .before .before .before .before .before .before .before .if1 .left) (c .before .before .before .before .before .before .if2 .left) (c .before .before .before .before .if3 .left) _ (c .before .before .write-normal .ensures))
+    let written = c .before .before in
+    let fits = written .before .before in
+    let small = fits .before .before in
+    let turnable = small .before .before in
+    let u = turnable .before in
+    found-written _ _ _ _ _ (found (measured u)) (sym (turns u) ∙ turnable .if1 .left) (small .if2 .left) (fits .if3 .left) _
+    (written .write-normal .ensures)
 
 pub normalise-spec : {M : Type 1} → statement M
 normalise-spec =

@@ -16,21 +16,29 @@ use Rattle.normal.proofs.Singles.{single-limit, single-mark, single-fau
 use Rattle.normal.proofs.normalise_tuple.Statement.{statement}
 use Rattle.normal.proofs.normalise_tuple.Tie as tie
 
-marks : (c : tie.Else2) → marked (c .before .before .before .before .before .args .file .now) ≡ true
+-- places, named by what has been done there
+abbrev start : tie.Else2 → tie.Start
+start c = c .before .before .before .before .before
+
+marks : (c : tie.Else2) → marked (start c .args .file .now) ≡ true
 marks c = sym (c .before .is-marked .ensures) ∙ not-false _ (c .if2 .left)
 
 -- what the rules say that it keeps alone
-alone : (c : tie.After-judge-alone) → let f = c .before .before .before .before .before .before .before .args .file .now in
+alone : (c : tie.After-judge-alone) → let f = start (c .before .before) .args .file .now in
     both (framing (isMsb f) (drop 4 f)) (ownVerdict (isMsb f) (tupAt (isMsb f) (drop 4 f))) ≡ c .judge-alone .result
 alone c =
-    let f = c .before .before .before .before .before .before .before .args .file .now in
-    sym (c .judge-alone .ensures ∙ ap (λ (o : Bool). both (framing o (drop 4 f)) (ownVerdict o (tupAt o (drop 4 f)))) (c .before .is-msb .ensures))
+    let f = start (c .before .before) .args .file .now in
+    sym (c .judge-alone .ensures
+    ∙ ap (λ (o : Bool). both (framing o (drop 4 f)) (ownVerdict o (tupAt o (drop 4 f)))) (c .before .is-msb .ensures))
 
 returns : tie.Need-returns
 returns c = rw (c .refuse .ensures) (single-limit _ _ (c .before .if1 .taken))
 
 returns-2 : tie.Need-returns-2
-returns-2 c = rw (c .refuse2 .ensures) (single-mark _ _ (c .before .before .before .if1 .left) (sym (c .before .before .is-marked .ensures) ∙ not-true _ (c .before .if2 .taken)))
+returns-2 c =
+    rw (c .refuse2 .ensures)
+    (single-mark _ _ (c .before .before .before .if1 .left)
+    (sym (c .before .before .is-marked .ensures) ∙ not-true _ (c .before .if2 .taken)))
 
 add-refuse : tie.Need-add-refuse
 add-refuse c =
@@ -41,7 +49,7 @@ add-refuse c =
 turn-tuple-requires : tie.Need-turn-tuple-requires
 turn-tuple-requires c κs =
     let j = c .before .before .before in
-    let f = j .before .before .before .before .before .before .before .args .file .now in
+    let f = start (j .before .before) .args .file .now in
     let fine = alone j ∙ c .before .enum-told .given .1 in
     let framed = both-left (framing (isMsb f) (drop 4 f)) (ownVerdict (isMsb f) (tupAt (isMsb f) (drop 4 f))) fine in
     let own = both-right (framing (isMsb f) (drop 4 f)) (ownVerdict (isMsb f) (tupAt (isMsb f) (drop 4 f))) fine in
@@ -50,12 +58,16 @@ turn-tuple-requires c κs =
 returns-3 : tie.Need-returns-3
 returns-3 c =
     let j = c .before .before .before .before in
-    rw (c .refuse3 .ensures) (single-fault _ _ (j .before .before .before .before .if1 .left) (marks (j .before .before)) _ _ (alone j ∙ c .before .before .code .given .1))
+    rw (c .refuse3 .ensures)
+    (single-fault _ _ (j .before .before .before .before .if1 .left) (marks (j .before .before)) _ _
+    (alone j ∙ c .before .before .code .given .1))
 
 returns-4 : tie.Need-returns-4
 returns-4 c =
-    let j = c .before .before .before .before .before .before in
-    single-fine _ _ (j .before .before .before .before .if1 .left) (marks (j .before .before)) (alone j ∙ c .before .before .before .before .enum-told .given .1) _ _ (c .before .before .turn-tuple .ensures)
+    let told = c .before .before .before .before in
+    let j = told .before .before in
+    single-fine _ _ (j .before .before .before .before .if1 .left) (marks (j .before .before))
+    (alone j ∙ told .enum-told .given .1) _ _ (c .before .before .turn-tuple .ensures)
 
 pub normalise-tuple-spec : {M : Type 1} → statement M
 normalise-tuple-spec =

@@ -19,44 +19,66 @@ there : (s : tie.Start) → let f = s .args .file .now in Whole (isMsb f) f 4 (l
 there s = framing-whole _ _ _ (s .pre .here .framed)
 
 -- its order, length and type code are read
-sound : (c : tie.After-kind-at) → SoundHere (c .before .before .is-msb .result) (c .before .before .before .before .before .args .file .now) 4 (c .before .length-at .result) (c .kind-at .result)
-sound c = rw (c .kind-at .ensures, c .before .length-at .ensures, c .before .before .is-msb .ensures) (c .before .before .before .before .before .pre)
+sound : (c : tie.After-kind-at)
+    → SoundHere (c .before .before .is-msb .result) (c .before .before .before .before .before .args .file .now) 4
+    (c .before .length-at .result) (c .kind-at .result)
+sound c =
+    rw (c .kind-at .ensures, c .before .length-at .ensures, c .before .before .is-msb .ensures)
+    (c .before .before .before .before .before .pre)
 
-turns : (c : tie.After-is-unturnable) → let k = c .before .before .before in c .is-unturnable .result ≡ k .before .before .is-msb .result && isUnlisted (shapeOf (k .kind-at .result))
-turns c = c .is-unturnable .ensures ∙ ap (λ (b : Bool). c .before .before .before .before .before .is-msb .result && b) (c .before .is-unlisted .ensures)
+turns : (c : tie.After-is-unturnable) → let k = c .before .before .before in
+    c .is-unturnable .result ≡ k .before .before .is-msb .result && isUnlisted (shapeOf (k .kind-at .result))
+turns c =
+    c .is-unturnable .ensures
+    ∙ ap (λ (b : Bool). c .before .before .before .before .before .is-msb .result && b) (c .before .is-unlisted .ensures)
 
 returns : tie.Need-returns
 returns c =
     let k = c .before .before in
-    rw (c .refuse .ensures) (single-behind _ _ _ _ _ (k .before .before .is-msb .ensures) (k .before .length-at .ensures) (k .kind-at .ensures) (c .before .if1 .taken))
+    rw (c .refuse .ensures) (single-behind _ _ _ _ _ (k .before .before .is-msb .ensures) (k .before .length-at .ensures)
+    (k .kind-at .ensures) (c .before .if1 .taken))
 
 returns-2 : tie.Need-returns-2
 returns-2 c =
     let u = c .before .before in
     let k = u .before .before .before in
     rw (c .refuse2 .ensures)
-    (single-unturnable _ _ _ _ _ (k .before .before .is-msb .ensures) (k .before .length-at .ensures) (k .kind-at .ensures) (u .before .before .if1 .left) (sym (turns u) ∙ c .before .if2 .taken))
+    (single-unturnable _ _ _ _ _ (k .before .before .is-msb .ensures) (k .before .length-at .ensures) (k .kind-at .ensures)
+    (u .before .before .if1 .left) (sym (turns u) ∙ c .before .if2 .taken))
 
 returns-3 : tie.Need-returns-3
 returns-3 c =
     let u = c .before .before .before .before in
     let k = u .before .before .before in
     rw (c .refuse3 .ensures)
-    (single-no-room _ _ _ _ _ (k .before .before .is-msb .ensures) (k .before .length-at .ensures) (k .kind-at .ensures) (u .before .before .if1 .left) (sym (turns u) ∙ c .before .before .before .if2 .left) _
+    (single-no-room _ _ _ _ _ (k .before .before .is-msb .ensures) (k .before .length-at .ensures) (k .kind-at .ensures)
+    (u .before .before .if1 .left) (sym (turns u) ∙ c .before .before .before .if2 .left) _
     (c .before .before .form-length .ensures .0) (c .before .if3 .taken))
 
 write-form-requires : tie.Need-write-form-requires
-write-form-requires c κs = (sound (c .before .before .before .before .before .before .before .before .before .before .before), omega (arith, c .before .before .before .before .before .before .form-length .ensures .0, c .before .before .before .before .before .if3 .left, c .before .before .before .store4 .kept .0))
+write-form-requires c κs =
+    let stored = c .before .before .before in
+    let fits = stored .before .before in
+    let measured = fits .before in
+    let u = measured .before .before in (
+      sound (u .before .before .before),
+      omega (arith, measured .form-length .ensures .0, fits .if3 .left, stored .store4 .kept .0),
+    )
 
 returns-4 : tie.Need-returns-4
 unfolding mark
 returns-4 c =
-    let d = c .before in
-    let u = d .before .before .before .before .before .before .before .before .before .before .before in
+    let written = c .before .before .before in
+    let stored = written .before .before .before .before in
+    let fits = stored .before .before in
+    let measured = fits .before in
+    let u = measured .before .before in
     let k = u .before .before .before in
+    let start = k .before .before .before .before .before in
     rw (c .accept .ensures)
-    (single-written _ (d .before .before .before .before .before .before .before .before .before .before .before .before .before .before .before .before .before .before .before .args .out .now) _ _ _ (k .before .before .is-msb .ensures) (k .before .length-at .ensures) (k .kind-at .ensures) (u .before .before .if1 .left) (sym (turns u) ∙ d .before .before .before .before .before .before .before .before .before .before .if2 .left) _
-    (d .before .before .before .before .before .before .before .before .before .form-length .ensures .0) (d .before .before .before .before .before .before .before .before .if3 .left) _ _ (d .before .before .before .before .before .before .store4 .ensures) (d .before .before .write-form .ensures .1))
+    (single-written _ (start .args .out .now) _ _ _ (k .before .before .is-msb .ensures) (k .before .length-at .ensures)
+    (k .kind-at .ensures) (u .before .before .if1 .left) (sym (turns u) ∙ measured .before .if2 .left) _
+    (measured .form-length .ensures .0) (fits .if3 .left) _ _ (stored .store4 .ensures) (written .write-form .ensures .1))
 
 pub turn-tuple-spec : {M : Type 1} → statement M
 turn-tuple-spec =

@@ -20,7 +20,8 @@ returns-2 c =
     rw (c .refuse2 .ensures) (short-values _ (a .numbers .now) (a .values .now) (rw (← start .pre .1) (c .before .if2 .taken)))
 
 -- neither slice is short
-room : (c : tie.Else2) → let a = c .before .before .before .before .args in Room (decode radix (allWords 4 (a .msb) (a .part .now))) (a .numbers .now) (a .values .now)
+room : (c : tie.Else2) → let a = c .before .before .before .before .args in
+    Room (decode radix (allWords 4 (a .msb) (a .part .now))) (a .numbers .now) (a .values .now)
 room c =
     let start = c .before .before .before .before in
     let a = start .args in
@@ -36,7 +37,8 @@ returns-3 c =
     let k = r .before .before .before in
     let start = k .before .before .before .before in
     let a = start .args in
-    rw (c .accept .ensures, start .pre .1) (handed _ (a .numbers .now) (a .values .now) (room k) (r .read-words .ensures .0) (r .read-words .ensures .1))
+    rw (c .accept .ensures, start .pre .1)
+    (handed _ (a .numbers .now) (a .values .now) (room k) (r .read-words .ensures .0) (r .read-words .ensures .1))
 
 pub hand-words-spec : {M : Type 1} → statement M
 hand-words-spec =

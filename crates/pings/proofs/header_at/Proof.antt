@@ -11,14 +11,16 @@ use Rattle.pings.proofs.header_at.Tie as tie
 
 returns : tie.Need-returns
 returns c =
-    let a = c .before .before .before .before .before .before .before .args in
+    let fraction = c .before .before .before .before .before in
+    let a = fraction .before .before .args in
     (λ i. record {
-      «time_fraction» = c .before .before .before .before .before .read2 .ensures i;
+      «time_fraction» = fraction .read2 .ensures i;
       «time_cpu» = c .before .before .before .before .read4 .ensures i;
       «software_channel_identifier» = record { 0 = c .before .before .before .read22 .ensures i };
       «transmitter_mode» = c .before .before .read23 .ensures i;
       «ping_number» = c .before .read42 .ensures i;
-      «detected_bottom_range» = (toZ-ofZ {w = w32} {z = c .signed4-at .result} (record { sfits = c .signed4-at .ok }) ∙ c .signed4-at .ensures) i;
+      «detected_bottom_range» =
+          (toZ-ofZ {w = w32} {z = c .signed4-at .result} (record { sfits = c .signed4-at .ok }) ∙ c .signed4-at .ensures) i;
     })
     ∙ ap headerOf (sym (values-at (a .msb) pingRow (a .file .now) (a .place) 6))
 

@@ -12,9 +12,15 @@ returns c =
     let words = close .before .before .before .before in
     let count = words .before .before .before .before in
     let opening = count .before .before .before .before in
-    let start = c .before .before .before .before .before .before .before .before .before .before .before .before .before .before .before .before .before .before in
+    let start = opening .before .before .before .before in
     let a = start .args in
-    rw (close .put-tail .ensures, words .write-words .ensures, count .store4 .ensures, opening .write-opening .ensures, toZ-ofZ {w = w32} {z = a .attribute} (start .fits .attribute))
+    rw (
+      close .put-tail .ensures,
+      words .write-words .ensures,
+      count .store4 .ensures,
+      opening .write-opening .ensures,
+      toZ-ofZ {w = w32} {z = a .attribute} (start .fits .attribute),
+    )
     (stored-C (a .msb) (a .header) (a .attribute) (a .numbers .now) (a .values .now) (a .whole) _ (a .out .now) (start .pre))
 
 pub put-c32-spec : {M : Type 1} → statement M

@@ -8,7 +8,8 @@ hand-over-requires : tie.Need-hand-over-requires
 hand-over-requires c κs = let d = c .before .before .before in rw (d .msb .given .1) at (d .before .before .open-ping .ensures)
 
 returns : tie.Need-returns
-returns c = let d = c .before .before in rw (c .refuse .ensures) (refused _ _ _ _ (rw (d .code .given .1) at (d .before .before .open-ping .ensures)))
+returns c = let d = c .before .before in
+    rw (c .refuse .ensures) (refused _ _ _ _ (rw (d .code .given .1) at (d .before .before .open-ping .ensures)))
 
 returns-2 : tie.Need-returns-2
 returns-2 c =

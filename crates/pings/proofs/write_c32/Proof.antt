@@ -20,44 +20,57 @@ use Rattle.pings.proofs.Pinging.{unequal-C, overfull-C, drops-C, wordle
 use Rattle.pings.proofs.write_c32.Statement.{statement}
 use Rattle.pings.proofs.write_c32.Tie as tie
 
+-- places, named by what has been done there
+abbrev start : tie.Else2 → tie.Start
+start c = c .before .before .before .before
+
 returns : tie.Need-returns
 returns c =
     let a = c .before .before .before .before .before .args in
-    rw (c .refuse .ensures, c .before .smaller .ensures) (unequal-C (a .msb) (a .header) (a .attribute) (a .numbers .now) (a .values .now) (a .out .now) (c .before .before .if1 .taken))
+    rw (c .refuse .ensures, c .before .smaller .ensures)
+    (unequal-C (a .msb) (a .header) (a .attribute) (a .numbers .now) (a .values .now) (a .out .now) (c .before .before .if1 .taken))
 
 returns-2 : tie.Need-returns-2
 returns-2 c =
     let a = c .before .before .before .before .before .args in
-    rw (c .refuse2 .ensures) (overfull-C (a .msb) (a .header) (a .attribute) (a .numbers .now) (a .values .now) (a .out .now) (c .before .before .if1 .left) (c .before .if2 .taken))
+    rw (c .refuse2 .ensures)
+    (overfull-C (a .msb) (a .header) (a .attribute) (a .numbers .now) (a .values .now) (a .out .now) (c .before .before .if1 .left)
+    (c .before .if2 .taken))
 
 returns-3 : tie.Need-returns-3
 returns-3 c =
-    let a = c .before .before .before .before .before .before .before .args in
     let first = c .before .before in
     let few = first .before in
-    rw (c .refuse3 .ensures) (drops-C (a .msb) (a .header) (a .attribute) (a .numbers .now) (a .values .now) (a .out .now) (few .before .if1 .left) (few .if2 .left) _ (first .first-drop .ensures) (c .before .if3 .taken))
+    let a = few .before .before .before .before .args in
+    rw (c .refuse3 .ensures)
+    (drops-C (a .msb) (a .header) (a .attribute) (a .numbers .now) (a .values .now) (a .out .now) (few .before .if1 .left)
+    (few .if2 .left) _ (first .first-drop .ensures) (c .before .if3 .taken))
 
 returns-4 : tie.Need-returns-4
 returns-4 c =
-    let a = c .before .before .before .before .before .before .before .before .before .args in
     let wordless = c .before .before in
     let rise = wordless .before in
     let first = rise .before in
     let few = first .before in
+    let a = few .before .before .before .before .args in
     rw (c .refuse4 .ensures)
-    (wordless-C (a .msb) (a .header) (a .attribute) (a .numbers .now) (a .values .now) (a .out .now) (few .before .if1 .left) (few .if2 .left) _ (first .first-drop .ensures) (rise .if3 .left) _ (wordless .first-wordless .ensures) (c .before .if4 .taken))
+    (wordless-C (a .msb) (a .header) (a .attribute) (a .numbers .now) (a .values .now) (a .out .now) (few .before .if1 .left)
+    (few .if2 .left) _ (first .first-drop .ensures) (rise .if3 .left) _ (wordless .first-wordless .ensures) (c .before .if4 .taken))
 
 count-words-requires : tie.Need-count-words-requires
 count-words-requires c κs =
     let rise = c .before .before in
-    let ns = rise .before .before .before .before .before .before .args .numbers .now in
+    let few = rise .before .before in
+    let ns = few .before .before .before .before .args .numbers .now in
     omega (arith, rise .before .first-drop .ensures, rise .if3 .left, drop-most (numbered ns) 0, length-numbered ns)
 
 -- the whole length, by the words counted
-size : (c : tie.After-count-words) → let a = c .before .before .before .before .before .before .before .before .before .args in 28 + 4 * c .count-words .result + 8 ≡ 36 + 4 * length (fewest radix (paired (a .numbers .now) (a .values .now)))
+size : (c : tie.After-count-words) → let a = start (c .before .before .before .before .before) .args in
+    28 + 4 * c .count-words .result + 8 ≡ 36 + 4 * length (fewest radix (paired (a .numbers .now) (a .values .now)))
 size c =
-    let equal = c .before .before .before .before .before .before in
-    let a = equal .before .before .before .args in
+    let few = c .before .before .before .before .before in
+    let equal = few .before in
+    let a = start few .args in
     omega (arith, c .count-words .ensures .0, count-numbered radix (lit< tt) (a .numbers .now) (a .values .now) (sym (equal .if1 .left)))
 
 returns-5 : tie.Need-returns-5
@@ -70,7 +83,9 @@ returns-5 c =
     let few = first .before in
     let a = few .before .before .before .before .args in
     rw (c .refuse5 .ensures)
-    (long-C (a .msb) (a .header) (a .attribute) (a .numbers .now) (a .values .now) (a .out .now) (few .before .if1 .left) (few .if2 .left) _ (first .first-drop .ensures) (rise .if3 .left) _ (wordless .first-wordless .ensures) (worded .if4 .left) _ (size count) (c .before .if5 .taken))
+    (long-C (a .msb) (a .header) (a .attribute) (a .numbers .now) (a .values .now) (a .out .now) (few .before .if1 .left) (few .if2 .left) _
+    (first .first-drop .ensures) (rise .if3 .left) _ (wordless .first-wordless .ensures) (worded .if4 .left) _ (size count)
+    (c .before .if5 .taken))
 
 returns-6 : tie.Need-returns-6
 returns-6 c =
@@ -83,7 +98,9 @@ returns-6 c =
     let few = first .before in
     let a = few .before .before .before .before .args in
     rw (c .refuse6 .ensures)
-    (no-room-C (a .msb) (a .header) (a .attribute) (a .numbers .now) (a .values .now) (a .out .now) (few .before .if1 .left) (few .if2 .left) _ (first .first-drop .ensures) (rise .if3 .left) _ (wordless .first-wordless .ensures) (worded .if4 .left) _ (size count) (short .if5 .left) (c .before .if6 .taken))
+    (no-room-C (a .msb) (a .header) (a .attribute) (a .numbers .now) (a .values .now) (a .out .now) (few .before .if1 .left)
+    (few .if2 .left) _ (first .first-drop .ensures) (rise .if3 .left) _ (wordless .first-wordless .ensures) (worded .if4 .left) _
+    (size count) (short .if5 .left) (c .before .if6 .taken))
 
 put-c32-requires : tie.Need-put-c32-requires
 put-c32-requires c κs =
@@ -97,7 +114,9 @@ put-c32-requires c κs =
     let few = first .before in
     let start = few .before .before .before .before in
     let a = start .args in
-    sound-C (a .msb) (a .header) (a .attribute) (a .numbers .now) (a .values .now) (a .out .now) (few .before .if1 .left) (few .if2 .left) _ (first .first-drop .ensures) (rise .if3 .left) _ (wordless .first-wordless .ensures) (worded .if4 .left) _ (size count) (short .if5 .left) (fits .if6 .left)
+    sound-C (a .msb) (a .header) (a .attribute) (a .numbers .now) (a .values .now) (a .out .now) (few .before .if1 .left) (few .if2 .left) _
+    (first .first-drop .ensures) (rise .if3 .left) _ (wordless .first-wordless .ensures) (worded .if4 .left) _ (size count)
+    (short .if5 .left) (fits .if6 .left)
 
 returns-7 : tie.Need-returns-7
 returns-7 c =
@@ -114,8 +133,12 @@ returns-7 c =
     let start = few .before .before .before .before in
     let a = start .args in
     rw (c .accept .ensures)
-    (written-C (a .msb) (a .header) (a .attribute) (a .numbers .now) (a .values .now) (a .out .now) (few .before .if1 .left) (few .if2 .left) _ (first .first-drop .ensures) (rise .if3 .left) _ (wordless .first-wordless .ensures) (worded .if4 .left) _ (size count) (short .if5 .left) (fits .if6 .left) _
-    (put .put-c32 .ensures ∙ ap (λ (z : ℤ). sets (a .out .now) 0 (bytesC (a .msb) (handedPing (a .header) z (a .numbers .now) (a .values .now)))) (toZ-ofZ {w = w32} {z = a .attribute} (start .fits .attribute))))
+    (written-C (a .msb) (a .header) (a .attribute) (a .numbers .now) (a .values .now) (a .out .now) (few .before .if1 .left)
+    (few .if2 .left) _ (first .first-drop .ensures) (rise .if3 .left) _ (wordless .first-wordless .ensures) (worded .if4 .left) _
+    (size count) (short .if5 .left) (fits .if6 .left) _
+    (put .put-c32 .ensures
+    ∙ ap (λ (z : ℤ). sets (a .out .now) 0 (bytesC (a .msb) (handedPing (a .header) z (a .numbers .now) (a .values .now))))
+    (toZ-ofZ {w = w32} {z = a .attribute} (start .fits .attribute))))
 
 pub write-c32-spec : {M : Type 1} → statement M
 write-c32-spec =

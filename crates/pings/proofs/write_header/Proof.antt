@@ -8,14 +8,23 @@ use Rattle.pings.proofs.write_header.Tie as tie
 returns : tie.Need-returns
 returns c =
     let bottom = c .before .before in
-    let number = bottom .before .before .before .before .before .before in
+    let pattern = bottom .before in
+    let number = pattern .before .before .before .before .before in
     let mode = number .before .before .before .before in
     let channel = mode .before .before .before .before in
     let time = channel .before .before .before .before in
     let fraction = time .before .before .before .before in
     let a = fraction .before .before .before .args in
-    let pattern = bottom .before in
-    rw (bottom .store43 .ensures, pattern-read (a .header .«detected_bottom_range») _ (pattern .before .struct-told .given .1 .1 .1 .1 .1 .0 .1) (pattern .pattern4 .ensures), number .store42 .ensures, mode .store23 .ensures, channel .store22 .ensures, time .store4 .ensures, fraction .store2 .ensures)
+    rw (
+      bottom .store43 .ensures,
+      pattern-read (a .header .«detected_bottom_range») _ (pattern .before .struct-told .given .1 .1 .1 .1 .1 .0 .1)
+          (pattern .pattern4 .ensures),
+      number .store42 .ensures,
+      mode .store23 .ensures,
+      channel .store22 .ensures,
+      time .store4 .ensures,
+      fraction .store2 .ensures,
+    )
     (header-stored (a .msb) (a .out .now) (a .header))
 
 pub write-header-spec : {M : Type 1} → statement M

@@ -6,9 +6,11 @@ use Rattle.pings.proofs.write_opening.Tie as tie
 
 returns : tie.Need-returns
 returns c =
-    let opening = c .before .before .before .before .before .before in
+    let header = c .before .before in
+    let opening = header .before .before .before .before in
     let a = opening .before .before .before .args in
-    rw (c .before .before .write-header .ensures, opening .open-frame .ensures) (opening-stored (a .msb) (a .out .now) 0 (a .whole) (a .code) _)
+    rw (header .write-header .ensures, opening .open-frame .ensures)
+    (opening-stored (a .msb) (a .out .now) 0 (a .whole) (a .code) _)
 
 pub write-opening-spec : {M : Type 1} → statement M
 write-opening-spec = tie.close (tie.spec (λ c κs. search needs) (λ c κs. search needs) (λ c. search needs) returns)

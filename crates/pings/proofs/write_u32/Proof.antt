@@ -11,37 +11,44 @@ use Rattle.pings.proofs.write_u32.Tie as tie
 returns : tie.Need-returns
 returns c =
     let a = c .before .before .before .before .before .args in
-    rw (c .refuse .ensures, c .before .smaller .ensures) (unequal-U (a .msb) (a .header) (a .attribute) (a .numbers .now) (a .values .now) (a .out .now) (c .before .before .if1 .taken))
+    rw (c .refuse .ensures, c .before .smaller .ensures)
+    (unequal-U (a .msb) (a .header) (a .attribute) (a .numbers .now) (a .values .now) (a .out .now) (c .before .before .if1 .taken))
 
 returns-2 : tie.Need-returns-2
 returns-2 c =
     let a = c .before .before .before .before .before .args in
-    rw (c .refuse2 .ensures) (overfull-U (a .msb) (a .header) (a .attribute) (a .numbers .now) (a .values .now) (a .out .now) (c .before .before .if1 .left) (c .before .if2 .taken))
+    rw (c .refuse2 .ensures)
+    (overfull-U (a .msb) (a .header) (a .attribute) (a .numbers .now) (a .values .now) (a .out .now) (c .before .before .if1 .left)
+    (c .before .if2 .taken))
 
 returns-3 : tie.Need-returns-3
 returns-3 c =
-    let a = c .before .before .before .before .before .before .args in
     let few = c .before .before in
-    rw (c .refuse3 .ensures) (silent (a .msb) (a .header) (a .attribute) (a .numbers .now) (a .values .now) (a .out .now) (few .before .if1 .left) (few .if2 .left) (c .before .if3 .taken))
+    let a = few .before .before .before .before .args in
+    rw (c .refuse3 .ensures)
+    (silent (a .msb) (a .header) (a .attribute) (a .numbers .now) (a .values .now) (a .out .now) (few .before .if1 .left)
+    (few .if2 .left) (c .before .if3 .taken))
 
 returns-4 : tie.Need-returns-4
 returns-4 c =
-    let a = c .before .before .before .before .before .before .before .before .args in
     let first = c .before .before in
     let some = first .before in
     let few = some .before in
+    let a = few .before .before .before .before .args in
     rw (c .refuse4 .ensures)
-    (drops (a .msb) (a .header) (a .attribute) (a .numbers .now) (a .values .now) (a .out .now) (few .before .if1 .left) (few .if2 .left) (some .if3 .left) _ (first .first-drop .ensures) (c .before .if4 .taken))
+    (drops (a .msb) (a .header) (a .attribute) (a .numbers .now) (a .values .now) (a .out .now) (few .before .if1 .left) (few .if2 .left)
+    (some .if3 .left) _ (first .first-drop .ensures) (c .before .if4 .taken))
 
 returns-5 : tie.Need-returns-5
 returns-5 c =
-    let a = c .before .before .before .before .before .before .before .before .before .args in
     let rise = c .before .before in
     let first = rise .before in
     let some = first .before in
     let few = some .before in
+    let a = few .before .before .before .before .args in
     rw (c .refuse5 .ensures)
-    (no-room (a .msb) (a .header) (a .attribute) (a .numbers .now) (a .values .now) (a .out .now) (few .before .if1 .left) (few .if2 .left) (some .if3 .left) _ (first .first-drop .ensures) (rise .if4 .left) (omega (arith, c .before .if5 .taken)))
+    (no-room (a .msb) (a .header) (a .attribute) (a .numbers .now) (a .values .now) (a .out .now) (few .before .if1 .left) (few .if2 .left)
+    (some .if3 .left) _ (first .first-drop .ensures) (rise .if4 .left) (omega (arith, c .before .if5 .taken)))
 
 returns-6 : tie.Need-returns-6
 returns-6 c =
@@ -57,9 +64,15 @@ returns-6 c =
     let start = few .before .before .before .before in
     let a = start .args in
     rw (c .accept .ensures)
-    (written (a .msb) (a .header) (a .attribute) (a .numbers .now) (a .values .now) (a .out .now) (few .before .if1 .left) (few .if2 .left) (some .if3 .left) _ (first .first-drop .ensures) (rise .if4 .left)
+    (written (a .msb) (a .header) (a .attribute) (a .numbers .now) (a .values .now) (a .out .now) (few .before .if1 .left) (few .if2 .left)
+    (some .if3 .left) _ (first .first-drop .ensures) (rise .if4 .left)
     _ (omega arith) _ (fits .if5 .left)
-    (rw (close .put-tail .ensures, pairs .write-pairs .ensures, opening .write-opening .ensures, toZ-ofZ {w = w32} {z = a .attribute} (start .fits .attribute))))
+    (rw (
+      close .put-tail .ensures,
+      pairs .write-pairs .ensures,
+      opening .write-opening .ensures,
+      toZ-ofZ {w = w32} {z = a .attribute} (start .fits .attribute),
+    )))
 
 pub write-u32-spec : {M : Type 1} → statement M
 write-u32-spec =

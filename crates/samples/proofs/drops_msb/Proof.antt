@@ -35,14 +35,21 @@ loop-holds c =
 
 -- a turn counts two drops at most
 ones : (c : tie.After-read43 Inv-loop μ-loop) →
-    (boolByte (leb (c .before .read42 .result) (c .before .before .before .loop .last)) ≤ 1) × (boolByte (leb (c .read43 .result) (c .before .read42 .result)) ≤ 1)
-ones c = (counts-one (leb (c .before .read42 .result) (c .before .before .before .loop .last)), counts-one (leb (c .read43 .result) (c .before .read42 .result)))
+    (boolByte (leb (c .before .read42 .result) (c .before .before .before .loop .last)) ≤ 1)
+    × (boolByte (leb (c .read43 .result) (c .before .read42 .result)) ≤ 1)
+ones c = (
+  counts-one (leb (c .before .read42 .result) (c .before .before .before .loop .last)),
+  counts-one (leb (c .read43 .result) (c .before .read42 .result)),
+)
 
 loop-again : tie.Need-loop-again Inv-loop μ-loop
 loop-again c =
     let f = c .before in
-    let l = f .before .before .loop in
-    (search needs, omega (arith, ones c), count-two _ _ _ _ _ (f .before .loop-test .taken) (f .read42 .ensures) (c .read43 .ensures) (l .drops) (l .last) ∙ l .inv .2)
+    let l = f .before .before .loop in (
+      search needs,
+      omega (arith, ones c),
+      count-two _ _ _ _ _ (f .before .loop-test .taken) (f .read42 .ensures) (c .read43 .ensures) (l .drops) (l .last) ∙ l .inv .2,
+    )
 
 -- one pair is left behind the loop, or none
 returns-2 : tie.Need-returns-2 Inv-loop μ-loop

@@ -1,4 +1,5 @@
--- `samples::find_bad` meets its contract: the words passed and the first bad one from here on are the first bad one at all. Assumes nothing.
+-- `samples::find_bad` meets its contract: the words passed and the first bad one from here on are the first bad one at all.
+-- Assumes nothing.
 use mathlib.Core.Path.{_≡_, sym, ap, _∙_}
 use Prim.Native.Nat.{_≤_, _+_, _-_, _*_}
 use native.Mathlib.Omega.{arith}
@@ -12,7 +13,8 @@ use Rattle.samples.proofs.find_bad.Statement.{statement}
 use Rattle.samples.proofs.find_bad.Tie as tie
 
 abbrev Inv-loop : tie.InvT-loop
-Inv-loop part msb at₀ at = (at ≤ length part) × (at + 4 * firstBad radix (wordsFrom 4 msb part at) ≡ 4 * firstBad radix (allWords 4 msb part))
+Inv-loop part msb at₀ at =
+    (at ≤ length part) × (at + 4 * firstBad radix (wordsFrom 4 msb part at) ≡ 4 * firstBad radix (allWords 4 msb part))
 
 abbrev μ-loop : tie.MeasureT-loop
 μ-loop part msb at₀ at = length part - at
@@ -27,7 +29,9 @@ returns c =
     let head = read .before .before in
     let a = head .before .before .args in
     let l = head .loop in
-    let here = bad-there (a .msb) (a .part .now) (l .at) (read .read4 .result) (read .before .loop-test .taken) (read .read4 .ensures) (sym (bad .is-bad .ensures) ∙ c .if1 .taken) in
+    let here =
+    bad-there (a .msb) (a .part .now) (l .at) (read .read4 .result) (read .before .loop-test .taken) (read .read4 .ensures)
+    (sym (bad .is-bad .ensures) ∙ c .if1 .taken) in
     (omega (arith, here, l .inv .1), omega (arith, l .inv .0))
 
 loop-again : tie.Need-loop-again Inv-loop μ-loop
@@ -37,7 +41,9 @@ loop-again c =
     let head = read .before .before in
     let a = head .before .before .args in
     let l = head .loop in
-    let later = bad-behind (a .msb) (a .part .now) (l .at) (read .read4 .result) (read .before .loop-test .taken) (read .read4 .ensures) (sym (bad .is-bad .ensures) ∙ c .if1 .left) in
+    let later =
+    bad-behind (a .msb) (a .part .now) (l .at) (read .read4 .result) (read .before .loop-test .taken) (read .read4 .ensures)
+    (sym (bad .is-bad .ensures) ∙ c .if1 .left) in
     (search needs, omega (arith, later, l .inv .1))
 
 returns-2 : tie.Need-returns-2 Inv-loop μ-loop

@@ -36,7 +36,9 @@ returns-2 c =
     let head = read .before .before in
     let a = head .before .before .before .before .args in
     let l = head .loop in
-    let here = fall-there (a .msb) (a .part .now) (l .at) (read .read42 .result) (read .before .loop-test .taken) (read .read42 .ensures) (l .past + 1) (omega (arith, c .if2 .taken)) in
+    let here =
+    fall-there (a .msb) (a .part .now) (l .at) (read .read42 .result) (read .before .loop-test .taken) (read .read42 .ensures)
+    (l .past + 1) (omega (arith, c .if2 .taken)) in
     (omega (arith, here, l .inv .1), omega (arith, l .inv .0))
 
 loop-again : tie.Need-loop-again Inv-loop μ-loop
@@ -45,7 +47,9 @@ loop-again c =
     let head = read .before .before in
     let a = head .before .before .before .before .args in
     let l = head .loop in
-    let later = fall-behind (a .msb) (a .part .now) (l .at) (read .read42 .result) (read .before .loop-test .taken) (read .read42 .ensures) (l .past + 1) (omega (arith, c .if2 .left)) in
+    let later =
+    fall-behind (a .msb) (a .part .now) (l .at) (read .read42 .result) (read .before .loop-test .taken) (read .read42 .ensures)
+    (l .past + 1) (omega (arith, c .if2 .left)) in
     (search needs, omega (arith, later, l .inv .1))
 
 returns-3 : tie.Need-returns-3 Inv-loop μ-loop

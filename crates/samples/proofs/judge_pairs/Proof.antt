@@ -32,7 +32,8 @@ returns-2 : tie.Need-returns-2
 unfolding judgedPairs
 returns-2 c =
     let a = c .before .before .before .args in
-    ap (λ (t : Bool). said t (8 * firstDrop 0 (pairUp (allWords 4 (a .msb) (a .part .now))))) (sym (c .if1 .left) ∙ c .before .drops .ensures)
+    ap (λ (t : Bool). said t (8 * firstDrop 0 (pairUp (allWords 4 (a .msb) (a .part .now)))))
+    (sym (c .if1 .left) ∙ c .before .drops .ensures)
 
 pub judge-pairs-spec : {M : Type 1} → statement M
 judge-pairs-spec =

@@ -82,7 +82,9 @@ returns-2 c =
     let find = c .before in
     let rule = find .before in
     let few = rule .before in
-    c .fault-at .ensures ∙ ap (λ (p : ℕ). Fault 24 (wordsAt + p)) (find .find-bad .ensures .0) ∙ rw (le-ltb _ _ (few .if1 .left), rule .if2 .taken) at (said (few .before))
+    c .fault-at .ensures
+    ∙ ap (λ (p : ℕ). Fault 24 (wordsAt + p)) (find .find-bad .ensures .0)
+    ∙ rw (le-ltb _ _ (few .if1 .left), rule .if2 .taken) at (said (few .before))
 
 returns-3 : tie.Need-returns-3 Inv-loop μ-loop
 returns-3 c =

@@ -18,20 +18,23 @@ use Rattle.samples.proofs.read_pairs.Tie as tie
 
 abbrev Inv-loop : tie.InvT-loop
 Inv-loop part msb numbers₀ values₀ entry₀ p₀ numbers values entry p =
-    (p ≤ length part) × (8 * entry ≤ p) × Handing (pairUp (allWords 4 msb part)) (pairUp (wordsFrom 4 msb part p)) numbers₀ values₀ numbers values entry
+    (p ≤ length part) × (8 * entry ≤ p)
+    × Handing (pairUp (allWords 4 msb part)) (pairUp (wordsFrom 4 msb part p)) numbers₀ values₀ numbers values entry
 
 abbrev μ-loop : tie.MeasureT-loop
 μ-loop part msb numbers₀ values₀ entry₀ p₀ numbers values entry p = length part - p
 
 loop-holds : tie.Need-loop-holds Inv-loop μ-loop
-loop-holds c = let a = c .before .before .args in (omega arith, omega arith, handing-as (ap pairUp (sym (from-all 4 (a .msb) (a .part .now)))) (handing-begin (c .before .before .pre)))
+loop-holds c = let a = c .before .before .args in
+    (omega arith, omega arith, handing-as (ap pairUp (sym (from-all 4 (a .msb) (a .part .now)))) (handing-begin (c .before .before .pre)))
 
 -- the pair here is the next to be handed over
 next : (c : tie.After-read4 Inv-loop μ-loop) →
     let head = c .before .before in
     let a = head .before .before .before .args in
     let l = head .loop in
-    Handing (pairUp (allWords 4 (a .msb) (a .part .now))) ((c .read4 .result, wordAt 4 (a .msb) (a .part .now) (l .p + 4)) ∷ pairUp (wordsFrom 4 (a .msb) (a .part .now) (l .p + 8)))
+    Handing (pairUp (allWords 4 (a .msb) (a .part .now)))
+    ((c .read4 .result, wordAt 4 (a .msb) (a .part .now) (l .p + 4)) ∷ pairUp (wordsFrom 4 (a .msb) (a .part .now) (l .p + 8)))
     (a .numbers .now) (a .values .now) (l .numbers) (l .values) (l .entry)
 next c = handing-as (next-pair _ _ _ _ (c .before .loop-test .taken) (c .read4 .ensures)) (c .before .before .loop .inv .2)
 
@@ -43,7 +46,9 @@ slice-set-from-values c = entry-values (next (c .before .before))
 
 loop-again : tie.Need-loop-again Inv-loop μ-loop
 loop-again c =
-    let v = toZ-ofZ {w = w32} {z = c .signed4 .result} (record { sfits = c .signed4 .ok }) ∙ c .signed4 .ensures ∙ ap (signedOf 4) (c .before .read42 .ensures) in
+    let v = toZ-ofZ {w = w32} {z = c .signed4 .result} (record { sfits = c .signed4 .ok })
+    ∙ c .signed4 .ensures
+    ∙ ap (signedOf 4) (c .before .read42 .ensures) in
     (omega arith, omega arith, handing-one _ _ v (next (c .before .before)))
 
 returns : tie.Need-returns Inv-loop μ-loop

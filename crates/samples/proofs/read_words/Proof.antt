@@ -30,8 +30,12 @@ abbrev μ-loop : tie.MeasureT-loop
 
 loop-holds : tie.Need-loop-holds Inv-loop μ-loop
 loop-holds c =
-    let a = c .before .before .args in
-    (omega arith, omega arith, omega arith, handing-as (ap (decodeFrom radix 0) (sym (from-all 4 (a .msb) (a .part .now)))) (handing-begin (c .before .before .pre .1)))
+    let a = c .before .before .args in (
+      omega arith,
+      omega arith,
+      omega arith,
+      handing-as (ap (decodeFrom radix 0) (sym (from-all 4 (a .msb) (a .part .now)))) (handing-begin (c .before .before .pre .1)),
+    )
 
 -- the sample that a value gives is the next to be handed over
 value : (c : tie.Else1 Inv-loop μ-loop) →
@@ -39,14 +43,17 @@ value : (c : tie.Else1 Inv-loop μ-loop) →
     let head = read .before .before in
     let a = head .before .before .before .args in
     let l = head .loop in
-    Handing (decode radix (allWords 4 (a .msb) (a .part .now))) ((l .number, read .read4 .result) ∷ decodeFrom radix (l .number + 1) (wordsFrom 4 (a .msb) (a .part .now) (l .p + 4)))
+    Handing (decode radix (allWords 4 (a .msb) (a .part .now)))
+    ((l .number, read .read4 .result) ∷ decodeFrom radix (l .number + 1) (wordsFrom 4 (a .msb) (a .part .now) (l .p + 4)))
     (a .numbers .now) (a .values .now) (l .numbers) (l .values) (l .entry)
 value c =
     let run = c .before in
     let read = run .before in
     let head = read .before .before in
     let step = next _ _ _ _ (read .before .loop-test .taken) (read .read4 .ensures) in
-    handing-as (ap (decodeFrom radix (head .loop .number)) step ∙ decode-value radix (lit< tt) _ _ _ (sym (run .is-run .ensures) ∙ c .if1 .left)) (head .loop .inv .3)
+    handing-as (ap (decodeFrom radix (head .loop .number)) step
+    ∙ decode-value radix (lit< tt) _ _ _ (sym (run .is-run .ensures) ∙ c .if1 .left))
+    (head .loop .inv .3)
 
 add-number : tie.Need-add-number Inv-loop μ-loop
 add-number c = omega (arith, c .run-length .ensures, run-short radix (lit< tt) (c .before .before .before .read4 .result))
@@ -85,7 +92,8 @@ returns : tie.Need-returns Inv-loop μ-loop
 unfolding decodeFrom
 returns c =
     let l = c .before .loop in
-    handing-end (handing-as (ap (decodeFrom radix (l .number)) (from-end 4 _ _ _ (lit< tt) (omega (arith, c .loop-test .left)))) (l .inv .3))
+    handing-end (handing-as (ap (decodeFrom radix (l .number)) (from-end 4 _ _ _ (lit< tt) (omega (arith, c .loop-test .left))))
+    (l .inv .3))
 
 pub read-words-spec : {M : Type 1} → statement M
 read-words-spec =

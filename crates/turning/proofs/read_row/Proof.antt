@@ -84,7 +84,8 @@ loop2-again : tie.Need-loop2-again Inv-loop μ-loop Inv-loop2 μ-loop2
 loop2-again c =
     let f = c .before .before .before .before in
     let d = f .before .before .before in
-    taken-on (d .before .loop2 .inv) (d .loop2-test .taken) (f .read-field2 .ensures .0) (f .read-field2 .ensures .1 .0) (c .before .if3 .left)
+    taken-on (d .before .loop2 .inv) (d .loop2-test .taken) (f .read-field2 .ensures .0) (f .read-field2 .ensures .1 .0)
+    (c .before .if3 .left)
     (c .takes2 .ensures .0) (c .takes2 .ensures .1)
 
 pub read-row-spec : {M : Type 1} → statement M
@@ -95,7 +96,8 @@ read-row-spec =
     μ-loop
     Inv-loop2
     μ-loop2
-    (λ c. let p = c .before .before .before .before .pre in record { same = refl; read = p .0; room = omega (arith, p .1); few = omega arith; rest = rw (c .if1 .taken) })
+    (λ c. let p = c .before .before .before .before .pre in
+    record { same = refl; read = p .0; room = omega (arith, p .1); few = omega arith; rest = rw (c .if1 .taken) })
     (λ c. search needs)
     (λ c κs.
     let d = c .before .before in
@@ -111,7 +113,8 @@ read-row-spec =
     loop-again
     (λ c. search needs)
     (λ c. taken-end (c .before .loop .inv) (c .loop-test .left))
-    (λ c. let p = c .before .before .before .before .pre in record { same = refl; read = p .0; room = omega (arith, p .1); few = omega arith; rest = rw (c .if1 .left) })
+    (λ c. let p = c .before .before .before .before .pre in
+    record { same = refl; read = p .0; room = omega (arith, p .1); few = omega arith; rest = rw (c .if1 .left) })
     (λ c. search needs)
     (λ c κs.
     let d = c .before .before in

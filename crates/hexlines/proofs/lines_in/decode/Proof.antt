@@ -16,8 +16,11 @@ abbrev μ-loop : tie.MeasureT-loop
 
 -- the line at the place ends within the text
 within : (c : tie.After-line-end Inv-loop μ-loop) →
-    let end = c .line-end .result in (c .before .before .loop .at ≤ end) × (end ≤ length (c .before .before .before .before .before .args .text .now))
-within c = end-within (c .before .before .before .before .before .args .text .now) (c .before .before .loop .at) (c .line-end .result) (c .before .loop-test .taken) (c .line-end .ensures)
+    let end = c .line-end .result in
+    (c .before .before .loop .at ≤ end) × (end ≤ length (c .before .before .before .before .before .args .text .now))
+within c =
+    end-within (c .before .before .before .before .before .args .text .now) (c .before .before .loop .at) (c .line-end .result)
+    (c .before .loop-test .taken) (c .line-end .ensures)
 
 decode-line-requires : tie.Need-decode-line-requires Inv-loop μ-loop
 decode-line-requires c κs =
@@ -28,15 +31,17 @@ decode-line-requires c κs =
 
 loop-again : tie.Need-loop-again Inv-loop μ-loop
 loop-again c =
-    let judged = c .before .before .before .before .before .before in
+    let good-line = c .before .before .before .before .before in
+    let judged = good-line .before in
     let found = judged .before .before in
     reading-again _ _ _ (found .before .loop-test .taken) (found .line-end .ensures) (found .before .before .loop .inv)
-    (sym (judged .is-bad .ensures) ∙ c .before .before .before .before .before .if1 .left) _ (c .before .before .decode-line .ensures)
+    (sym (judged .is-bad .ensures) ∙ good-line .if1 .left) _ (c .before .before .decode-line .ensures)
 
 returns : tie.Need-returns Inv-loop μ-loop
 returns c =
     let found = c .before .before .before in
-    reading-bad _ _ _ (found .before .loop-test .taken) (found .line-end .ensures) (found .before .before .loop .inv) (sym (c .before .is-bad .ensures) ∙ c .if1 .taken)
+    reading-bad _ _ _ (found .before .loop-test .taken) (found .line-end .ensures) (found .before .before .loop .inv)
+    (sym (c .before .is-bad .ensures) ∙ c .if1 .taken)
 
 returns-2 : tie.Need-returns-2 Inv-loop μ-loop
 returns-2 c = reading-done (c .before .loop .inv) (c .loop-test .left)
@@ -62,7 +67,7 @@ decode-spec =
     (λ c. search needs)
     (λ c. search needs)
     (λ c. search needs)
-    (λ c. omega (arith, within (c .before .before .before .before .before .before .before .before)))
+    (λ c. let good-line = c .before .before .before .before .before in omega (arith, within (good-line .before .before .before)))
     (λ c. search needs)
     loop-again
     (λ c. c .before .loop .inv .long)

@@ -27,14 +27,16 @@ loop-holds c = (omega arith, refl, omega arith, refl, c .before .before .pre .1 
 
 byte-of-requires : tie.Need-byte-of-requires Inv-loop μ-loop
 byte-of-requires c κs =
-    let l = c .before .before .before .loop in
-    let p = digits-pair (c .before .before .before .before .before .before .args .line .now) (l .i) (omega arith) (l .inv .4) in
+    let head = c .before .before .before in
+    let l = head .loop in
+    let p = digits-pair (head .before .before .before .args .line .now) (l .i) (omega arith) (l .inv .4) in
     (p .0, p .1 .0)
 
 loop-again : tie.Need-loop-again Inv-loop μ-loop
 loop-again c =
-    let l = c .before .before .before .before .loop in
-    let line = c .before .before .before .before .before .before .before .args .line .now in
+    let head = c .before .before .before .before in
+    let l = head .loop in
+    let line = head .before .before .before .args .line .now in
     let two : l .i + 1 < length line = omega arith in
     let next : bytesIn (drop (l .i) line) ≡ c .byte-of .result ∷ bytesIn (drop (l .i + 2) line) =
     bytes-next line (l .i) two ∙ ap (λ (b : ℕ). b ∷ bytesIn (drop (l .i + 2) line)) (sym (c .byte-of .ensures)) in (

@@ -16,7 +16,10 @@ returns : tie.Need-returns
 returns c = (rw (le-leb (c .before .args .c) 57 (c .if1 .taken)), omega arith)
 
 returns-2 : tie.Need-returns-2
-returns-2 c = (rw (lt-leb (c .before .args .c) 57 (c .if1 .left)), ⊎-elim (λ w. omega arith) (λ w. omega arith) (digit-codes (c .before .args .c) (c .before .pre)))
+returns-2 c = (
+  rw (lt-leb (c .before .args .c) 57 (c .if1 .left)),
+  ⊎-elim (λ w. omega arith) (λ w. omega arith) (digit-codes (c .before .args .c) (c .before .pre)),
+)
 
 pub digit-of-spec : {M : Type 1} → statement M
 digit-of-spec = tie.close (tie.spec sub-result sub-result-2 returns returns-2)

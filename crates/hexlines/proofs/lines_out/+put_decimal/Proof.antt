@@ -28,7 +28,8 @@ put-decimal-below t = and 1 put-decimal-kinds.ps (falls 1 put-decimal-kinds.ps _
 -- the digits of the tenth leave room for one more
 short : (t : ℕ) (c : put-decimal-lts.After-put-decimal (put-decimal-below t, put-decimal.Post) (put-decimal-at t) put-decimal.Post) →
     length (decimal (c .before .before .before .before .args .n / 10)) < 20
-short t c = let start = c .before .before .before .before in tenth-short (start .args .n) (start .fits .n .fits) (c .before .before .if1 .left)
+short t c = let start = c .before .before .before .before in
+    tenth-short (start .args .n) (start .fits .n .fits) (c .before .before .if1 .left)
 
 returns : (t : ℕ) → put-decimal-lts.Need-returns (put-decimal-below t, put-decimal.Post) (put-decimal-at t) put-decimal.Post
 returns t c =

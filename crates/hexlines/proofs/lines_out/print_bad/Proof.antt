@@ -6,8 +6,12 @@ use Rattle.hexlines.proofs.Stores.{put-then}
 use Rattle.hexlines.proofs.lines_out.print_bad.Statement.{statement}
 use Rattle.hexlines.proofs.lines_out.print_bad.Tie as tie
 
+-- places, named by what has been done there
+abbrev start : tie.After-put-decimal → tie.Start
+start c = c .before .before .before .before .before .before .before .before
+
 put-requires-2 : tie.Need-put-requires-2
-put-requires-2 c κs = omega (arith, at-most-twenty (c .before .before .before .before .before .before .before .before .before .before .before .before .args .number))
+put-requires-2 c κs = omega (arith, at-most-twenty (start (c .before .before .before .before) .args .number))
 
 returns : tie.Need-returns
 returns c =

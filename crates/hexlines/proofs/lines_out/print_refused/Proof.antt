@@ -6,14 +6,24 @@ use Rattle.hexlines.proofs.Stores.{put-then}
 use Rattle.hexlines.proofs.lines_out.print_refused.Statement.{statement}
 use Rattle.hexlines.proofs.lines_out.print_refused.Tie as tie
 
+-- places, named by what has been done there
+abbrev start : tie.After-put-decimal → tie.Start
+start c = c .before .before .before .before .before .before .before .before
+
+abbrev coded : tie.After-put2 → tie.After-put-decimal
+coded c = c .before .before .before .before .before
+
 put-requires-2 : tie.Need-put-requires-2
-put-requires-2 c κs = omega (arith, at-most-twenty (c .before .before .before .before .before .before .before .before .before .before .before .before .args .code))
+put-requires-2 c κs = omega (arith, at-most-twenty (start (c .before .before .before .before) .args .code))
 
 put-decimal-requires-2 : tie.Need-put-decimal-requires-2
-put-decimal-requires-2 c κs = omega (arith, at-most-twenty (c .before .before .before .before .before .before .before .before .before .before .before .before .before .before .before .before .args .code))
+put-decimal-requires-2 c κs = omega (arith, at-most-twenty (start (coded (c .before .before .before)) .args .code))
 
 put-requires-3 : tie.Need-put-requires-3
-put-requires-3 c κs = let start = c .before .before .before .before .before .before .before .before .before .before .before .before .before .before .before .before .before .before .before .before .before in omega (arith, at-most-twenty (start .args .code), at-most-twenty (start .args .place))
+put-requires-3 c κs =
+    let place = c .before .before .before .before in
+    let s = start (coded (place .before .before .before .before)) in
+    omega (arith, at-most-twenty (s .args .code), at-most-twenty (s .args .place))
 
 returns : tie.Need-returns
 returns c =
@@ -22,7 +32,8 @@ returns c =
     let space = place .before .before .before .before in
     let code = space .before .before .before .before .before in
     put-then
-    (put-then (put-then (put-then (code .before .before .before .before .put .ensures) (code .put-decimal .ensures)) (space .put2 .ensures)) (place .put-decimal2 .ensures))
+    (put-then (put-then (put-then (code .before .before .before .before .put .ensures) (code .put-decimal .ensures)) (space .put2 .ensures))
+    (place .put-decimal2 .ensures))
     (end .put3 .ensures)
 
 pub print-refused-spec : {M : Type 1} → statement M

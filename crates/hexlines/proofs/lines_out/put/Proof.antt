@@ -22,14 +22,22 @@ loop-holds c = (omega arith, refl, rw add-zero)
 loop-again : tie.Need-loop-again Inv-loop μ-loop
 loop-again c =
     let l = c .before .before .loop in
-    let a = c .before .before .before .args in
-    (omega arith, simp length-set (l .inv .1), one-stored (l .out) (a .text .now) (a .at) (l .i) _ (c .before .loop-test .taken) refl ∙ l .inv .2)
+    let a = c .before .before .before .args in (
+      omega arith,
+      simp length-set (l .inv .1),
+      one-stored (l .out) (a .text .now) (a .at) (l .i) _ (c .before .loop-test .taken) refl ∙ l .inv .2,
+    )
 
 returns : tie.Need-returns Inv-loop μ-loop
 returns c =
     let l = c .before .loop in
     let a = c .before .before .args in
-    record { behind = omega arith; within = omega arith; memory = sym (all-stored (l .out) (a .text .now) (a .at) (l .i) (c .loop-test .left)) ∙ l .inv .2 }
+    record {
+      behind = omega arith;
+      within = omega arith;
+      memory = sym (all-stored (l .out) (a .text .now) (a .at) (l .i) (c .loop-test .left))
+          ∙ l .inv .2;
+    }
 
 pub put-spec : {M : Type 1} → statement M
 put-spec =

@@ -15,7 +15,8 @@ use Rattle.hexlines.proofs.lines_out.put_line.Tie as tie
 
 abbrev Inv-loop : tie.InvT-loop
 Inv-loop out₀ at bytes to₀ i₀ out to i =
-    (i ≤ length bytes) × (to ≡ at + 2 * i) × (length out ≡ length out₀) × (sets out to (line (hex (drop i bytes))) ≡ sets out₀ at (line (hex bytes)))
+    (i ≤ length bytes) × (to ≡ at + 2 * i) × (length out ≡ length out₀)
+    × (sets out to (line (hex (drop i bytes))) ≡ sets out₀ at (line (hex bytes)))
 
 abbrev μ-loop : tie.MeasureT-loop
 μ-loop out₀ at bytes to₀ i₀ out to i = length bytes - i
@@ -28,8 +29,9 @@ hex-digit-requires c κs = omega (arith, c .shared-slice-known2 .given (c .befor
 
 loop-again : tie.Need-loop-again Inv-loop μ-loop
 loop-again c =
-    let l = c .before .before .before .before .loop in
-    let bytes = c .before .before .before .before .before .before .before .args .bytes .now in
+    let head = c .before .before .before .before in
+    let l = head .loop in
+    let bytes = head .before .before .before .args .bytes .now in
     let next : hex (drop (l .i) bytes) ≡ c .before .hex-digit .result ∷ c .hex-digit2 .result ∷ hex (drop (l .i + 1) bytes) =
     hex-next bytes (l .i) (c .before .before .before .loop-test .taken)
     ∙ sym (ap₂ (λ (v w : ℕ). v ∷ w ∷ hex (drop (l .i + 1) bytes)) (c .before .hex-digit .ensures) (c .hex-digit2 .ensures)) in

@@ -9,17 +9,22 @@ use Rattle.hexlines.proofs.Programs.{Answered, file-answered}
 use Rattle.hexlines.proofs.whole.print.Statement.{statement}
 use Rattle.hexlines.proofs.whole.print.Tie as tie
 
-answers : (c : tie.After-normalise) → Answered (fileProgram (bytes (c .before .before .before .before .before .args .file .now))) (c .normalise .result) (c .normalise .last .1 .0)
+answers : (c : tie.After-normalise)
+    → Answered (fileProgram (bytes (c .before .before .before .before .before .args .file .now))) (c .normalise .result)
+    (c .normalise .last .1 .0)
 answers c =
     let known = c .before .before .before in
     let file = known .before .before .args .file .now in
-    file-answered file _ _ (bytes-of file (λ i. known .shared-slice-known .given i .fits)) (sym (c .before .before .space .ensures)) _ (c .normalise .ensures)
+    file-answered file _ _ (bytes-of file (λ i. known .shared-slice-known .given i .fits)) (sym (c .before .before .space .ensures)) _
+    (c .normalise .ensures)
 
 print-answer-requires : tie.Need-print-answer-requires
-print-answer-requires c κs = (c .before .before .before .before .before .before .before .before .pre, answers (c .before .before .before) .ready)
+print-answer-requires c κs =
+    let n = c .before .before .before in (n .before .before .before .before .before .pre, answers n .ready)
 
 returns : tie.Need-returns
-returns c = put-same (answers (c .before .before .before .before .before .before) .says) (c .before .before .print-answer .ensures)
+returns c = let printed = c .before .before in
+    put-same (answers (printed .before .before .before .before) .says) (printed .print-answer .ensures)
 
 pub print-spec : {M : Type 1} → statement M
 print-spec =

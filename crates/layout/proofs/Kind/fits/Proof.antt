@@ -10,11 +10,16 @@ use Rattle.layout.proofs.Tables.{Said, tabled, fixed, short, long, any}
 use Rattle.layout.proofs.Kind.fits.Statement.{statement}
 use Rattle.layout.proofs.Kind.fits.Tie as tie
 
+-- places, named by what has been done there
+abbrev start : tie.Else2 → tie.Start
+start c = c .before .before .before .before .before
+
 returns : tie.Need-returns
 returns c = any (c .before .before .args .self) (omega (arith, c .before .listing .ensures)) (c .before .before .args .length)
 
 -- the lengths that were looked up are the kind's
-looked : (c : tie.After-step) → lengthBy (c .before .least .result) (c .step .result) ≡ listingOf (c .before .before .before .before .args .self) .length
+looked : (c : tie.After-step)
+    → lengthBy (c .before .least .result) (c .step .result) ≡ listingOf (c .before .before .before .before .args .self) .length
 looked c =
     let k = c .before .before .before .before .args .self in
     let e = c .before .before .before .listing .ensures in
@@ -30,12 +35,12 @@ returns-2 c =
 
 returns-3 : tie.Need-returns-3
 returns-3 c =
-    let n = c .before .before .before .before .before .before .args .length in
+    let n = start (c .before) .args .length in
     short _ _ n (c .before .if2 .left) (c .if3 .taken) ∙ ap (λ (l : Length). fitting l n) (looked (c .before .before))
 
 returns-4 : tie.Need-returns-4
 returns-4 c =
-    let n = c .before .before .before .before .before .before .args .length in
+    let n = start (c .before) .args .length in
     long _ _ n (c .before .if2 .left) (c .if3 .left) ∙ ap (λ (l : Length). fitting l n) (looked (c .before .before))
 
 pub fits-spec : {M : Type 1} → statement M

@@ -24,13 +24,24 @@ Inv-loop part msb out₀ to end number₀ at₀ p₀ out number at p =
 abbrev μ-loop : tie.MeasureT-loop
 μ-loop part msb out₀ to end number₀ at₀ p₀ out number at p = length part - p
 
+-- places, named by what has been done there
+abbrev inside : tie.After-slice-known2 Inv-loop μ-loop → tie.In-loop Inv-loop μ-loop
+inside c = c .before .before .before .before .before .before
+
+abbrev start : tie.After-slice-known2 Inv-loop μ-loop → tie.Start Inv-loop μ-loop
+start c = c .before .before .before .before .before .before .before .before .before .before
+
+abbrev looping : tie.After-slice-known2 Inv-loop μ-loop → tie.At-loop Inv-loop μ-loop
+looping c = c .before .before .before .before .before .before .before
+
 loop-holds : tie.Need-loop-holds Inv-loop μ-loop
 loop-holds c =
     let s = c .before .before in
     let a = s .args in (
       omega arith,
       omega arith,
-      spreading-as (ap (decodeFrom radix 0) (sym (from-all 4 (a .msb) (a .part .now)))) (record { long = refl; ends = sym (s .pre .1 .0); bytes = refl }),
+      spreading-as (ap (decodeFrom radix 0) (sym (from-all 4 (a .msb) (a .part .now))))
+          (record { long = refl; ends = sym (s .pre .1 .0); bytes = refl }),
     )
 
 -- before the end a word is left, and room for its pair
@@ -48,14 +59,29 @@ left c =
     )
 
 -- a run passes at most 65,536 samples; behind its word the number is still below 2^32
-few : (c : tie.After-slice-known2 Inv-loop μ-loop) → boolByte (c .before .before .before .before .is-run .result) * (c .before .before .before .before .before .read4 .result % 65536) < 65536
+few : (c : tie.After-slice-known2 Inv-loop μ-loop)
+    → boolByte (c .before .before .before .before .is-run .result) * (c .before .before .before .before .before .read4 .result % 65536)
+    < 65536
 few c = passes-few (c .before .before .before .before .is-run .result) (c .before .before .before .before .before .read4 .result)
 
 add-at : tie.Need-add-at Inv-loop μ-loop
-add-at c = omega (arith, counts-one (not (c .before .before .before .before .is-run .result)), left (c .before .before .before .before .before .before) .1, c .before .before .before .before .before .before .before .before .before .before .fits .end)
+add-at c =
+    omega (
+      arith,
+      counts-one (not (c .before .before .before .before .is-run .result)),
+      left (inside c) .1,
+      start c .fits .end,
+    )
 
 add-number-2 : tie.Need-add-number-2 Inv-loop μ-loop
-add-number-2 c = omega (arith, few c, left (c .before .before .before .before .before .before) .0, c .before .before .before .before .before .before .before .loop .inv .1, c .before .before .before .before .before .before .before .before .before .before .pre .0)
+add-number-2 c =
+    omega (
+      arith,
+      few c,
+      left (inside c) .0,
+      looping c .loop .inv .1,
+      start c .pre .0,
+    )
 
 loop-again : tie.Need-loop-again Inv-loop μ-loop
 loop-again c =
@@ -68,7 +94,8 @@ loop-again c =
     let w = read .read4 .result in (
       omega (arith, h .0),
       omega (arith, few c, l .inv .1),
-      spreading-word (l .number) w (put .put-pair .ensures) (put .put-pair .kept .0) _ (run .is-run .result) (run .is-run .ensures) (test .loop-test .taken)
+      spreading-word (l .number) w (put .put-pair .ensures) (put .put-pair .kept .0) _ (run .is-run .result) (run .is-run .ensures)
+          (test .loop-test .taken)
           (spreading-as (ap (decodeFrom radix (l .number)) (next _ _ _ _ (h .0) (read .read4 .ensures))) (l .inv .2)),
     )
 
@@ -89,8 +116,13 @@ spread-words-spec =
     (λ c. omega (arith, few c))
     (λ c. omega (arith, few c))
     add-number-2
-    (λ c. omega (arith, left (c .before .before .before .before .before .before) .0, c .before .before .before .before .before .before .before .before .before .before .pre .0))
-    (λ c. omega (arith, left (c .before .before .before .before .before .before) .0))
+    (λ c.
+    omega (
+      arith,
+      left (inside c) .0,
+      start c .pre .0,
+    ))
+    (λ c. omega (arith, left (inside c) .0))
     loop-again
     (λ c. c .before .loop .inv .2 .long)
     (λ c. spreading-end (c .loop-test .left) (c .before .loop .inv .2)))

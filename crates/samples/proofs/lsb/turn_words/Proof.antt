@@ -15,6 +15,13 @@ Inv-loop part msb out₀ to p₀ out p = (p ≤ length part) × (length out ≡ 
 abbrev μ-loop : tie.MeasureT-loop
 μ-loop part msb out₀ to p₀ out p = length part - p
 
+-- places, named by what has been done there
+abbrev looping : tie.After-slice-known2 Inv-loop μ-loop → tie.At-loop Inv-loop μ-loop
+looping c = c .before .before .before .before .before .before
+
+abbrev start : tie.After-slice-known2 Inv-loop μ-loop → tie.Start Inv-loop μ-loop
+start c = c .before .before .before .before .before .before .before .before .before
+
 loop-holds : tie.Need-loop-holds Inv-loop μ-loop
 loop-holds c = let a = c .before .before .args in (omega arith, refl, turning-begin (a .msb) false (a .part .now) (a .out .now) (a .to))
 
@@ -22,11 +29,12 @@ loop-again : tie.Need-loop-again Inv-loop μ-loop
 loop-again c =
     let put = c .before .before in
     let read = put .before in
-    let l = c .before .before .before .before .before .before .loop in
-    let a = c .before .before .before .before .before .before .before .before .before .args in (
+    let l = looping c .loop in
+    let a = start c .args in (
       omega arith,
       put .store4 .kept .0 ∙ l .inv .1,
-      turning-one (a .msb) false (a .part .now) (a .out .now) (a .to) (l .out) _ (l .p) _ (omega arith) (read .read4 .ensures) (put .store4 .ensures) (l .inv .2),
+      turning-one (a .msb) false (a .part .now) (a .out .now) (a .to) (l .out) _ (l .p) _ (omega arith) (read .read4 .ensures)
+          (put .store4 .ensures) (l .inv .2),
     )
 
 returns : tie.Need-returns Inv-loop μ-loop

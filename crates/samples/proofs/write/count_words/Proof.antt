@@ -69,7 +69,8 @@ loop-again : tie.Need-loop-again Inv-loop μ-loop
 loop-again c =
     let l = c .before .before .before .loop in
     let n = c .wide .result in
-    let words = ap (λ (s : List Sample). length (encodeFrom radix (l .next) s 0)) (split c) ∙ encode-length radix (lit< tt) (l .next) (n, 0) _ 0 in (
+    let words = ap (λ (s : List Sample). length (encodeFrom radix (l .next) s 0)) (split c)
+    ∙ encode-length radix (lit< tt) (l .next) (n, 0) _ 0 in (
       omega arith,
       omega (arith, runs c, rises c .0),
       omega arith,
@@ -81,8 +82,10 @@ returns-2 : tie.Need-returns-2 Inv-loop μ-loop
 unfolding encodeFrom
 returns-2 c =
     let l = c .before .loop in
-    let e = numbered-end (c .before .before .before .before .args .numbers .now) (l .i) (c .loop-test .left) in
-    (omega (arith, ap (λ (s : List Sample). length (encodeFrom radix (l .next) s 0)) e, ap length (gap-none radix (lit< tt))), omega (arith, l .inv .1, l .inv .2))
+    let e = numbered-end (c .before .before .before .before .args .numbers .now) (l .i) (c .loop-test .left) in (
+      omega (arith, ap (λ (s : List Sample). length (encodeFrom radix (l .next) s 0)) e, ap length (gap-none radix (lit< tt))),
+      omega (arith, l .inv .1, l .inv .2),
+    )
 
 pub count-words-spec : {M : Type 1} → statement M
 count-words-spec =

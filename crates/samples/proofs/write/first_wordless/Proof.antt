@@ -28,7 +28,8 @@ split : (c : tie.After-pattern4 Inv-loop μ-loop) →
 split c =
     let head = c .before .before .before in
     let vs = head .before .args .values .now in
-    rw (pattern-read (getD vs (head .loop .i) (pos 0)) _ (c .before .pattern4-arg .given) (c .pattern4 .ensures)) (valued-next vs (head .loop .i) (omega arith))
+    rw (pattern-read (getD vs (head .loop .i) (pos 0)) _ (c .before .pattern4-arg .given) (c .pattern4 .ensures))
+    (valued-next vs (head .loop .i) (omega arith))
 
 -- the code's test is the definition's
 tested : (c : tie.After-is-bad Inv-loop μ-loop) →

@@ -24,7 +24,8 @@ abbrev μ-loop : tie.MeasureT-loop
 μ-loop out₀ at msb quiet to₀ left₀ out to left = left
 
 -- in a turn a full run is written, and after the loop the remainder
-full : (c : tie.After-store4-arg Inv-loop μ-loop) → let l = c .before .before .loop in gap radix (l .left) ≡ 4294967295 ∷ gap radix (l .left - 65536)
+full : (c : tie.After-store4-arg Inv-loop μ-loop) → let l = c .before .before .loop in
+    gap radix (l .left) ≡ 4294967295 ∷ gap radix (l .left - 65536)
 full c = gap-full radix (lit< tt) (c .before .before .loop .left) (c .before .loop-test .taken)
 
 last : (c : tie.Else1 Inv-loop μ-loop) → let l = c .before .before .loop in gap radix (l .left) ≡ (4294901760 + (l .left - 1)) ∷ []

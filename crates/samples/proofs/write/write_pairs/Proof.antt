@@ -42,7 +42,8 @@ loop-again c =
       omega arith,
       pair-turn (a .numbers .now) (a .values .now) (l .i) (getD (a .numbers .now) (l .i) 0) (omega arith) (omega arith) refl 4 (a .msb)
           (l .out) _ _ (l .to) (l .to + 8) (said .pattern4 .result) (omega arith) (first .store4 .ensures)
-          (pattern-read (getD (a .values .now) (l .i) (pos 0)) _ (said .before .pattern4-arg .given) (said .pattern4 .ensures)) (put .store42 .ensures)
+          (pattern-read (getD (a .values .now) (l .i) (pos 0)) _ (said .before .pattern4-arg .given) (said .pattern4 .ensures))
+          (put .store42 .ensures)
           ∙ l .inv .3,
     )
 
@@ -51,7 +52,8 @@ unfolding unwords unpair
 returns c =
     let l = c .before .loop in
     let a = c .before .before .before .before .args in
-    ap (λ (s : List Sample). sets (l .out) (l .to) (unwords 4 (a .msb) (unpair s))) (sym (paired-end (a .numbers .now) (a .values .now) (l .i) (c .loop-test .left)))
+    ap (λ (s : List Sample). sets (l .out) (l .to) (unwords 4 (a .msb) (unpair s)))
+    (sym (paired-end (a .numbers .now) (a .values .now) (l .i) (c .loop-test .left)))
     ∙ l .inv .3
 
 pub write-pairs-spec : {M : Type 1} → statement M

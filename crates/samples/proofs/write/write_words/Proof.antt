@@ -22,10 +22,15 @@ abbrev Inv-loop : tie.InvT-loop
 Inv-loop ns vs msb out₀ at to₀ next₀ i₀ out to next i =
     (i ≤ length ns) × (length out ≡ length out₀) × Rising next (paired (drop i ns) (drop i vs))
     × (to + 4 * length (encodeFrom radix next (paired (drop i ns) (drop i vs)) 0) ≡ at + 4 * length (fewest radix (paired ns vs)))
-    × (sets out to (unwords 4 msb (encodeFrom radix next (paired (drop i ns) (drop i vs)) 0)) ≡ sets out₀ at (unwords 4 msb (fewest radix (paired ns vs))))
+    × (sets out to (unwords 4 msb (encodeFrom radix next (paired (drop i ns) (drop i vs)) 0))
+    ≡ sets out₀ at (unwords 4 msb (fewest radix (paired ns vs))))
 
 abbrev μ-loop : tie.MeasureT-loop
 μ-loop ns vs msb out₀ at to₀ next₀ i₀ out to next i = length ns - i
+
+-- places, named by what has been done there
+abbrev gap-written : tie.After-slice-known4 Inv-loop μ-loop → tie.After-write-gap Inv-loop μ-loop
+gap-written c = c .before .before .before .before .before .before .before .before
 
 -- ---- a ping without samples
 none : (ns : List ℕ) (vs : List ℤ) → length ns ≡ 0 → paired ns vs ≡ []
@@ -44,13 +49,15 @@ returns c =
     let a = one .before .before .before .args in
     put .store4 .ensures
     ∙ past-word 4 (a .msb) (a .out .now) (a .at) 4294901760 []
-    ∙ ap (λ (s : List Sample). sets (a .out .now) (a .at) (unwords 4 (a .msb) (fewest radix s))) (sym (none (a .numbers .now) (a .values .now) (one .if1 .taken)))
+    ∙ ap (λ (s : List Sample). sets (a .out .now) (a .at) (unwords 4 (a .msb) (fewest radix s)))
+    (sym (none (a .numbers .now) (a .values .now) (one .if1 .taken)))
 
 -- ---- in a turn the samples left are the one at i and those behind it
 rises : (c : tie.After-wide Inv-loop μ-loop) → c .before .before .before .loop .next ≤ c .wide .result
 rises c =
     let head = c .before .before .before in
-    sample-rises _ _ (head .loop .i) (c .wide .result) (omega arith) (omega arith) (c .wide .ensures .0) (head .loop .next) (head .loop .inv .2) .0
+    sample-rises _ _ (head .loop .i) (c .wide .result) (omega arith) (omega arith) (c .wide .ensures .0) (head .loop .next)
+    (head .loop .inv .2) .0
 
 words : (c : tie.After-wide Inv-loop μ-loop) →
     let head = c .before .before .before in
@@ -58,8 +65,10 @@ words : (c : tie.After-wide Inv-loop μ-loop) →
     let a = head .before .before .before .before .args in
     length (encodeFrom radix (l .next) (paired (drop (l .i) (a .numbers .now)) (drop (l .i) (a .values .now))) 0)
     ≡ length (gap radix (c .wide .result - l .next))
-    + suc (length (encodeFrom radix (c .wide .result + 1) (paired (drop (l .i + 1) (a .numbers .now)) (drop (l .i + 1) (a .values .now))) 0))
-words c = let l = c .before .before .before .loop in sample-words _ _ (l .i) (c .wide .result) (omega arith) (omega arith) (c .wide .ensures .0) (l .next) radix (lit< tt)
+    + suc (length (encodeFrom radix (c .wide .result + 1) (paired (drop (l .i + 1) (a .numbers .now)) (drop (l .i + 1) (a .values .now)))
+    0))
+words c = let l = c .before .before .before .loop in
+    sample-words _ _ (l .i) (c .wide .result) (omega arith) (omega arith) (c .wide .ensures .0) (l .next) radix (lit< tt)
 
 loop-holds : tie.Need-loop-holds Inv-loop μ-loop
 loop-holds c =
@@ -86,7 +95,8 @@ store4-requires-2 c κs =
     omega (arith, words (gone .before .before), gone .write-gap .kept .0, gone .write-gap .ensures)
 
 add-to : tie.Need-add-to Inv-loop μ-loop
-add-to c = let gone = c .before .before .before .before .before .before .before .before in omega (arith, words (gone .before .before), gone .write-gap .ensures)
+add-to c = let gone = gap-written c in
+    omega (arith, words (gone .before .before), gone .write-gap .ensures)
 
 loop-again : tie.Need-loop-again Inv-loop μ-loop
 loop-again c =
@@ -102,9 +112,12 @@ loop-again c =
       put .store42 .kept .0 ∙ gone .write-gap .kept .0 ∙ l .inv .1,
       sample-rises _ _ (l .i) n (omega arith) (omega arith) (wide .wide .ensures .0) (l .next) (l .inv .2) .1,
       omega (arith, words wide, gone .write-gap .ensures),
-      sample-turn (a .numbers .now) (a .values .now) (l .i) n (omega arith) (omega arith) (wide .wide .ensures .0) (l .next) radix (lit< tt) 4 (a .msb)
+      sample-turn (a .numbers .now) (a .values .now) (l .i) n (omega arith) (omega arith) (wide .wide .ensures .0) (l .next) radix (lit< tt)
+          4 (a .msb)
           (l .out) _ _ (l .to) (gone .write-gap .result) (said .pattern4 .result)
-          (gone .write-gap .ensures .0) (gone .write-gap .ensures .1) (pattern-read (getD (a .values .now) (l .i) (pos 0)) _ (said .before .pattern4-arg .given) (said .pattern4 .ensures)) (put .store42 .ensures)
+          (gone .write-gap .ensures .0) (gone .write-gap .ensures .1)
+          (pattern-read (getD (a .values .now) (l .i) (pos 0)) _ (said .before .pattern4-arg .given) (said .pattern4 .ensures))
+          (put .store42 .ensures)
           ∙ l .inv .4,
     )
 
@@ -116,7 +129,10 @@ unfolding encodeFrom unwords
 returns-2 c =
     let l = c .before .loop in
     let a = c .before .before .before .before .before .args in
-    ap (λ (ws : List ℕ). sets (l .out) (l .to) (unwords 4 (a .msb) ws)) (sym (ap (λ (s : List Sample). encodeFrom radix (l .next) s 0) (paired-end (a .numbers .now) (a .values .now) (l .i) (c .loop-test .left)) ∙ gap-none radix (lit< tt)))
+    ap (λ (ws : List ℕ). sets (l .out) (l .to) (unwords 4 (a .msb) ws))
+    (sym (ap (λ (s : List Sample). encodeFrom radix (l .next) s 0)
+    (paired-end (a .numbers .now) (a .values .now) (l .i) (c .loop-test .left))
+    ∙ gap-none radix (lit< tt)))
     ∙ l .inv .4
 
 pub write-words-spec : {M : Type 1} → statement M
