@@ -104,8 +104,8 @@ fn width(field: &Placed) -> String {
 
 /// The widths of the signed fields.
 fn widths(numbers: &[Placed]) -> String {
-    let mut widths = vec![String::from("Width")];
-    widths.extend(numbers.iter().filter(|field| field.is_signed()).map(width));
+    let signed = numbers.iter().filter(|field| field.is_signed());
+    let mut widths: Vec<String> = signed.map(width).collect();
     widths.sort_unstable();
     widths.dedup();
     widths.join(", ")

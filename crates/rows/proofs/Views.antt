@@ -13,7 +13,11 @@ use lib.ListN.{length, getD, drop, drop-of-length-le}
 use lib.Seq.{drop-cons}
 use Rattle.rules.specs.Rules.{Rule, _⇒_}
 use Rattle.rules.proofs.Bools.{both-true}
-use Rattle.order.specs.Order.{Bytes}
+use lib.Signed.{mag}
+use mir.Syntax.{Width}
+use mir.Val.{hbits, toZ, ofZ}
+use mir.Facts.{toZ-ofZ}
+use Rattle.order.specs.Order.{patternOf, Bytes}
 use Rattle.layout.specs.declared.Answer.{Answer}
 use Rattle.layout.specs.declared.Answer.the-variants.{Accepted}
 use Rattle.layout.specs.declared.Answer.the-variants as answer
@@ -145,3 +149,10 @@ only-room k o ns t {out} {left} {a} e f g h w =
     (past-false (not (fitting (lengthsOf k) (rowLength k t))) (answer.Refused 9 0) (over ∷ []) bytes out g
     (past-false (ltb (length ns) (countOf k)) (answer.Refused 9 0) (unfit ∷ over ∷ []) bytes out f
     (past-false (not (isRecord k)) (answer.Refused 9 0) (few ∷ unfit ∷ over ∷ []) bytes out e w)))
+
+-- ---- a signed number that a struct holds is found again, and has its own pattern
+pub held-signed : (w : Width) {z y : ℤ} → mag z < 2 ^ hbits w → z ≡ y → toZ w (ofZ w z) ≡ y
+held-signed w f e = toZ-ofZ {w = w} (record { sfits = f }) ∙ e
+
+pub held-pattern : (w : Width) (b : ℕ) (z : ℤ) {n : ℕ} → mag z < 2 ^ hbits w → n ≡ patternOf b (toZ w (ofZ w z)) → n ≡ patternOf b z
+held-pattern w b z f e = e ∙ ap (patternOf b) (toZ-ofZ {w = w} {z = z} (record { sfits = f }))

@@ -5,24 +5,14 @@ use crate::table::{Placed, Record};
 use crate::template::{antt, conversion, is_plain, lines, Values};
 
 const NUMBERS_USES: &str = "\
-use mathlib.Core.Path.{_≡_, ap, _∙_}
 use mathlib.Core.List.{[], _∷_}
-use Prim.Native.Nat.{ℕ, _^_, _<_}
 use borrow.Author.Needs.{needs}
-use lib.IntN.{ℤ}
-use lib.Signed.{mag}
 use mir.Syntax.{$widths$}
-use mir.Val.{hbits, toZ, ofZ}
-use mir.Facts.{toZ-ofZ}
-use Rattle.order.specs.Order.{patternOf}
 use Rattle.layout.specs.Types.{classes, inClass, kindOf, listingOf}
+use Rattle.rows.proofs.Views.{held-pattern}
 ";
 
 const NUMBERS: &str = "\
--- a signed number that a struct holds has its own pattern
-held : (w : Width) (b : ℕ) (z : ℤ) {n : ℕ} → mag z < 2 ^ hbits w → n ≡ patternOf b (toZ w (ofZ w z)) → n ≡ patternOf b z
-held w b z f e = e ∙ ap (patternOf b) (toZ-ofZ {w = w} {z = z} (record { sfits = f }))
-
 -- n0 and so on: the place behind the call on a field; f0 and so on: what the struct tells of a signed field and those behind it
 returns : tie.Need-returns
 unfolding kindOf inClass classes listingOf
@@ -117,5 +107,5 @@ fn entry(i: usize, field: &Placed, call: &str) -> String {
         return format!("n{i} .{call} .ensures i");
     }
     let (width, bytes, name) = (width(field), field.bytes, antt(field));
-    format!("held {width} {bytes} (r .{name}) (f{i} .0 .1) (n{i} .{call} .ensures) i")
+    format!("held-pattern {width} {bytes} (r .{name}) (f{i} .0 .1) (n{i} .{call} .ensures) i")
 }

@@ -6,22 +6,13 @@ use crate::table::{Placed, Record};
 use crate::template::{antt, conversion, lines, Values};
 
 const OF_USES: &str = "\
-use mathlib.Core.Path.{_≡_, _∙_}
-use Prim.Native.Nat.{_^_, _<_}
 use borrow.Author.Needs.{needs}
-use lib.IntN.{ℤ}
-use lib.Signed.{mag}
 use mir.Syntax.{$widths$}
-use mir.Val.{hbits, toZ, ofZ}
-use mir.Facts.{toZ-ofZ}
 use Rattle.layout.specs.Types.{classes, inClass, kindOf, listingOf}
+use Rattle.rows.proofs.Views.{held-signed}
 ";
 
 const OF: &str = "\
--- a signed number is found again where a struct holds it
-held : (w : Width) {z y : ℤ} → mag z < 2 ^ hbits w → z ≡ y → toZ w (ofZ w z) ≡ y
-held w f e = toZ-ofZ {w = w} (record { sfits = f }) ∙ e
-
 -- n0 and so on: the place behind the call on a number
 returns : tie.Need-returns
 unfolding kindOf inClass classes listingOf
@@ -62,7 +53,7 @@ fn fields(numbers: &[Placed]) -> String {
         let number = match field.is_signed() {
             true => {
                 let width = width(field);
-                format!("held {width} (n{i} .{call} .ok) (n{i} .{call} .ensures) i")
+                format!("held-signed {width} (n{i} .{call} .ok) (n{i} .{call} .ensures) i")
             }
             false => format!("n{i} .{call} .ensures i"),
         };

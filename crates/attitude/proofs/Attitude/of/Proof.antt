@@ -1,20 +1,11 @@
 -- Made from views/records.txt by views/make.
 -- `attitude::Attitude::of` meets its contract: each field by its number. Assumes nothing.
-use mathlib.Core.Path.{_≡_, _∙_}
-use Prim.Native.Nat.{_^_, _<_}
 use borrow.Author.Needs.{needs}
-use lib.IntN.{ℤ}
-use lib.Signed.{mag}
-use mir.Syntax.{Width, w16, w32}
-use mir.Val.{hbits, toZ, ofZ}
-use mir.Facts.{toZ-ofZ}
+use mir.Syntax.{w16, w32}
 use Rattle.layout.specs.Types.{classes, inClass, kindOf, listingOf}
+use Rattle.rows.proofs.Views.{held-signed}
 use Rattle.attitude.proofs.Attitude.of.Statement.{statement}
 use Rattle.attitude.proofs.Attitude.of.Tie as tie
-
--- a signed number is found again where a struct holds it
-held : (w : Width) {z y : ℤ} → mag z < 2 ^ hbits w → z ≡ y → toZ w (ofZ w z) ≡ y
-held w f e = toZ-ofZ {w = w} (record { sfits = f }) ∙ e
 
 -- n0 and so on: the place behind the call on a number
 returns : tie.Need-returns
@@ -35,12 +26,12 @@ returns n9 =
       «time_cpu» = n1 .unsigned4 .ensures i;
       «software_channel_identifier» = record { 0 = n2 .unsigned22 .ensures i };
       «platform_referred_to» = n3 .unsigned23 .ensures i;
-      «alongship_offset» = held w16 (n4 .signed2 .ok) (n4 .signed2 .ensures) i;
-      «athwartship_offset» = held w16 (n5 .signed22 .ok) (n5 .signed22 .ensures) i;
-      pitch = held w16 (n6 .signed23 .ok) (n6 .signed23 .ensures) i;
-      roll = held w16 (n7 .signed24 .ok) (n7 .signed24 .ensures) i;
-      heave = held w16 (n8 .signed25 .ok) (n8 .signed25 .ensures) i;
-      «tuple_attribute» = held w32 (n9 .signed4 .ok) (n9 .signed4 .ensures) i;
+      «alongship_offset» = held-signed w16 (n4 .signed2 .ok) (n4 .signed2 .ensures) i;
+      «athwartship_offset» = held-signed w16 (n5 .signed22 .ok) (n5 .signed22 .ensures) i;
+      pitch = held-signed w16 (n6 .signed23 .ok) (n6 .signed23 .ensures) i;
+      roll = held-signed w16 (n7 .signed24 .ok) (n7 .signed24 .ensures) i;
+      heave = held-signed w16 (n8 .signed25 .ok) (n8 .signed25 .ensures) i;
+      «tuple_attribute» = held-signed w32 (n9 .signed4 .ok) (n9 .signed4 .ensures) i;
     }
 
 pub of-spec : {M : Type 1} → statement M

@@ -1,22 +1,12 @@
 -- Made from views/records.txt by views/make.
 -- `channel::Channel::numbers` meets its contract: the fields in order, the signed ones by their patterns. Assumes nothing.
-use mathlib.Core.Path.{_≡_, ap, _∙_}
 use mathlib.Core.List.{[], _∷_}
-use Prim.Native.Nat.{ℕ, _^_, _<_}
 use borrow.Author.Needs.{needs}
-use lib.IntN.{ℤ}
-use lib.Signed.{mag}
-use mir.Syntax.{Width, w16, w32}
-use mir.Val.{hbits, toZ, ofZ}
-use mir.Facts.{toZ-ofZ}
-use Rattle.order.specs.Order.{patternOf}
+use mir.Syntax.{w16, w32}
 use Rattle.layout.specs.Types.{classes, inClass, kindOf, listingOf}
+use Rattle.rows.proofs.Views.{held-pattern}
 use Rattle.channel.proofs.Channel.numbers.Statement.{statement}
 use Rattle.channel.proofs.Channel.numbers.Tie as tie
-
--- a signed number that a struct holds has its own pattern
-held : (w : Width) (b : ℕ) (z : ℤ) {n : ℕ} → mag z < 2 ^ hbits w → n ≡ patternOf b (toZ w (ofZ w z)) → n ≡ patternOf b z
-held w b z f e = e ∙ ap (patternOf b) (toZ-ofZ {w = w} {z = z} (record { sfits = f }))
 
 -- n0 and so on: the place behind the call on a field; f0 and so on: what the struct tells of a signed field and those behind it
 returns : tie.Need-returns
@@ -58,10 +48,10 @@ returns n24 =
     ∷ n5 .of-unsigned24 .ensures i
     ∷ r .«acoustic_frequency»
     ∷ r .«installation_depth_of_transducer»
-    ∷ held w16 2 (r .«alongship_angle_offset_of_the_transducer_face») (f8 .0 .1) (n8 .of-signed2 .ensures) i
-    ∷ held w16 2 (r .«athwartship_angle_offset_of_the_transducer_face») (f9 .0 .1) (n9 .of-signed22 .ensures) i
-    ∷ held w16 2 (r .«alongship_angle_offset_of_the_main_axis_of_the_acoustic_beam») (f10 .0 .1) (n10 .of-signed23 .ensures) i
-    ∷ held w16 2 (r .«athwartship_angle_offset_of_the_main_axis_of_the_acoustic_beam») (f11 .0 .1) (n11 .of-signed24 .ensures) i
+    ∷ held-pattern w16 2 (r .«alongship_angle_offset_of_the_transducer_face») (f8 .0 .1) (n8 .of-signed2 .ensures) i
+    ∷ held-pattern w16 2 (r .«athwartship_angle_offset_of_the_transducer_face») (f9 .0 .1) (n9 .of-signed22 .ensures) i
+    ∷ held-pattern w16 2 (r .«alongship_angle_offset_of_the_main_axis_of_the_acoustic_beam») (f10 .0 .1) (n10 .of-signed23 .ensures) i
+    ∷ held-pattern w16 2 (r .«athwartship_angle_offset_of_the_main_axis_of_the_acoustic_beam») (f11 .0 .1) (n11 .of-signed24 .ensures) i
     ∷ n12 .of-unsigned25 .ensures i
     ∷ n13 .of-unsigned26 .ensures i
     ∷ n14 .of-unsigned27 .ensures i
@@ -69,12 +59,12 @@ returns n24 =
     ∷ n16 .of-unsigned29 .ensures i
     ∷ n17 .of-unsigned210 .ensures i
     ∷ n18 .of-unsigned211 .ensures i
-    ∷ held w16 2 (r .«calibration_receiving_sensitivity») (f19 .0 .1) (n19 .of-signed25 .ensures) i
-    ∷ held w16 2 (r .«receiver_gain») (f20 .0 .1) (n20 .of-signed26 .ensures) i
-    ∷ held w16 2 (r .«bottom_detection_minimum_level») (f21 .0 .1) (n21 .of-signed27 .ensures) i
+    ∷ held-pattern w16 2 (r .«calibration_receiving_sensitivity») (f19 .0 .1) (n19 .of-signed25 .ensures) i
+    ∷ held-pattern w16 2 (r .«receiver_gain») (f20 .0 .1) (n20 .of-signed26 .ensures) i
+    ∷ held-pattern w16 2 (r .«bottom_detection_minimum_level») (f21 .0 .1) (n21 .of-signed27 .ensures) i
     ∷ r .«bottom_window_min»
     ∷ r .«bottom_window_max»
-    ∷ held w32 4 (r .«tuple_attribute») (f24 .0 .1) (n24 .of-signed4 .ensures) i
+    ∷ held-pattern w32 4 (r .«tuple_attribute») (f24 .0 .1) (n24 .of-signed4 .ensures) i
     ∷ []
 
 pub numbers-spec : {M : Type 1} → statement M

@@ -1,20 +1,11 @@
 -- Made from views/records.txt by views/make.
 -- `channel::Channel::of` meets its contract: each field by its number. Assumes nothing.
-use mathlib.Core.Path.{_≡_, _∙_}
-use Prim.Native.Nat.{_^_, _<_}
 use borrow.Author.Needs.{needs}
-use lib.IntN.{ℤ}
-use lib.Signed.{mag}
-use mir.Syntax.{Width, w16, w32}
-use mir.Val.{hbits, toZ, ofZ}
-use mir.Facts.{toZ-ofZ}
+use mir.Syntax.{w16, w32}
 use Rattle.layout.specs.Types.{classes, inClass, kindOf, listingOf}
+use Rattle.rows.proofs.Views.{held-signed}
 use Rattle.channel.proofs.Channel.of.Statement.{statement}
 use Rattle.channel.proofs.Channel.of.Tie as tie
-
--- a signed number is found again where a struct holds it
-held : (w : Width) {z y : ℤ} → mag z < 2 ^ hbits w → z ≡ y → toZ w (ofZ w z) ≡ y
-held w f e = toZ-ofZ {w = w} (record { sfits = f }) ∙ e
 
 -- n0 and so on: the place behind the call on a number
 returns : tie.Need-returns
@@ -54,10 +45,10 @@ returns n24 =
       «transceiver_channel_number» = record { 0 = n5 .unsigned24 .ensures i };
       «acoustic_frequency» = n6 .unsigned43 .ensures i;
       «installation_depth_of_transducer» = n7 .unsigned44 .ensures i;
-      «alongship_angle_offset_of_the_transducer_face» = held w16 (n8 .signed2 .ok) (n8 .signed2 .ensures) i;
-      «athwartship_angle_offset_of_the_transducer_face» = held w16 (n9 .signed22 .ok) (n9 .signed22 .ensures) i;
-      «alongship_angle_offset_of_the_main_axis_of_the_acoustic_beam» = held w16 (n10 .signed23 .ok) (n10 .signed23 .ensures) i;
-      «athwartship_angle_offset_of_the_main_axis_of_the_acoustic_beam» = held w16 (n11 .signed24 .ok) (n11 .signed24 .ensures) i;
+      «alongship_angle_offset_of_the_transducer_face» = held-signed w16 (n8 .signed2 .ok) (n8 .signed2 .ensures) i;
+      «athwartship_angle_offset_of_the_transducer_face» = held-signed w16 (n9 .signed22 .ok) (n9 .signed22 .ensures) i;
+      «alongship_angle_offset_of_the_main_axis_of_the_acoustic_beam» = held-signed w16 (n10 .signed23 .ok) (n10 .signed23 .ensures) i;
+      «athwartship_angle_offset_of_the_main_axis_of_the_acoustic_beam» = held-signed w16 (n11 .signed24 .ok) (n11 .signed24 .ensures) i;
       «absorption_of_sound» = n12 .unsigned25 .ensures i;
       «pulse_length» = n13 .unsigned26 .ensures i;
       bandwidth = n14 .unsigned27 .ensures i;
@@ -65,12 +56,12 @@ returns n24 =
       «beamwidth_3_db_of_the_transducer_beam» = n16 .unsigned29 .ensures i;
       «beam_pattern» = n17 .unsigned210 .ensures i;
       «wide_beam_drop_off» = n18 .unsigned211 .ensures i;
-      «calibration_receiving_sensitivity» = held w16 (n19 .signed25 .ok) (n19 .signed25 .ensures) i;
-      «receiver_gain» = held w16 (n20 .signed26 .ok) (n20 .signed26 .ensures) i;
-      «bottom_detection_minimum_level» = held w16 (n21 .signed27 .ok) (n21 .signed27 .ensures) i;
+      «calibration_receiving_sensitivity» = held-signed w16 (n19 .signed25 .ok) (n19 .signed25 .ensures) i;
+      «receiver_gain» = held-signed w16 (n20 .signed26 .ok) (n20 .signed26 .ensures) i;
+      «bottom_detection_minimum_level» = held-signed w16 (n21 .signed27 .ok) (n21 .signed27 .ensures) i;
       «bottom_window_min» = n22 .unsigned45 .ensures i;
       «bottom_window_max» = n23 .unsigned46 .ensures i;
-      «tuple_attribute» = held w32 (n24 .signed4 .ok) (n24 .signed4 .ensures) i;
+      «tuple_attribute» = held-signed w32 (n24 .signed4 .ok) (n24 .signed4 .ensures) i;
     }
 
 pub of-spec : {M : Type 1} → statement M

@@ -1,20 +1,11 @@
 -- Made from views/records.txt by views/make.
 -- `position::Position::of` meets its contract: each field by its number. Assumes nothing.
-use mathlib.Core.Path.{_≡_, _∙_}
-use Prim.Native.Nat.{_^_, _<_}
 use borrow.Author.Needs.{needs}
-use lib.IntN.{ℤ}
-use lib.Signed.{mag}
-use mir.Syntax.{Width, w16, w32}
-use mir.Val.{hbits, toZ, ofZ}
-use mir.Facts.{toZ-ofZ}
+use mir.Syntax.{w16, w32}
 use Rattle.layout.specs.Types.{classes, inClass, kindOf, listingOf}
+use Rattle.rows.proofs.Views.{held-signed}
 use Rattle.position.proofs.Position.of.Statement.{statement}
 use Rattle.position.proofs.Position.of.Tie as tie
-
--- a signed number is found again where a struct holds it
-held : (w : Width) {z y : ℤ} → mag z < 2 ^ hbits w → z ≡ y → toZ w (ofZ w z) ≡ y
-held w f e = toZ-ofZ {w = w} (record { sfits = f }) ∙ e
 
 -- n0 and so on: the place behind the call on a number
 returns : tie.Need-returns
@@ -28,13 +19,13 @@ returns n6 =
     let n0 = n1 .before in
     λ i.
     record {
-      «time_fraction» = held w16 (n0 .signed2 .ok) (n0 .signed2 .ensures) i;
+      «time_fraction» = held-signed w16 (n0 .signed2 .ok) (n0 .signed2 .ensures) i;
       «time_cpu» = n1 .unsigned4 .ensures i;
       «gps_time» = n2 .unsigned42 .ensures i;
       «positioning_system» = n3 .unsigned2 .ensures i;
-      latitude = held w32 (n4 .signed4 .ok) (n4 .signed4 .ensures) i;
-      longitude = held w32 (n5 .signed42 .ok) (n5 .signed42 .ensures) i;
-      «tuple_attribute» = held w32 (n6 .signed43 .ok) (n6 .signed43 .ensures) i;
+      latitude = held-signed w32 (n4 .signed4 .ok) (n4 .signed4 .ensures) i;
+      longitude = held-signed w32 (n5 .signed42 .ok) (n5 .signed42 .ensures) i;
+      «tuple_attribute» = held-signed w32 (n6 .signed43 .ok) (n6 .signed43 .ensures) i;
     }
 
 pub of-spec : {M : Type 1} → statement M

@@ -1,22 +1,12 @@
 -- Made from views/records.txt by views/make.
 -- `sounder::Sounder::numbers` meets its contract: the fields in order, the signed ones by their patterns. Assumes nothing.
-use mathlib.Core.Path.{_≡_, ap, _∙_}
 use mathlib.Core.List.{[], _∷_}
-use Prim.Native.Nat.{ℕ, _^_, _<_}
 use borrow.Author.Needs.{needs}
-use lib.IntN.{ℤ}
-use lib.Signed.{mag}
-use mir.Syntax.{Width, w16, w32}
-use mir.Val.{hbits, toZ, ofZ}
-use mir.Facts.{toZ-ofZ}
-use Rattle.order.specs.Order.{patternOf}
+use mir.Syntax.{w16, w32}
 use Rattle.layout.specs.Types.{classes, inClass, kindOf, listingOf}
+use Rattle.rows.proofs.Views.{held-pattern}
 use Rattle.sounder.proofs.Sounder.numbers.Statement.{statement}
 use Rattle.sounder.proofs.Sounder.numbers.Tie as tie
-
--- a signed number that a struct holds has its own pattern
-held : (w : Width) (b : ℕ) (z : ℤ) {n : ℕ} → mag z < 2 ^ hbits w → n ≡ patternOf b (toZ w (ofZ w z)) → n ≡ patternOf b z
-held w b z f e = e ∙ ap (patternOf b) (toZ-ofZ {w = w} {z = z} (record { sfits = f }))
 
 -- n0 and so on: the place behind the call on a field; f0 and so on: what the struct tells of a signed field and those behind it
 returns : tie.Need-returns
@@ -43,15 +33,15 @@ returns n12 =
     ∷ r .«echosounder_document_identifier» .0
     ∷ n2 .of-unsigned22 .ensures i
     ∷ n3 .of-unsigned23 .ensures i
-    ∷ held w16 2 (r .«transmitter_attenuation_setting») (f4 .0 .1) (n4 .of-signed2 .ensures) i
+    ∷ held-pattern w16 2 (r .«transmitter_attenuation_setting») (f4 .0 .1) (n4 .of-signed2 .ensures) i
     ∷ n5 .of-unsigned24 .ensures i
-    ∷ held w16 2 (r .«blanking_at_tvg_max_range») (f6 .0 .1) (n6 .of-signed22 .ensures) i
+    ∷ held-pattern w16 2 (r .«blanking_at_tvg_max_range») (f6 .0 .1) (n6 .of-signed22 .ensures) i
     ∷ n7 .of-unsigned25 .ensures i
     ∷ n8 .of-unsigned26 .ensures i
-    ∷ held w16 2 (r .«calibrator_signal») (f9 .0 .1) (n9 .of-signed23 .ensures) i
+    ∷ held-pattern w16 2 (r .«calibrator_signal») (f9 .0 .1) (n9 .of-signed23 .ensures) i
     ∷ n10 .of-unsigned27 .ensures i
     ∷ n11 .of-unsigned28 .ensures i
-    ∷ held w32 4 (r .«tuple_attribute») (f12 .0 .1) (n12 .of-signed4 .ensures) i
+    ∷ held-pattern w32 4 (r .«tuple_attribute») (f12 .0 .1) (n12 .of-signed4 .ensures) i
     ∷ []
 
 pub numbers-spec : {M : Type 1} → statement M

@@ -1,20 +1,11 @@
 -- Made from views/records.txt by views/make.
 -- `sounder::Sounder::of` meets its contract: each field by its number. Assumes nothing.
-use mathlib.Core.Path.{_≡_, _∙_}
-use Prim.Native.Nat.{_^_, _<_}
 use borrow.Author.Needs.{needs}
-use lib.IntN.{ℤ}
-use lib.Signed.{mag}
-use mir.Syntax.{Width, w16, w32}
-use mir.Val.{hbits, toZ, ofZ}
-use mir.Facts.{toZ-ofZ}
+use mir.Syntax.{w16, w32}
 use Rattle.layout.specs.Types.{classes, inClass, kindOf, listingOf}
+use Rattle.rows.proofs.Views.{held-signed}
 use Rattle.sounder.proofs.Sounder.of.Statement.{statement}
 use Rattle.sounder.proofs.Sounder.of.Tie as tie
-
--- a signed number is found again where a struct holds it
-held : (w : Width) {z y : ℤ} → mag z < 2 ^ hbits w → z ≡ y → toZ w (ofZ w z) ≡ y
-held w f e = toZ-ofZ {w = w} (record { sfits = f }) ∙ e
 
 -- n0 and so on: the place behind the call on a number
 returns : tie.Need-returns
@@ -38,15 +29,15 @@ returns n12 =
       «echosounder_document_identifier» = record { 0 = n1 .unsigned4 .ensures i };
       «sound_speed» = n2 .unsigned22 .ensures i;
       «ping_interval» = n3 .unsigned23 .ensures i;
-      «transmitter_attenuation_setting» = held w16 (n4 .signed2 .ok) (n4 .signed2 .ensures) i;
+      «transmitter_attenuation_setting» = held-signed w16 (n4 .signed2 .ok) (n4 .signed2 .ensures) i;
       «multiplexing_mode» = n5 .unsigned24 .ensures i;
-      «blanking_at_tvg_max_range» = held w16 (n6 .signed22 .ok) (n6 .signed22 .ensures) i;
+      «blanking_at_tvg_max_range» = held-signed w16 (n6 .signed22 .ok) (n6 .signed22 .ensures) i;
       «tvg_max_range» = n7 .unsigned25 .ensures i;
       «blanking_up_to_range» = n8 .unsigned26 .ensures i;
-      «calibrator_signal» = held w16 (n9 .signed23 .ok) (n9 .signed23 .ensures) i;
+      «calibrator_signal» = held-signed w16 (n9 .signed23 .ok) (n9 .signed23 .ensures) i;
       «calibrator_mode» = n10 .unsigned27 .ensures i;
       «calibrator_separator» = n11 .unsigned28 .ensures i;
-      «tuple_attribute» = held w32 (n12 .signed4 .ok) (n12 .signed4 .ensures) i;
+      «tuple_attribute» = held-signed w32 (n12 .signed4 .ok) (n12 .signed4 .ensures) i;
     }
 
 pub of-spec : {M : Type 1} → statement M
