@@ -17,28 +17,29 @@ use Rattle.turning.specs.inner.Codes.{codeWidth, codeTakes, fieldNumbers
 use Rattle.turning.proofs.Turned.{two, four, left, field-none, size-step, row-end}
 
 -- ---- what each arm of the code reads: the number of its codes, or none
-abbrev pub Took : ℕ → Bool → List ℕ → List ℕ → ℕ → ℕ → List ℕ → Type 0
-Took k o bs ns next w now =
-    (now ≡ sets ns next (codeNumbers o (fieldOf k) bs)) × ((w ≡ codeWidth (fieldOf k)) × (w ≡ 0 → fieldOf k ≡ none))
+abbrev pub Took : ℕ → Bool → List ℕ → List ℕ → ℕ → ℕ → ℕ → List ℕ → Type 0
+Took k o bs ns next w n now =
+    (now ≡ sets ns next (codeNumbers o (fieldOf k) bs))
+    × (((w ≡ codeWidth (fieldOf k)) × (w ≡ 0 → fieldOf k ≡ none)) × ((n ≡ codeTakes (fieldOf k)) × (n ≤ 1)))
 
 module _ (k next : ℕ) (o : Bool) (bs ns : List ℕ) where
-  pub took2 : (k ≡ 50) ⊎ (k ≡ 115) → (m : ℕ) → m ≡ numOf o (take 2 bs) → Took k o bs ns next 2 (set ns next m)
-  took2 a m e = rw (two a) (ap (set ns next) e, (refl, λ z. absurd (omega (arith, z))))
+  pub took2 : (k ≡ 50) ⊎ (k ≡ 115) → (m : ℕ) → m ≡ numOf o (take 2 bs) → Took k o bs ns next 2 1 (set ns next m)
+  took2 a m e = rw (two a) (ap (set ns next) e, ((refl, λ z. absurd (omega (arith, z))), (refl, omega arith)))
 
-  pub took4 : (k ≡ 52) ⊎ (k ≡ 83) → (m : ℕ) → m ≡ numOf o (take 4 bs) → Took k o bs ns next 4 (set ns next m)
-  took4 a m e = rw (four a) (ap (set ns next) e, (refl, λ z. absurd (omega (arith, z))))
+  pub took4 : (k ≡ 52) ⊎ (k ≡ 83) → (m : ℕ) → m ≡ numOf o (take 4 bs) → Took k o bs ns next 4 1 (set ns next m)
+  took4 a m e = rw (four a) (ap (set ns next) e, ((refl, λ z. absurd (omega (arith, z))), (refl, omega arith)))
 
-  pub took-text : k ≡ 99 → Took k o bs ns next 30 ns
+  pub took-text : k ≡ 99 → Took k o bs ns next 30 0 ns
   unfolding fieldOf
-  took-text a = rw a (refl, (refl, λ z. absurd (omega (arith, z))))
+  took-text a = rw a (refl, ((refl, λ z. absurd (omega (arith, z))), (refl, omega arith)))
 
-  pub took-space : k ≡ 122 → Took k o bs ns next 2 ns
+  pub took-space : k ≡ 122 → Took k o bs ns next 2 0 ns
   unfolding fieldOf
-  took-space a = rw a (refl, (refl, λ z. absurd (omega (arith, z))))
+  took-space a = rw a (refl, ((refl, λ z. absurd (omega (arith, z))), (refl, omega arith)))
 
-  pub took-ident : k ≡ 105 → Took k o bs ns next 2 ns
+  pub took-ident : k ≡ 105 → Took k o bs ns next 2 0 ns
   unfolding fieldOf
-  took-ident a = rw a (refl, (refl, λ z. absurd (omega (arith, z))))
+  took-ident a = rw a (refl, ((refl, λ z. absurd (omega (arith, z))), (refl, omega arith)))
 
 -- ---- one field
 pub numbers-cons : (o : Bool) (f : Field) (fs : List Field) (bs : List ℕ)

@@ -17,7 +17,7 @@ returns-2 c = took4 _ _ _ _ _ (c .before .match .keys2) _ (c .read4 .ensures)
 returns-6 : tie.Need-returns-6
 returns-6 c =
     let r = c .match .rest in
-    rw (no-field (r .0 .0 .0 .0 .1) (r .0 .0 .0 .1) (r .0 .0 .1) (r .0 .1) (r .1)) (refl, (refl, λ e. refl))
+    rw (no-field (r .0 .0 .0 .0 .1) (r .0 .0 .0 .1) (r .0 .0 .1) (r .0 .1) (r .1)) (refl, ((refl, λ e. refl), (refl, omega arith)))
 
 pub read-field-spec : {M : Type 1} → statement M
 read-field-spec =
