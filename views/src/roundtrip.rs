@@ -30,7 +30,7 @@ use Rattle.order.specs.Order.{Bytes}
 use Rattle.layout.specs.declared.Counts.{Counts}
 use Rattle.layout.specs.declared.Answer.{Answer}
 use Rattle.layout.specs.declared.Answer.the-variants.{Accepted}
-use Rattle.layout.specs.Types.{classes, inClass, kindOf, listingOf}
+use Rattle.layout.specs.Types.{listings, among, listingOf}
 use Rattle.rows.specs.Readers.{rowText, charactersAt}
 use Rattle.roundtrip.specs.Held.{Holds}
 use Rattle.roundtrip.proofs.Handed.{again-row, again-plain}
@@ -49,7 +49,7 @@ use Rattle.$module$.specs.$Name$ as $camel$s
 const ALONE: &str = "\
 pub $dashed$-again : (r : $Name$) → $Name$Typed r → {o : Bool} {out left f : List ℕ} {p : ℕ} {n : Counts} {x : $Name$Read}
     → $Name$Written o r out (Accepted n) left → Holds f p o (take (n .written) left) → $Name$At f p x → x ≡ $camel$.Read r
-unfolding kindOf inClass classes listingOf
+unfolding listingOf among listings
 $dashed$-again r g {o = o} w h a =
     let v = again-plain $code$ ($camel$Integers r) [] (lit< tt) g tt refl refl refl o w h in
     a .outcome ∙ ap₂ $camel$s.answered (v .answer) (ap $camel$Of (v .integers) ∙ $dashed$-inverse r)
@@ -73,7 +73,7 @@ const ZEROS: &str = "\
 pub $dashed$-again : (r : $Name$) → $Name$Typed r → {o : Bool} {out left f : List ℕ} {p : ℕ} {n : Counts} {x : $Name$Read}
     → $Name$Written o r out (Accepted n) left → Holds f p o (take (n .written) left) → $Name$At f p x
     → (x ≡ $camel$.Read r (rowText $code$ f p)) × (charactersAt f (rowText $code$ f p) ≡ $zeros$)
-unfolding kindOf inClass classes listingOf
+unfolding listingOf among listings
 $dashed$-again r g {o = o} {f = f} {p = p} w h a =
     let v = again-plain $code$ ($camel$Integers r) $zeros$ (lit< tt) g $bytes$ refl refl refl o w h in
     let fields = ap $camel$Of (v .integers) ∙ $dashed$-inverse r in

@@ -14,7 +14,7 @@ use Rattle.order.specs.Order.{numOf, bytesOf, Bytes}
 use Rattle.order.proofs.Laws.{length-bytesOf, numOf-bytesOf, numOf-bound, bytes-take, bytes-drop, bytes-append, bytes-ordered, bytes-lows}
 use Rattle.layout.specs.declared.Verdict.the-variants.{Fine}
 use Rattle.layout.specs.Answers.{judged}
-use Rattle.layout.specs.Types.{pairs, words, classes, inClass, kindOf, listingOf, pingRow}
+use Rattle.layout.specs.Types.{pairs, words, listings, among, listingOf, pingRow}
 use Rattle.layout.proofs.Verdicts.{passes, passed}
 use Rattle.turning.specs.Rows.{Value, valuesOf, encode, Fit, Lettered}
 use Rattle.turning.proofs.Contents.{values-encode, values-fit, values-take, length-encode, bytes-encode}
@@ -246,7 +246,7 @@ module _ (o : Bool) (t : Tup) (g : Framed t) (long : 30 ≤ length (t .body)) wh
 module _ (c : Ping) (g : Good c) where
   -- with samples
   sound-U : 0 < length (c .samples) → Sound false (tupleU false c)
-  unfolding classes inClass kindOf listingOf
+  unfolding listingOf among listings
   sound-U any =
       let v = tupleU false c in
       let d = dataU false c in
@@ -270,7 +270,7 @@ module _ (c : Ping) (g : Good c) where
       }
 
   item-U : itemOf false (tupleU false c) ≡ some (ping c)
-  unfolding itemOf classes inClass kindOf listingOf
+  unfolding itemOf listingOf among listings
   item-U = ap (λ (p : Ping). some (ping p)) (content-U false c g)
 
   -- without samples
@@ -287,7 +287,7 @@ module _ (c : Ping) (g : Good c) where
     form-C = ap (λ (s : List Sample). record { kind = 10010; body = dataC false c (fewest radix s) }) e
 
     sound-C : Sound false (record { kind = 10010; body = dataC false c one })
-    unfolding classes inClass kindOf listingOf
+    unfolding listingOf among listings
     sound-C =
         let d = dataC false c one in
         let v : Tup = record { kind = 10010; body = d } in
@@ -310,7 +310,7 @@ module _ (c : Ping) (g : Good c) where
         }
 
     item-C : itemOf false (record { kind = 10010; body = dataC false c one }) ≡ some (ping c)
-    unfolding itemOf classes inClass kindOf listingOf
+    unfolding itemOf listingOf among listings
     item-C = ap (λ (p : Ping). some (ping p)) (content-C false c g one below-one (unfold one decodeFrom isRun runLength in sym e))
 
   -- a ping that can be written is kept

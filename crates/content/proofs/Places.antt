@@ -1,35 +1,37 @@
 -- A tuple by its places in the file, as the code reads it: what it says to the others, and what its own rules are asked of.
 -- Assumes nothing.
 use mathlib.Core.Path.{_≡_, refl, sym, ap, ap₂, _∙_}
-use mathlib.Core.Bool.{Bool, true, false, _&&_}
-use mathlib.Core.List.{List}
-use mathlib.Core.Option.{some, none}
+use mathlib.Core.Bool.{Bool, true, false, cond, _&&_, _||_, true≢false}
+use mathlib.Core.List.{List, [], _∷_, _++_, append-assoc}
+use mathlib.Core.Option.{Option, some, none}
 use Prim.Native.Nat.{ℕ, _+_, _-_, _≤_, _<_}
 use native.Mathlib.Omega.{arith}
 use borrow.Author.Tests.{eqb-true, leb-true, lt-leb, ne-eqb}
 use lib.Dec.{leb, eqb}
-use lib.ListN.{length, take, drop, length-drop}
+use lib.ListN.{length, take, drop, length-drop, take-append-drop}
 use lib.Seq.{drop-drop, take-all, length-take-le}
 use Rattle.order.specs.Order.{numOf}
-use Rattle.rules.proofs.Laws.{_⊳_, by-rules}
-use Rattle.layout.specs.declared.Kind.{Kind}
-use Rattle.layout.specs.declared.Kind.the-variants.{Signature, Sounder, Channel, Attitude, Threshold, PingU, PingC, Unlisted}
-use Rattle.layout.specs.Fields.{Field, known, size}
+use Rattle.layout.specs.Fields.{Field, u, known, size}
 use Rattle.layout.specs.Types
-use Rattle.layout.specs.Types.{Shape, indexed, row, pairs, words, unlisted, classes, inClass, kindRules, kindOf, listingOf, shapeOf}
-use Rattle.layout.specs.Types.{lengthsOf, fitting, pingRow}
+use Rattle.layout.specs.Types.{Shape, indexed, row, pairs, words, unlisted, classes, inClass, index, listings, notListed, among, listingOf}
+use Rattle.layout.specs.Types.{Listing, shapeOf, lengthsOf, saysOf, Length, fitting, lengthFrom, pingRow}
+use Rattle.layout.specs.declared.Says.{Says}
+use Rattle.layout.specs.declared.Says.the-variants.{Nothing, Sounder, Channel, Names, NamesOrAll}
+use Rattle.layout.specs.inner.Codes.{fieldsIn}
+use Rattle.layout.proofs.Tables.{alike, lengths-from}
 use Rattle.turning.specs.Rows.{Value, valuesOf}
 use Rattle.turning.proofs.Contents.{valuesAt, values-at, values-take, within-take}
 use Rattle.frame.specs.Frames.{Tup, lengthOf, sizeAt, kindAt, tupAt}
 use Rattle.rules.proofs.Bools.{both-true, and-false, and-true}
 use Rattle.frame.proofs.Places.{Whole, body-place}
-use Rattle.links.specs.Links.{Digest}
+use Rattle.links.specs.Links.{Link, Digest}
 use Rattle.links.specs.Links
 use Rattle.samples.specs.Words.{allWords, pairUp}
 use Rattle.samples.specs.Runs.{radix, decode}
 use Rattle.samples.specs.Judging.{pairRules, wordRules, judgedPairs, judgedWords}
 use Rattle.layout.specs.declared.Verdict.the-variants.{Fine}
 use Rattle.layout.specs.Answers.{judged}
+use Rattle.content.proofs.Fine.{row-size, upward-least}
 use Rattle.content.specs.Pings.{Ping, wordsIn, attributeIn, countIn, contentU, contentC}
 use Rattle.content.specs.Items.{ping, rowIn, itemBy, itemOf, identifiedBy, innerBy, innerRules, numberAt, unless, linkBy, digestOf}
 use Rattle.content.specs.Items.{digestItem, digest}
@@ -42,18 +44,45 @@ Shaped k pairs = k ≡ 10000
 Shaped k words = k ≡ 10010
 Shaped k unlisted = (eqb k 65535 ≡ false) × (eqb k 65534 ≡ false)
 
+-- one test over the listed types
+shapedBy : ℕ → Shape → Bool
+shapedBy k indexed = inClass index k
+shapedBy k (row fs x) = true
+shapedBy k pairs = eqb k 10000
+shapedBy k words = eqb k 10010
+shapedBy k unlisted = true
+
+shaped-by : (k : ℕ) → shapedBy k (shapeOf k) ≡ true
+unfolding shapedBy
+shaped-by = alike (λ k l. shapedBy k (l .shape)) (λ k l. true) (unfold listings in refl) others
+  where
+    others : (k : ℕ) (b : Bool) → inClass index k ≡ b → shapedBy k (notListed b .shape) ≡ true
+    others k true e = e
+    others k false e = refl
+
+-- a code that isn't listed is no listed one
+isListed : Shape → Bool
+isListed indexed = true
+isListed (row fs x) = true
+isListed pairs = true
+isListed words = true
+isListed unlisted = false
+
+no-other : (k c : ℕ) → shapeOf k ≡ unlisted → isListed (shapeOf c) ≡ true → eqb k c ≡ false
+unfolding isListed
+no-other k c s h = ne-eqb k c (λ e. true≢false (sym h ∙ ap (λ (j : ℕ). isListed (shapeOf j)) (sym e) ∙ ap isListed s))
+
 pub shaped : (k : ℕ) → Shaped k (shapeOf k)
-unfolding kindOf listingOf
-shaped k =
-    by-rules (λ (q : Kind). Shaped k (listingOf q .shape)) (kindRules k) Unlisted (
-      λ e. unfold inClass classes in
-          let b = both-true (leb 65406 k) (leb k 65515) e in (leb-true 65406 k (b .0), leb-true k 65515 (b .1)),
-      λ _. (
-        λ _. tt,
-        λ n. (λ _. tt) ⊳ (λ _. tt) ⊳ (λ _. tt) ⊳ (λ _. tt) ⊳ (λ _. tt) ⊳ (λ _. tt) ⊳ (λ _. tt)
-            ⊳ (λ e. eqb-true k 10000 e) ⊳ (λ e. eqb-true k 10010 e) ⊳ (λ _. tt) ⊳ (λ _. tt) ⊳ (λ _. tt, λ m. (n, m)),
-      ),
-    )
+unfolding shapedBy
+shaped k = by (shapeOf k) refl (shaped-by k)
+  where
+    by : (q : Shape) → shapeOf k ≡ q → shapedBy k q ≡ true → Shaped k q
+    by indexed s e = unfold inClass classes in
+        let b = both-true (leb 65406 k) (leb k 65515) e in (leb-true 65406 k (b .0), leb-true k 65515 (b .1))
+    by (row fs x) s e = tt
+    by pairs s e = eqb-true k 10000 e
+    by words s e = eqb-true k 10010 e
+    by unlisted s e = unfold isListed listingOf among listings in (no-other k 65535 s refl, no-other k 65534 s refl)
 
 above : (a b k : ℕ) → b < k → leb a k && leb k b ≡ false
 above a b k h = rw (lt-leb k b h) (and-false (leb a k) refl)
@@ -91,6 +120,38 @@ by-code o t = by-shape (shapeOf (t .kind)) (shaped (t .kind))
 -- the number of w bytes at a place p of the tuple at a place
 abbrev pub fieldAt : Bool → List ℕ → ℕ → ℕ → ℕ → ℕ
 fieldAt o f at w p = numOf o (take w (drop (at + p) f))
+
+-- ---- what a type says is told by the fields that it opens with
+abbrev opening : Says → List Field
+opening Nothing = []
+opening Sounder = u 2 ∷ u 4 ∷ []
+opening Channel = u 2 ∷ u 4 ∷ u 4 ∷ u 2 ∷ []
+opening Names = u 2 ∷ u 4 ∷ u 2 ∷ []
+opening NamesOrAll = u 2 ∷ u 4 ∷ u 2 ∷ []
+
+opens : (k : ℕ) → take (length (opening (saysOf k))) (fieldsIn (shapeOf k)) ≡ opening (saysOf k)
+opens =
+    alike (λ k l. take (length (opening (l .says))) (fieldsIn (l .shape))) (λ k l. opening (l .says)) (unfold listings in refl) others
+  where
+    others : (k : ℕ) (b : Bool) → inClass index k ≡ b
+        → take (length (opening (notListed b .says))) (fieldsIn (notListed b .shape)) ≡ opening (notListed b .says)
+    others k true e = refl
+    others k false e = refl
+
+-- both pings name a channel, and what isn't listed says nothing
+abbrev sayableBy : Shape → Says → Says
+sayableBy indexed a = Nothing
+sayableBy (row fs x) a = a
+sayableBy pairs a = Names
+sayableBy words a = Names
+sayableBy unlisted a = Nothing
+
+sayable : (k : ℕ) → sayableBy (shapeOf k) (saysOf k) ≡ saysOf k
+sayable = alike (λ k l. sayableBy (l .shape) (l .says)) (λ k l. l .says) (unfold listings in refl) others
+  where
+    others : (k : ℕ) (b : Bool) → inClass index k ≡ b → sayableBy (notListed b .shape) (notListed b .says) ≡ notListed b .says
+    others k true e = refl
+    others k false e = refl
 
 -- ---- a whole tuple of n bytes at a place
 module _ (o : Bool) (f : List ℕ) (at n : ℕ) (w : Whole o f at n) where
@@ -150,74 +211,77 @@ module _ (o : Bool) (f : List ℕ) (at n : ℕ) (w : Whole o f at n) where
       let e : length (t .body) - (a + 4) ≡ n - 14 - a = omega (arith, length-body) in
       ap (λ (k : ℕ). allWords 4 o (take k (drop a (t .body)))) e ∙ ap (allWords 4 o) (field-place a (n - 14 - a) (omega arith))
 
-  -- ---- what it says to the others, by its kind
-  k : ℕ
-  k = kindAt o (drop at f)
-
-  -- the digest of a kind's row
-  row-link : (q : Kind) (fs : List Field) → kindOf k ≡ q → listingOf q .shape ≡ row fs none → size (rowIn fs none 0) + 10 ≤ n
-      → digest o t .link ≡ linkBy q (valuesAt o (rowIn fs none 0) f at 6)
-  unfolding itemOf digestOf t k
-  row-link q fs e s h =
-      let vs = valuesOf o (rowIn fs none 0) (t .body) in
-      ap (λ (x : Kind). digestItem (itemBy (listingOf x .shape) o t) .link) e
-      ∙ ap (λ (x : Shape). digestItem (itemBy x o t) .link) s
-      ∙ ap (λ (x : Kind). linkBy x vs) e
-      ∙ ap (linkBy q) (values-place (rowIn fs none 0) h)
-
-  pub link-sounder : kindOf (kindAt o (drop at f)) ≡ Sounder → n ≡ 72
-      → digest o (tupAt o (drop at f)) .link ≡ Links.sounder (record { doc = record { 0 = fieldAt o f at 4 8 }; says = fieldAt o f at 2 6 })
-  unfolding t k listingOf
-  link-sounder e h = row-link Sounder _ e refl (omega arith)
-
-  pub link-channel : kindOf (kindAt o (drop at f)) ≡ Channel → n ≡ 108
-      → digest o (tupAt o (drop at f)) .link
-      ≡ Links.channel (record {
-        id = record { 0 = fieldAt o f at 2 6 };
-        parent = record { 0 = fieldAt o f at 4 8 };
-        rate = fieldAt o f at 4 12;
-        samples = fieldAt o f at 2 16;
-      })
-  unfolding t k listingOf
-  link-channel e h = row-link Channel _ e refl (omega arith)
-
-  pub link-threshold : kindOf (kindAt o (drop at f)) ≡ Threshold → n ≡ 44
-      → digest o (tupAt o (drop at f)) .link ≡ Links.names (record { 0 = fieldAt o f at 2 12 })
-  unfolding t k listingOf
-  link-threshold e h = row-link Threshold _ e refl (omega arith)
-
-  pub link-attitude : kindOf (kindAt o (drop at f)) ≡ Attitude → n ≡ 36
-      → digest o (tupAt o (drop at f)) .link ≡ unless (eqb (fieldAt o f at 2 12) 65535) (Links.names (record { 0 = fieldAt o f at 2 12 }))
-  unfolding t k listingOf
-  link-attitude e h = row-link Attitude _ e refl (omega arith)
-
   -- both pings name the channel of their header
   pub header : 40 ≤ n → numberAt (valuesOf o pingRow (tupAt o (drop at f) .body)) 2 ≡ fieldAt o f at 2 12
   unfolding t
   header h = ap (λ (vs : List Value). numberAt vs 2) (values-place pingRow (omega arith))
 
-  pub link-ping-U : kindOf (kindAt o (drop at f)) ≡ PingU → 40 ≤ n
-      → digest o (tupAt o (drop at f)) .link ≡ Links.names (record { 0 = fieldAt o f at 2 12 })
-  unfolding itemOf digestOf contentU listingOf t
-  link-ping-U e h =
-      ap (λ (x : Kind). digestItem (itemBy (listingOf x .shape) o t) .link) e ∙ ap (λ (c : ℕ). Links.names (record { 0 = c })) (header h)
+  -- ---- what it says to the others stands in its first fields
+  -- by what its type says
+  abbrev pub linkAt : Says → Link
+  linkAt Nothing = Links.none
+  linkAt Sounder = Links.sounder (record { doc = record { 0 = fieldAt o f at 4 8 }; says = fieldAt o f at 2 6 })
+  linkAt Channel =
+      Links.channel (record {
+        id = record { 0 = fieldAt o f at 2 6 };
+        parent = record { 0 = fieldAt o f at 4 8 };
+        rate = fieldAt o f at 4 12;
+        samples = fieldAt o f at 2 16;
+      })
+  linkAt Names = Links.names (record { 0 = fieldAt o f at 2 12 })
+  linkAt NamesOrAll = unless (eqb (fieldAt o f at 2 12) 65535) (Links.names (record { 0 = fieldAt o f at 2 12 }))
 
-  pub link-ping-C : kindOf (kindAt o (drop at f)) ≡ PingC → 40 ≤ n
-      → digest o (tupAt o (drop at f)) .link ≡ Links.names (record { 0 = fieldAt o f at 2 12 })
-  unfolding itemOf digestOf contentC listingOf t
-  link-ping-C e h =
-      ap (λ (x : Kind). digestItem (itemBy (listingOf x .shape) o t) .link) e ∙ ap (λ (c : ℕ). Links.names (record { 0 = c })) (header h)
+  opened : (a : Says) (gs : List Field) → linkBy a (valuesAt o (opening a ++ gs) f at 6) ≡ linkAt a
+  opened Nothing gs = refl
+  opened Sounder gs = refl
+  opened Channel gs = refl
+  opened Names gs = refl
+  opened NamesOrAll gs = refl
+
+  -- a row that begins so
+  row-link : (a : Says) (fs gs : List Field) → take (length (opening a)) fs ≡ opening a → size (fs ++ gs) + 10 ≤ n
+      → linkBy a (valuesOf o (fs ++ gs) (t .body)) ≡ linkAt a
+  unfolding t
+  row-link a fs gs e h =
+      let m = length (opening a) in
+      let b : fs ++ gs ≡ opening a ++ (drop m fs ++ gs) =
+      ap (λ (l : List Field). l ++ gs) (sym (take-append-drop m fs) ∙ ap (λ (l : List Field). l ++ drop m fs) e)
+      ∙ append-assoc (opening a) (drop m fs) gs in
+      ap (linkBy a) (values-place (fs ++ gs) h ∙ ap (λ (l : List Field). valuesAt o l f at 6) b) ∙ opened a (drop m fs ++ gs)
+
+  texted : (a : Says) (fs : List Field) (x : Option ℕ) (j : ℕ) → take (length (opening a)) fs ≡ opening a → size (rowIn fs x j) + 10 ≤ n
+      → linkBy a (valuesOf o (rowIn fs x j) (t .body)) ≡ linkAt a
+  texted a fs none j e h = row-link a fs _ e h
+  texted a fs (some l) j e h = row-link a fs _ e h
+
+  pub link-place : fitting (lengthsOf (kindAt o (drop at f))) n ≡ true
+      → digest o (tupAt o (drop at f)) .link ≡ linkAt (saysOf (kindAt o (drop at f)))
+  unfolding itemOf digestOf contentU contentC t
+  link-place g =
+      let k = kindAt o (drop at f) in
+      by (shapeOf k) refl (saysOf k) refl (opens k) (sayable k) (ap (λ (l : Length). fitting l n) (sym (lengths-from k)) ∙ g)
+    where
+      by : (q : Shape) → shapeOf (kindAt o (drop at f)) ≡ q → (a : Says) → saysOf (kindAt o (drop at f)) ≡ a → take (length (opening a)) (fieldsIn q) ≡ opening a → sayableBy q a ≡ a
+          → fitting (lengthFrom q) n ≡ true → digestItem (itemBy q o t) .link ≡ linkAt a
+      by indexed s a d e y g = ap linkAt y
+      by (row fs x) s a d e y g =
+          let m = length (t .body) in
+          let z : size (rowIn fs x m) ≡ m = row-size fs x m (ap (fitting (lengthFrom (row fs x))) (omega (arith, length-body, w .long)) ∙ g) in
+          ap (λ (b : Says). linkBy b (valuesOf o (rowIn fs x m) (t .body))) d ∙ texted a fs x m e (omega (arith, length-body, w .long))
+      by pairs s a d e y g = ap (λ (c : ℕ). Links.names (record { 0 = c })) (header (upward-least 40 n _ g)) ∙ ap linkAt y
+      by words s a d e y g = ap (λ (c : ℕ). Links.names (record { 0 = c })) (header (upward-least 40 n _ g)) ∙ ap linkAt y
+      by unlisted s a d e y g = ap linkAt y
 
   -- ---- its own rules
   pub fits-place : fitting (lengthsOf (tupAt o (drop at f) .kind)) (lengthOf (tupAt o (drop at f)))
-      ≡ fitting (listingOf (kindOf (kindAt o (drop at f))) .length) n
+      ≡ fitting (lengthsOf (kindAt o (drop at f))) n
   fits-place = ap (fitting (lengthsOf (kindAt o (drop at f)))) length-place
 
-  pub identifier-place : kindOf (kindAt o (drop at f)) ≡ Signature → n ≡ 24
+  pub identifier-place : kindAt o (drop at f) ≡ 65535 → n ≡ 24
       → identifiedBy (shapeOf (kindAt o (drop at f))) o (tupAt o (drop at f)) ≡ known (fieldAt o f at 2 6)
-  unfolding listingOf t
+  unfolding listingOf among listings t
   identifier-place e h =
-      ap (λ (x : Kind). identifiedBy (listingOf x .shape) o t) e
+      ap (λ (k : ℕ). identifiedBy (shapeOf k) o t) e
       ∙ and-true (known (numOf o (take 2 (t .body))))
       ∙ ap (λ (l : List ℕ). known (numOf o l)) (field-place 0 2 (omega arith))
 
@@ -230,76 +294,55 @@ module _ (o : Bool) (f : List ℕ) (at n : ℕ) (w : Whole o f at n) where
   words-C h = let z : n - 14 - 22 ≡ n - 36 = omega arith in
       words-place 22 (omega arith) ∙ ap (λ (i : ℕ). allWords 4 o (take i (drop (at + 28) f))) z
 
-  pub inner-U : kindOf (kindAt o (drop at f)) ≡ PingU → 40 ≤ n
+  pub inner-U : kindAt o (drop at f) ≡ 10000 → 40 ≤ n
       → judged (innerRules o (tupAt o (drop at f))) ≡ judgedPairs o (take (n - 32) (drop (at + 24) f))
-  unfolding listingOf contentU judgedPairs t
+  unfolding listingOf among listings contentU judgedPairs t
   inner-U e h =
-      ap (λ (x : Kind). judged (innerBy (listingOf x .shape) o t)) e ∙ ap (λ (ws : List ℕ). judged (pairRules (pairUp ws))) (words-U h)
+      ap (λ (k : ℕ). judged (innerBy (shapeOf k) o t)) e ∙ ap (λ (ws : List ℕ). judged (pairRules (pairUp ws))) (words-U h)
 
-  pub inner-C : kindOf (kindAt o (drop at f)) ≡ PingC → 40 ≤ n
+  pub inner-C : kindAt o (drop at f) ≡ 10010 → 40 ≤ n
       → judged (innerRules o (tupAt o (drop at f))) ≡ judgedWords o (fieldAt o f at 4 24) (take (n - 36) (drop (at + 28) f))
-  unfolding listingOf judgedWords countIn t
+  unfolding listingOf among listings judgedWords countIn t
   inner-C e h =
-      ap (λ (x : Kind). judged (innerBy (listingOf x .shape) o t)) e
+      ap (λ (k : ℕ). judged (innerBy (shapeOf k) o t)) e
       ∙ ap₂ (λ (i : ℕ) (ws : List ℕ). judged (wordRules i ws)) (ap (numOf o) (field-place 18 4 (omega arith))) (words-C h)
 
   -- and say its samples
-  pub samples-U : kindOf (kindAt o (drop at f)) ≡ PingU → 40 ≤ n
+  pub samples-U : kindAt o (drop at f) ≡ 10000 → 40 ≤ n
       → (q : Ping) × (itemOf o (tupAt o (drop at f)) ≡ some (ping q))
       × (q .samples ≡ pairUp (allWords 4 o (take (n - 32) (drop (at + 24) f))))
-  unfolding listingOf itemOf contentU t
-  samples-U e h = (contentU o (t .body), ap (λ (x : Kind). itemBy (listingOf x .shape) o t) e, ap pairUp (words-U h))
+  unfolding listingOf among listings itemOf contentU t
+  samples-U e h = (contentU o (t .body), ap (λ (k : ℕ). itemBy (shapeOf k) o t) e, ap pairUp (words-U h))
 
-  pub samples-C : kindOf (kindAt o (drop at f)) ≡ PingC → 40 ≤ n
+  pub samples-C : kindAt o (drop at f) ≡ 10010 → 40 ≤ n
       → (q : Ping) × (itemOf o (tupAt o (drop at f)) ≡ some (ping q))
       × (q .samples ≡ decode radix (allWords 4 o (take (n - 36) (drop (at + 28) f))))
-  unfolding listingOf itemOf contentC t
-  samples-C e h = (contentC o (t .body), ap (λ (x : Kind). itemBy (listingOf x .shape) o t) e, ap (decode radix) (words-C h))
+  unfolding listingOf among listings itemOf contentC t
+  samples-C e h = (contentC o (t .body), ap (λ (k : ℕ). itemBy (shapeOf k) o t) e, ap (decode radix) (words-C h))
 
--- ---- codes of no concern to a rule: each is passed over by its code
+-- ---- codes of no concern to a rule
+pub same-arms : {A : Type 0} (b : Bool) (x : A) → cond b x x ≡ x
+same-arms true x = refl
+same-arms false x = refl
+
 module _ (o : Bool) (t : Tup) where
   pub identified-other : (t .kind ≡ 65535 → ⊥) → identifiedBy (shapeOf (t .kind)) o t ≡ true
-  unfolding kindOf listingOf
   identified-other a =
-      by-rules (λ (q : Kind). identifiedBy (listingOf q .shape) o t ≡ true) (kindRules (t .kind)) Unlisted
-      ((λ _. refl) ⊳ (λ e. absurd (a (eqb-true (t .kind) 65535 e))) ⊳ (λ _. refl) ⊳ (λ _. refl) ⊳ (λ _. refl)
-      ⊳ (λ _. refl) ⊳ (λ _. refl) ⊳ (λ _. refl) ⊳ (λ _. refl) ⊳ (λ _. refl) ⊳ (λ _. refl) ⊳ (λ _. refl) ⊳ (λ _. refl)
-      ⊳ (λ _. refl) ⊳ refl)
+      ap (λ (b : Bool). cond b true (identifiedBy (shapeOf (t .kind)) o t)) (sym (ne-eqb (t .kind) 65535 a))
+      ∙ alike (λ k l. cond (eqb k 65535) true (identifiedBy (l .shape) o t)) (λ k l. true) (unfold listings in refl) others (t .kind)
+    where
+      others : (k : ℕ) (b : Bool) → inClass index k ≡ b → cond (eqb k 65535) true (identifiedBy (notListed b .shape) o t) ≡ true
+      others k true e = same-arms (eqb k 65535) true
+      others k false e = same-arms (eqb k 65535) true
+
+  abbrev isSampled : ℕ → Bool
+  isSampled k = eqb k 10000 || eqb k 10010
 
   pub inner-other : (t .kind ≡ 10000 → ⊥) → (t .kind ≡ 10010 → ⊥) → judged (innerRules o t) ≡ Fine
-  unfolding kindOf listingOf
   inner-other a b =
-      by-rules (λ (q : Kind). judged (innerBy (listingOf q .shape) o t) ≡ Fine) (kindRules (t .kind)) Unlisted
-      ((λ _. refl) ⊳ (λ _. refl) ⊳ (λ _. refl) ⊳ (λ _. refl) ⊳ (λ _. refl) ⊳ (λ _. refl) ⊳ (λ _. refl) ⊳ (λ _. refl)
-      ⊳ (λ _. refl) ⊳ (λ e. absurd (a (eqb-true (t .kind) 10000 e))) ⊳ (λ e. absurd (b (eqb-true (t .kind) 10010 e)))
-      ⊳ (λ _. refl) ⊳ (λ _. refl) ⊳ (λ _. refl) ⊳ refl)
-
-  -- codes that name no other tuple
-  pub record Alone : Type 0 where
-    pub sounder : t .kind ≡ 100 → ⊥
-    pub channel : t .kind ≡ 1000 → ⊥
-    pub attitude : t .kind ≡ 40 → ⊥
-    pub threshold : t .kind ≡ 10100 → ⊥
-    pub pingU : t .kind ≡ 10000 → ⊥
-    pub pingC : t .kind ≡ 10010 → ⊥
-
-  alone-kind : Alone → (vs : List Value) → linkBy (kindOf (t .kind)) vs ≡ Links.none
-  unfolding kindOf
-  alone-kind a vs =
-      by-rules (λ (q : Kind). linkBy q vs ≡ Links.none) (kindRules (t .kind)) Unlisted
-      ((λ _. refl) ⊳ (λ _. refl) ⊳ (λ e. absurd (a .sounder (eqb-true (t .kind) 100 e)))
-      ⊳ (λ e. absurd (a .channel (eqb-true (t .kind) 1000 e))) ⊳ (λ _. refl) ⊳ (λ _. refl)
-      ⊳ (λ e. absurd (a .attitude (eqb-true (t .kind) 40 e)))
-      ⊳ (λ e. absurd (a .threshold (eqb-true (t .kind) 10100 e))) ⊳ (λ _. refl) ⊳ (λ _. refl) ⊳ (λ _. refl)
-      ⊳ (λ _. refl) ⊳ (λ _. refl) ⊳ (λ _. refl) ⊳ refl)
-
-  pub link-alone : Alone → digest o t .link ≡ Links.none
-  unfolding itemOf digestOf
-  link-alone a = by-shape (shapeOf (t .kind)) (shaped (t .kind))
+      ap₂ (λ (u c : Bool). cond (u || c) Fine (judged (innerRules o t))) (sym (ne-eqb (t .kind) 10000 a)) (sym (ne-eqb (t .kind) 10010 b))
+      ∙ alike (λ k l. cond (isSampled k) Fine (judged (innerBy (l .shape) o t))) (λ k l. Fine) (unfold listings in refl) others (t .kind)
     where
-      by-shape : (q : Shape) → Shaped (t .kind) q → digestItem (itemBy q o t) .link ≡ Links.none
-      by-shape indexed h = refl
-      by-shape (row fs x) h = alone-kind a (valuesOf o (rowIn fs x (length (t .body))) (t .body))
-      by-shape pairs h = absurd (a .pingU h)
-      by-shape words h = absurd (a .pingC h)
-      by-shape unlisted h = refl
+      others : (k : ℕ) (b : Bool) → inClass index k ≡ b → cond (isSampled k) Fine (judged (innerBy (notListed b .shape) o t)) ≡ Fine
+      others k true e = same-arms (isSampled k) Fine
+      others k false e = same-arms (isSampled k) Fine

@@ -6,12 +6,11 @@ use mathlib.Core.Option.{Option, some, none}
 use lib.Dec.{eqb}
 use lib.ListN.{length, getD}
 use Rattle.rules.specs.Rules.{Rule, _⇒_}
-use Rattle.layout.specs.declared.Kind.{Kind}
-use Rattle.layout.specs.declared.Kind.the-variants.{Signature, Sounder, Channel, Position, Navigation, Attitude, Threshold, Event, PingU}
-use Rattle.layout.specs.declared.Kind.the-variants.{PingC, RunStart, RunEnd, FileEnd, Index, Unlisted}
+use Rattle.layout.specs.declared.Says.{Says}
+use Rattle.layout.specs.declared.Says.the-variants.{Nothing, Sounder, Channel, Names, NamesOrAll}
 use Rattle.layout.specs.Fields.{Field, s, c, size}
 use Rattle.layout.specs.Types
-use Rattle.layout.specs.Types.{Shape, indexed, row, pairs, words, unlisted, kindOf, shapeOf, lengthsOf, fitting, inClass}
+use Rattle.layout.specs.Types.{Shape, indexed, row, pairs, words, unlisted, shapeOf, lengthsOf, saysOf, fitting, inClass}
 use Rattle.layout.specs.Answers.{Breach, _byte_}
 use Rattle.turning.specs.Rows.{Value, number, text, valuesOf, identified}
 use Rattle.frame.specs.Frames.{Tup, lengthOf}
@@ -83,10 +82,10 @@ abbrev pub unless : Bool → Link → Link
 unless true l = Links.none
 unless false l = l
 
--- a sounder tuple: number of channels, document identifier; a channel tuple: software channel, document identifier, sampling rate, type
--- of data sample; a threshold and an attitude: time fraction, time, software channel
-abbrev pub linkBy : Kind → List Value → Link
-linkBy Signature vs = Links.none
+-- by what its type says, of the values of its row: a sounder's number of channels and document identifier; a channel's software channel,
+-- document identifier, sampling rate and type of data sample; the software channel that is named, behind time fraction and time
+abbrev pub linkBy : Says → List Value → Link
+linkBy Nothing vs = Links.none
 linkBy Sounder vs = Links.sounder (record { doc = record { 0 = numberAt vs 1 }; says = numberAt vs 0 })
 linkBy Channel vs =
     Links.channel (record {
@@ -95,18 +94,8 @@ linkBy Channel vs =
       rate = numberAt vs 2;
       samples = numberAt vs 3;
     })
-linkBy Position vs = Links.none
-linkBy Navigation vs = Links.none
-linkBy Attitude vs = unless (eqb (numberAt vs 2) 65535) (Links.names (record { 0 = numberAt vs 2 }))
-linkBy Threshold vs = Links.names (record { 0 = numberAt vs 2 })
-linkBy Event vs = Links.none
-linkBy PingU vs = Links.none
-linkBy PingC vs = Links.none
-linkBy RunStart vs = Links.none
-linkBy RunEnd vs = Links.none
-linkBy FileEnd vs = Links.none
-linkBy Index vs = Links.none
-linkBy Unlisted vs = Links.none
+linkBy Names vs = Links.names (record { 0 = numberAt vs 2 })
+linkBy NamesOrAll vs = unless (eqb (numberAt vs 2) 65535) (Links.names (record { 0 = numberAt vs 2 }))
 
 -- the classes are those of the type code, listed or not
 abbrev pub classed : ℕ → Bool → Bool → Link → Digest
@@ -121,9 +110,9 @@ classed k signs ends l =
       link = l;
     }
 
--- a ping names the channel of its header, behind time fraction and time
+-- a ping's row is its header
 unfoldable pub digestOf : Item → Digest
-digestOf (plain k vs) = classed k (eqb k 65535) (eqb k 65534) (linkBy (kindOf k) vs)
+digestOf (plain k vs) = classed k (eqb k 65535) (eqb k 65534) (linkBy (saysOf k) vs)
 digestOf (ping p) =
     record {
       signs = false;
@@ -132,7 +121,7 @@ digestOf (ping p) =
       sounder = false;
       channel = false;
       ping = true;
-      link = Links.names (record { 0 = numberAt (p .head) 2 });
+      link = linkBy Names (p .head);
     }
 digestOf (raw k d) = classed k false false Links.none
 

@@ -16,7 +16,7 @@ use Rattle.layout.specs.declared.Counts.{Counts}
 use Rattle.layout.specs.declared.Answer.the-variants.{Accepted}
 use Rattle.layout.specs.declared.SoftwareChannel.{SoftwareChannel}
 use Rattle.layout.specs.declared.DocumentId.{DocumentId}
-use Rattle.layout.specs.Types.{classes, inClass, kindOf, listingOf, shapeOf}
+use Rattle.layout.specs.Types.{shapeOf, listings, among, listingOf}
 use Rattle.frame.specs.Frames.{Tup, lengthOf, frame, frames, tupAt}
 use Rattle.frame.specs.Files.{mark, isMsb}
 use Rattle.frame.specs.Tuples.{tuplesOf}
@@ -43,7 +43,7 @@ use Rattle.demands.proofs.Families.{linked-on, some-left, upto-sounders
 -- ---- a listed ping
 -- it has a ping's content
 pub listed-ping : (o : Bool) (t : Tup) → Listed t → (q : Ping) × (itemOf o t ≡ some (ping q))
-unfolding itemOf listingOf kindOf inClass classes
+unfolding itemOf listingOf among listings
 listed-ping o t (inl e) = (contentU o (t .body), ap (λ (k : ℕ). itemBy (shapeOf k) o t) e)
 listed-ping o t (inr e) = (contentC o (t .body), ap (λ (k : ℕ). itemBy (shapeOf k) o t) e)
 

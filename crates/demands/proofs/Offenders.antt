@@ -12,7 +12,7 @@ use lib.ListN.{length}
 use Rattle.rules.specs.Rules.{Rule, _⇒_}
 use Rattle.rules.proofs.Bools.{both-true}
 use Rattle.layout.specs.Answers.{Breach, _byte_}
-use Rattle.layout.specs.Types.{Shape, indexed, row, pairs, words, unlisted, classes, inClass, kindOf, listingOf, shapeOf}
+use Rattle.layout.specs.Types.{Shape, indexed, row, pairs, words, unlisted, shapeOf, listings, among, listingOf}
 use Rattle.frame.specs.Frames.{Tup}
 use Rattle.samples.specs.Words.{Sample}
 use Rattle.samples.specs.Runs.{radix, isBad, firstBad}
@@ -209,11 +209,11 @@ module _ (o : Bool) (t : Tup) where
 
   -- and the other way round
   shape-U : t .kind ≡ 10000 → shapeOf (t .kind) ≡ pairs
-  unfolding listingOf kindOf inClass classes
+  unfolding listingOf among listings
   shape-U k = ap shapeOf k
 
   shape-C : t .kind ≡ 10010 → shapeOf (t .kind) ≡ words
-  unfolding listingOf kindOf inClass classes
+  unfolding listingOf among listings
   shape-C k = ap shapeOf k
 
   -- the rules of words behind the first

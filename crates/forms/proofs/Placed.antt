@@ -10,9 +10,7 @@ use lib.ListN.{length, take, drop}
 use lib.Seq.{drop-drop}
 use Rattle.order.specs.Order.{numOf}
 use Rattle.rules.specs.Rules.{Rule, firstOf}
-use Rattle.layout.specs.declared.Kind.{Kind}
-use Rattle.layout.specs.declared.Kind.the-variants.{Index, Unlisted}
-use Rattle.layout.specs.Types.{Shape, indexed, row, pairs, words, unlisted, classes, inClass, index, kindRules, kindOf, listingOf, shapeOf}
+use Rattle.layout.specs.Types.{Shape, indexed, row, pairs, words, unlisted, classes, inClass, index, listings, among, listingOf, shapeOf}
 use Rattle.layout.proofs.Verdicts.{both-left}
 use Rattle.turning.proofs.Contents.{within-take}
 use Rattle.frame.specs.Frames.{Tup, lengthOf, sizeAt, kindAt, tupAt}
@@ -20,6 +18,7 @@ use Rattle.frame.proofs.Frames.{length-frame, allowed-most}
 use Rattle.frame.proofs.Places.{Whole, body-place}
 use Rattle.content.specs.Pings.{countIn, contentC}
 use Rattle.content.specs.Forms.{formBytes}
+use Rattle.layout.proofs.Tables.{index-shape}
 use Rattle.content.proofs.Places.{Shaped, shaped, fieldAt, length-place}
 use Rattle.intake.specs.inner.Tallies.{Fits, headVerdict, innerVerdict}
 use Rattle.intake.proofs.Judges.{whole, head-fits, own-parts}
@@ -30,14 +29,6 @@ use Rattle.forms.proofs.Formed.{form-index, form-raw, parts-row, long-U
 pub within-index : (k : ℕ) → inClass index k ≡ false → (65406 ≤ k) × (k ≤ 65515) → ⊥
 unfolding inClass classes
 within-index k e h = false≢true (sym e ∙ rw (le-leb 65406 k (h .0), le-leb k 65515 (h .1)))
-
--- the rules of the kinds behind the index class
-abbrev passed : ℕ → List (Rule Kind)
-passed k = drop 1 (kindRules k)
-
-index-shape : (k : ℕ) → inClass index k ≡ true → shapeOf k ≡ indexed
-unfolding kindOf listingOf
-index-shape k e = ap (λ (b : Bool). listingOf (cond b Index (firstOf (passed k) Unlisted)) .shape) e
 
 module _ {o : Bool} {f : List ℕ} {at n k : ℕ} (s : SoundHere o f at n k) where
   abbrev t : Tup
@@ -80,7 +71,7 @@ module _ {o : Bool} {f : List ℕ} {at n k : ℕ} (s : SoundHere o f at n k) whe
 
   -- a U-32 ping
   pub pairs-shape : k ≡ 10000 → shapeOf (kindAt o (drop at f)) ≡ pairs
-  unfolding kindOf inClass classes listingOf
+  unfolding listingOf among listings
   pairs-shape e = shape-of ∙ ap shapeOf e
 
   pub long-pairs : k ≡ 10000 → 40 ≤ n
@@ -89,7 +80,7 @@ module _ {o : Bool} {f : List ℕ} {at n k : ℕ} (s : SoundHere o f at n k) whe
   -- a C-32 ping, by its number of samples c
   module _ (e : k ≡ 10010) where
     pub words-shape : shapeOf (kindAt o (drop at f)) ≡ words
-    unfolding kindOf inClass classes listingOf
+    unfolding listingOf among listings
     words-shape = shape-of ∙ ap shapeOf e
 
     pub long-words : 40 ≤ n

@@ -9,9 +9,9 @@ use native.Mathlib.Omega.{arith}
 use lib.ListN.{length, take, drop, length-drop}
 use lib.Seq.{sets, drop-drop, length-take-le}
 use Rattle.order.specs.Order.{numOf, bytesOf}
-use Rattle.layout.specs.declared.Kind.the-variants.{PingU}
 use Rattle.layout.specs.Fields.{Field, size}
-use Rattle.layout.specs.Types.{row, unlisted, shapeOf, placeIn, pingRow}
+use Rattle.layout.specs.Types.{row, unlisted, shapeOf, pingRow}
+use Rattle.layout.specs.inner.Codes.{placeIn}
 use Rattle.turning.specs.Rows.{turned}
 use Rattle.turning.proofs.Contents.{within-take, turned-take, length-turned}
 use Rattle.frame.specs.Frames.{Tup, frame, sizeAt, tupAt}
@@ -161,7 +161,7 @@ module _ {o : Bool} {f : List ℕ} {at n k : ℕ} (s : SoundHere o f at n k) whe
       ping-written : (j e : ℕ) (m : List ℕ) (q : ℕ) → q ≡ to + 24 + length m
           → formBytes o t ≡ openingBytes false j e (turned o pingRow (t .body)) ++ (m ++ closeBytes false j (attributeIn o (t .body)))
           → left
-          ≡ sets (sets (sets out to (openingBytes false j e (turned o (listedFields (placeIn PingU)) (drop (at + 6) f)))) (to + 24) m) q
+          ≡ sets (sets (sets out to (openingBytes false j e (turned o (listedFields (placeIn 10000)) (drop (at + 6) f)))) (to + 24) m) q
           (closeBytes false j (numOf o (take 4 (drop (at + (n - 8)) f))))
           → left ≡ sets out to (formBytes o (tupAt o (drop at f)))
       ping-written j e m q z b w =
@@ -177,7 +177,7 @@ module _ {o : Bool} {f : List ℕ} {at n k : ℕ} (s : SoundHere o f at n k) whe
     pub pairs-written : k ≡ 10000
         → left
         ≡ sets
-        (sets (sets out to (openingBytes false n 10000 (turned o (listedFields (placeIn PingU)) (drop (at + 6) f)))) (to + 24)
+        (sets (sets out to (openingBytes false n 10000 (turned o (listedFields (placeIn 10000)) (drop (at + 6) f)))) (to + 24)
         (unwords 4 false (allWords 4 o (take (at + (n - 8) - (at + 24)) (drop (at + 24) f))))) (to + (n - 8))
         (closeBytes false n (numOf o (take 4 (drop (at + (n - 8)) f))))
         → left ≡ sets out to (formBytes o (tupAt o (drop at f)))
@@ -201,7 +201,7 @@ module _ {o : Bool} {f : List ℕ} {at n k : ℕ} (s : SoundHere o f at n k) whe
     pub words-written : (e : k ≡ 10010) (j : ℕ) → j ≡ 24 + 8 * fieldAt o f at 4 24 + 8 → 0 < fieldAt o f at 4 24
         → left
         ≡ sets
-        (sets (sets out to (openingBytes false j 10000 (turned o (listedFields (placeIn PingU)) (drop (at + 6) f)))) (to + 24)
+        (sets (sets out to (openingBytes false j 10000 (turned o (listedFields (placeIn 10000)) (drop (at + 6) f)))) (to + 24)
         (unwords 4 false (unpair (decode radix (allWords 4 o (take (at + (n - 8) - (at + 28)) (drop (at + 28) f))))))) (to + (j - 8))
         (closeBytes false j (numOf o (take 4 (drop (at + (n - 8)) f))))
         → left ≡ sets out to (formBytes o (tupAt o (drop at f)))
@@ -221,7 +221,7 @@ module _ {o : Bool} {f : List ℕ} {at n k : ℕ} (s : SoundHere o f at n k) whe
     -- one without samples
     pub silent-written : k ≡ 10010 → fieldAt o f at 4 24 ≡ 0
         → left
-        ≡ sets (sets (sets out to (openingBytes false 40 10010 (turned o (listedFields (placeIn PingU)) (drop (at + 6) f)))) (to + 24)
+        ≡ sets (sets (sets out to (openingBytes false 40 10010 (turned o (listedFields (placeIn 10000)) (drop (at + 6) f)))) (to + 24)
         silence)
         (to + 32)
         (closeBytes false 40 (numOf o (take 4 (drop (at + (n - 8)) f))))

@@ -1,7 +1,6 @@
 // Forms: the normal form of one tuple, measured and written.
 use frame::DATA;
 use layout::FIELDS;
-use layout::Kind;
 use layout::types;
 ghost use mathlib.Core.Path.{_≡_};
 ghost use mathlib.Core.Bool.{false};
@@ -10,7 +9,8 @@ ghost use lib.ListN.{length, take, drop};
 ghost use lib.Seq.{sets};
 ghost use Rattle.order.specs.Order.{numOf};
 ghost use Rattle.layout.specs.Fields.{size};
-ghost use Rattle.layout.specs.Types.{unlisted, kindOf, placeIn, shapeOf};
+ghost use Rattle.layout.specs.Types.{unlisted, listed, shapeOf};
+ghost use Rattle.layout.specs.inner.Codes.{placeIn};
 ghost use Rattle.turning.specs.Rows.{turned};
 ghost use Rattle.frame.specs.Frames.{tupAt};
 ghost use Rattle.frame.specs.inner.Framing.{openingBytes, closeBytes};
@@ -54,7 +54,7 @@ pub fn form_length(file: &[u8], at: usize, msb: bool, whole: usize, code: u16) -
 // Writes the fields of a tuple of a listed type, by its listing. Each arm names its row by a constant, and how many fields it has before
 // its dots: so that the compiler makes plain loads and stores of the loop over it.
 fn turn_listed(file: &[u8], at: usize, msb: bool, listing: usize, out: &mut [u8], to: usize)
-    requires { ⌜ listing < 13 ⌝ }
+    requires { ⌜ listing < listed ⌝ }
     requires { ⌜ at + size (listedFields listing) ≤ length (now file) ⌝ }
     requires { ⌜ to + size (listedFields listing) ≤ length (now out) ⌝ }
     ensures { λ _. ⌜ now (out .exit) ≡ sets (now (out .entry)) to (turned msb (listedFields listing) (drop at (now (file .entry)))) ⌝ }
@@ -87,7 +87,7 @@ fn open_form(
     bytes: usize,
     code: u16,
 )
-    requires { ⌜ listing < 13 ⌝ }
+    requires { ⌜ listing < listed ⌝ }
     requires { ⌜ at + 6 + size (listedFields listing) ≤ length (now file) ⌝ }
     requires { ⌜ to + 6 + size (listedFields listing) ≤ length (now out) ⌝ }
     requires { ⌜ (10 ≤ bytes) × (bytes < 2 ^ 32) ⌝ }
@@ -114,7 +114,7 @@ fn close_form(file: &[u8], from: usize, msb: bool, out: &mut [u8], to: usize, by
 fn text_place(whole: usize, code: u16) -> usize
     requires { ⌜ Rowed code ⌝ }
     requires { ⌜ Fits whole code ⌝ }
-    ensures { λ r. ⌜ r ≡ 6 + size (listedFields (placeIn (kindOf code))) ⌝ }
+    ensures { λ r. ⌜ r ≡ 6 + size (listedFields (placeIn code)) ⌝ }
     ensures { λ r. ⌜ r + 8 ≤ whole ⌝ }
 {
     match code {
@@ -137,7 +137,7 @@ fn write_row(
 )
     requires { ⌜ SoundHere msb (now file) at whole code ⌝ }
     requires { ⌜ Rowed code ⌝ }
-    requires { ⌜ listing ≡ placeIn (kindOf code) ⌝ }
+    requires { ⌜ listing ≡ placeIn code ⌝ }
     requires { ⌜ to + whole ≤ length (now out) ⌝ }
     ensures { λ _. ⌜ now (out .exit) ≡ sets (now (out .entry)) to (formBytes msb (tupAt msb (drop at (now (file .entry))))) ⌝ }
 {
@@ -167,7 +167,7 @@ fn write_u(file: &[u8], at: usize, msb: bool, whole: usize, out: &mut [u8], to: 
     ensures { λ _. ⌜ now (out .exit) ≡ sets (now (out .entry)) to (formBytes msb (tupAt msb (drop at (now (file .entry))))) ⌝ }
 {
     let tail = whole - frame::TAIL;
-    let listing = Kind::PingU.listing();
+    let listing = layout::listing_of(types::PING_U);
     open_form(file, at, msb, listing, out, to, whole, types::PING_U);
     samples::lsb::turn_words(
         &file[at + samples::PAIRS..at + tail],
@@ -195,7 +195,7 @@ fn write_silent(file: &[u8], at: usize, msb: bool, whole: usize, out: &mut [u8],
     ensures { λ _. ⌜ now (out .exit) ≡ sets (now (out .entry)) to (formBytes msb (tupAt msb (drop at (now (file .entry))))) ⌝ }
 {
     let tail = whole - frame::TAIL;
-    let listing = Kind::PingU.listing();
+    let listing = layout::listing_of(types::PING_U);
     open_form(file, at, msb, listing, out, to, SILENT, types::PING_C);
     write_silence(out, to + samples::COUNT);
     close_form(
@@ -226,7 +226,7 @@ fn write_sampled(
 {
     let tail = whole - frame::TAIL;
     let end = to + (bytes - frame::TAIL);
-    let listing = Kind::PingU.listing();
+    let listing = layout::listing_of(types::PING_U);
     open_form(file, at, msb, listing, out, to, bytes, types::PING_U);
     samples::lsb::spread_words(
         &file[at + samples::WORDS..at + tail],
@@ -280,7 +280,7 @@ pub fn write_form(
         write_u(file, at, msb, whole, out, to);
         return whole;
     }
-    let listing = layout::kind_of(code).listing();
+    let listing = layout::listing_of(code);
     if listing == layout::LISTED {
         write_raw(file, at, msb, whole, code, out, to);
         return whole;

@@ -2,7 +2,6 @@
 -- one behind the other. Assumes nothing.
 use mathlib.Core.Path.{_≡_, refl, sym, ap, ap₂, subst, _∙_}
 use mathlib.Core.Bool.{Bool, true, false, not, cond, Bool·beq}
-use mathlib.Core.Logic.{_⊎_, inl, inr, ⊎-elim}
 use mathlib.Core.List.{List, [], _∷_}
 use Prim.Native.Nat.{ℕ, _+_, _-_, _≤_}
 use native.Mathlib.Omega.{arith}
@@ -15,7 +14,11 @@ use Rattle.layout.specs.declared.Verdict.{Verdict}
 use Rattle.layout.specs.declared.Verdict.the-variants.{Fine, Fault}
 use Rattle.layout.specs.Answers.{both, judged, Breach, _byte_}
 use Rattle.layout.specs.Fields.{known}
-use Rattle.layout.specs.Types.{classes, inClass, kindOf, listingOf, shapeOf, fitting}
+use Rattle.layout.specs.declared.Says.{Says}
+use Rattle.layout.specs.declared.Says.the-variants as says
+use Rattle.layout.specs.Types.{listings, among, listingOf, shapeOf, lengthsOf, saysOf, Length, leastOf, exactly, upward, free, fitting}
+use Rattle.layout.specs.Types.{notListed, inClass, index}
+use Rattle.layout.proofs.Tables.{alike}
 use Rattle.layout.proofs.Verdicts.{passes, judged-append}
 use Rattle.frame.specs.Frames.{Tup, kindAt, tupAt, framing}
 use Rattle.rules.proofs.Bools.{both-true}
@@ -31,8 +34,8 @@ use Rattle.links.specs.inner.Tables.{comparing, linking}
 use Rattle.links.proofs.Rows.{told-fine, told-fault}
 use Rattle.samples.specs.Judging.{judgedPairs, judgedWords}
 use Rattle.content.specs.Items.{identifiedBy, headRules, innerRules, unless, digest}
-use Rattle.content.proofs.Places.{by-code, fieldAt, fits-place, identifier-place, identified-other, link-sounder, link-channel}
-use Rattle.content.proofs.Places.{link-threshold, link-attitude, link-ping-U, link-ping-C, link-alone, inner-U, inner-C, inner-other}
+use Rattle.content.proofs.Places.{by-code, fieldAt, fits-place, identifier-place, identified-other, linkAt, link-place}
+use Rattle.content.proofs.Places.{inner-U, inner-C, inner-other}
 use Rattle.intake.specs.declared.Tally.{Tally}
 use Rattle.intake.specs.inner.Tallies.{Tables, soundersBy, channelsBy, Here, Fits, sounderAt, channelAt, namedAt, headVerdict}
 use Rattle.intake.specs.inner.Tallies.{linkVerdict, innerVerdict, ownVerdict, turnVerdict, said, comparesAt, linkTold, turnTold}
@@ -44,17 +47,41 @@ tupIn o f at = tupAt o (drop at f)
 abbrev pub identifiedIn : Bool → List ℕ → ℕ → Bool
 identifiedIn o f at = identifiedBy (shapeOf (kindAt o (drop at f))) o (tupIn o f at)
 
--- the type codes of a ping or a threshold
-abbrev pub Names : ℕ → Type 0
-Names k = (k ≡ 10000) ⊎ ((k ≡ 10010) ⊎ (k ≡ 10100))
-
 -- 7, then 9 and 8, of a tuple of n bytes and type code k
 abbrev pub headBy : Bool → List ℕ → ℕ → ℕ → ℕ → Bool → List (Rule Breach)
 headBy o f at n k first =
     (not (Bool·beq (eqb k 65535) first) ⇒ 7 byte 0)
-    ∷ (not (fitting (listingOf (kindOf k) .length) n) ⇒ 9 byte 0)
+    ∷ (not (fitting (lengthsOf k) n) ⇒ 9 byte 0)
     ∷ (not (identifiedIn o f at) ⇒ 8 byte 0)
     ∷ []
+
+-- what a channel tuple declares is within its least length
+least-fits : (l : Length) (n : ℕ) → fitting l n ≡ true → leastOf l ≤ n
+least-fits (exactly m) n e = omega (arith, eqb-true n m e)
+least-fits (upward m step) n e = leb-true m n (both-true (leb m n) _ e .0)
+least-fits free n e = omega arith
+
+abbrev roomyBy : Says → Length → Bool
+roomyBy says.Nothing l = true
+roomyBy says.Sounder l = true
+roomyBy says.Channel l = leb 18 (leastOf l)
+roomyBy says.Names l = true
+roomyBy says.NamesOrAll l = true
+
+roomy : (k : ℕ) → roomyBy (saysOf k) (lengthsOf k) ≡ true
+roomy = alike (λ k l. roomyBy (l .says) (l .length)) (λ k l. true) (unfold listings in refl) others
+  where
+    others : (k : ℕ) (b : Bool) → inClass index k ≡ b → roomyBy (notListed b .says) (notListed b .length) ≡ true
+    others k true e = refl
+    others k false e = refl
+
+roomy-for : (k n : ℕ) → saysOf k ≡ says.Channel → Fits n k → 18 ≤ n
+roomy-for k n e g =
+    omega (
+      arith,
+      leb-true 18 (leastOf (lengthsOf k)) (ap (λ (a : Says). roomyBy a (lengthsOf k)) (sym e) ∙ roomy k),
+      least-fits (lengthsOf k) n g,
+    )
 
 -- two tests differ
 odd : (a b : Bool) → cond b (not a) a ≡ not (Bool·beq a b)
@@ -79,7 +106,7 @@ module _ {o : Bool} {f : List ℕ} {at n k : ℕ} (h : Here o f at n k) where
   unfolding headVerdict
   head-place first =
       let signs = by-code o t .signs ∙ ap (λ (j : ℕ). eqb j 65535) (h .kind) in
-      let fits = fits-place o f at n whole ∙ ap (λ (j : ℕ). fitting (listingOf (kindOf j) .length) n) (h .kind) in
+      let fits = fits-place o f at n whole ∙ ap (λ (j : ℕ). fitting (lengthsOf j) n) (h .kind) in
       sym (judged-append (signRules first (digest o t)) (headRules o t))
       ∙ ap₂ (λ (a b : Bool). judged ((a ⇒ 7 byte 0) ∷ (not b ⇒ 9 byte 0) ∷ (not (identifiedIn o f at) ⇒ 8 byte 0) ∷ []))
       (ap (λ (a : Bool). cond first (not a) a) signs ∙ odd (eqb k 65535) first) fits
@@ -124,67 +151,53 @@ module _ {o : Bool} {f : List ℕ} {at n k : ℕ} (h : Here o f at n k) where
   unfolding innerVerdict
   no-inner a b = inner-other o t (other a) (other b)
 
-  -- ---- the others by their codes, where the length fits: a code tells the kind, and the kind the length
+  -- ---- where the length fits: by its code,
   module _ (g : Fits n k) where
-    kind-of : {j : ℕ} → k ≡ j → kindOf (kindAt o (drop at f)) ≡ kindOf j
-    kind-of e = ap kindOf (h .kind ∙ e)
+    code-of : {j : ℕ} → k ≡ j → kindAt o (drop at f) ≡ j
+    code-of e = h .kind ∙ e
 
-    length-of : {j : ℕ} → k ≡ j → fitting (listingOf (kindOf j) .length) n ≡ true
+    length-of : {j : ℕ} → k ≡ j → fitting (lengthsOf j) n ≡ true
     length-of e = subst (Fits n) e g
 
     pub long-U : k ≡ 10000 → 40 ≤ n
-    unfolding kindOf inClass classes listingOf
+    unfolding listingOf among listings
     long-U e = leb-true 40 n (both-true (leb 40 n) _ (length-of e) .0)
 
     pub long-C : k ≡ 10010 → 40 ≤ n
-    unfolding kindOf inClass classes listingOf
+    unfolding listingOf among listings
     long-C e = leb-true 40 n (both-true (leb 40 n) _ (length-of e) .0)
 
     pub identifier-read : k ≡ 65535 → identifiedIn o f at ≡ known (fieldAt o f at 2 6)
-    unfolding kindOf inClass classes listingOf
-    identifier-read e = identifier-place o f at n whole (kind-of e) (eqb-true n 24 (length-of e))
+    unfolding listingOf among listings
+    identifier-read e = identifier-place o f at n whole (code-of e) (eqb-true n 24 (length-of e))
 
-    -- what it declares
-    pub sounder-link : k ≡ 100 → digest o (tupIn o f at) .link ≡ Links.sounder (sounderAt o f at)
-    unfolding kindOf inClass classes listingOf
-    sounder-link e = link-sounder o f at n whole (kind-of e) (eqb-true n 72 (length-of e))
+    -- and by what its type says
+    pub link-by : {a : Says} → saysOf k ≡ a → digest o (tupIn o f at) .link ≡ linkAt o f at n whole a
+    link-by e =
+        link-place o f at n whole (subst (Fits n) (sym (h .kind)) g) ∙ ap (λ (j : ℕ). linkAt o f at n whole (saysOf j)) (h .kind)
+        ∙ ap (linkAt o f at n whole) e
 
-    pub channel-whole : k ≡ 1000 → at + 18 ≤ length f
-    unfolding kindOf inClass classes listingOf
-    channel-whole e = omega (arith, eqb-true n 108 (length-of e), whole .fits)
-
-    pub channel-link : k ≡ 1000 → digest o (tupIn o f at) .link ≡ Links.channel (channelAt o f at)
-    unfolding kindOf inClass classes listingOf
-    channel-link e = link-channel o f at n whole (kind-of e) (eqb-true n 108 (length-of e))
+    pub channel-whole : saysOf k ≡ says.Channel → at + 18 ≤ length f
+    channel-whole e = omega (arith, roomy-for k n e g, whole .fits)
 
     -- an attitude of all channels, and of one
-    attitude : {b : Bool} → k ≡ 40 → eqb (namedAt o f at .0) 65535 ≡ b
+    attitude : {b : Bool} → saysOf k ≡ says.NamesOrAll → eqb (namedAt o f at .0) 65535 ≡ b
         → digest o (tupIn o f at) .link ≡ unless b (Links.names (namedAt o f at))
-    unfolding kindOf inClass classes listingOf
-    attitude e d =
-        link-attitude o f at n whole (kind-of e) (eqb-true n 36 (length-of e))
-        ∙ ap (λ (b : Bool). unless b (Links.names (namedAt o f at))) d
-
-    names-link : Names k → digest o (tupIn o f at) .link ≡ Links.names (namedAt o f at)
-    unfolding kindOf inClass classes listingOf
-    names-link =
-        ⊎-elim (λ e. link-ping-U o f at n whole (kind-of e) (long-U e))
-        (⊎-elim (λ e. link-ping-C o f at n whole (kind-of e) (long-C e))
-        (λ e. link-threshold o f at n whole (kind-of e) (eqb-true n 44 (length-of e))))
+    attitude e d = link-by e ∙ ap (λ (b : Bool). unless b (Links.names (namedAt o f at))) d
 
     -- its samples, from behind the header to its last 8 bytes
     pub inner-pairs : k ≡ 10000 → innerVerdict o (tupIn o f at) ≡ judgedPairs o (take (at + n - 8 - (at + 24)) (drop (at + 24) f))
-    unfolding innerVerdict kindOf inClass classes
+    unfolding innerVerdict
     inner-pairs e =
         let z : n - 32 ≡ at + n - 8 - (at + 24) = omega (arith, long-U e) in
-        inner-U o f at n whole (kind-of e) (long-U e) ∙ ap (λ (i : ℕ). judgedPairs o (take i (drop (at + 24) f))) z
+        inner-U o f at n whole (code-of e) (long-U e) ∙ ap (λ (i : ℕ). judgedPairs o (take i (drop (at + 24) f))) z
 
     pub inner-words : k ≡ 10010
         → innerVerdict o (tupIn o f at) ≡ judgedWords o (fieldAt o f at 4 24) (take (at + n - 8 - (at + 28)) (drop (at + 28) f))
-    unfolding innerVerdict kindOf inClass classes
+    unfolding innerVerdict
     inner-words e =
         let z : n - 36 ≡ at + n - 8 - (at + 28) = omega (arith, long-C e) in
-        inner-C o f at n whole (kind-of e) (long-C e) ∙ ap (λ (i : ℕ). judgedWords o (fieldAt o f at 4 24) (take i (drop (at + 28) f))) z
+        inner-C o f at n whole (code-of e) (long-C e) ∙ ap (λ (i : ℕ). judgedWords o (fieldAt o f at 4 24) (take i (drop (at + 28) f))) z
 
 -- ---- what is told of its links where a tally stands, by its code
 module _ {o : Bool} {f : List ℕ} (w : Tally) (c : Tables) {n k : ℕ} (h : Here o f (w .at) n k) where
@@ -197,28 +210,19 @@ module _ {o : Bool} {f : List ℕ} (w : Tally) (c : Tables) {n k : ℕ} (h : Her
   unfolding linking
   alone e = sym (told e)
 
-  pub no-link : (k ≡ 100 → ⊥) → (k ≡ 1000 → ⊥) → (k ≡ 40 → ⊥) → (Names k → ⊥) → Linked 0 ≡ linkTold o f w c
-  no-link s c a m =
-      alone
-      (link-alone o (tupIn o f (w .at))
-      (record {
-        sounder = other h s;
-        channel = other h c;
-        attitude = other h a;
-        threshold = other h (λ e. m (inr (inr e)));
-        pingU = other h (λ e. m (inl e));
-        pingC = other h (λ e. m (inr (inl e)));
-      }))
-
   module _ (g : Fits n k) where
-    pub sounder-told : k ≡ 100 → linking (soundersBy w c) [] (Links.sounder (sounderAt o f (w .at))) ≡ linkTold o f w c
+    pub no-link : saysOf k ≡ says.Nothing → Linked 0 ≡ linkTold o f w c
+    no-link e = alone (link-by h g e)
+
+    pub sounder-told : saysOf k ≡ says.Sounder → linking (soundersBy w c) [] (Links.sounder (sounderAt o f (w .at))) ≡ linkTold o f w c
     unfolding linking
-    sounder-told e = sym (told (sounder-link h g e))
+    sounder-told e = sym (told (link-by h g e))
 
-    pub channel-told : k ≡ 1000 → linking (soundersBy w c) (channelsBy w c) (Links.channel (channelAt o f (w .at))) ≡ linkTold o f w c
-    channel-told e = sym (told (channel-link h g e))
+    pub channel-told : saysOf k ≡ says.Channel
+        → linking (soundersBy w c) (channelsBy w c) (Links.channel (channelAt o f (w .at))) ≡ linkTold o f w c
+    channel-told e = sym (told (link-by h g e))
 
-    pub attitude-all : k ≡ 40 → namedAt o f (w .at) .0 ≡ 65535 → Linked 0 ≡ linkTold o f w c
+    pub attitude-all : saysOf k ≡ says.NamesOrAll → namedAt o f (w .at) .0 ≡ 65535 → Linked 0 ≡ linkTold o f w c
     attitude-all e d = alone (attitude h g e (eq-eqb _ _ d))
 
     -- what names a channel
@@ -227,12 +231,12 @@ module _ {o : Bool} {f : List ℕ} (w : Tally) (c : Tables) {n k : ℕ} (h : Her
     unfolding linking
     named-told e = sym (told e)
 
-    pub attitude-one : k ≡ 40 → (namedAt o f (w .at) .0 ≡ 65535 → ⊥)
+    pub attitude-one : saysOf k ≡ says.NamesOrAll → (namedAt o f (w .at) .0 ≡ 65535 → ⊥)
         → linking [] (channelsBy w c) (Links.names (namedAt o f (w .at))) ≡ linkTold o f w c
     attitude-one e d = named-told (attitude h g e (ne-eqb _ _ d))
 
-    pub names-told : Names k → linking [] (channelsBy w c) (Links.names (namedAt o f (w .at))) ≡ linkTold o f w c
-    names-told e = named-told (names-link h g e)
+    pub names-told : saysOf k ≡ says.Names → linking [] (channelsBy w c) (Links.names (namedAt o f (w .at))) ≡ linkTold o f w c
+    names-told e = named-told (link-by h g e)
 
 -- ---- what is said of the bytes that are left, from the tuple's links on, from its head on, and from its frame on
 abbrev pub fromLinks : Bool → Bool → List Sounder → List Channel → List ℕ → Verdict

@@ -12,10 +12,8 @@ use lib.ListN.{length, drop, getD}
 use Rattle.rules.proofs.Bools.{or-true}
 use Rattle.layout.specs.declared.Counts.{Counts}
 use Rattle.layout.specs.declared.SoftwareChannel.{SoftwareChannel}
-use Rattle.layout.specs.declared.Kind.{Kind}
-use Rattle.layout.specs.declared.Kind.the-variants.{PingU, PingC}
 use Rattle.layout.specs.Answers.{judged}
-use Rattle.layout.specs.Types.{Shape, indexed, row, pairs, words, unlisted, classes, inClass, kindOf, listingOf, shapeOf, fitting}
+use Rattle.layout.specs.Types.{Shape, indexed, row, pairs, words, unlisted, listings, among, listingOf, shapeOf, lengthsOf, fitting}
 use Rattle.layout.proofs.Verdicts.{passes}
 use Rattle.frame.specs.Frames.{kindAt, lenAt, tupAt}
 use Rattle.frame.proofs.Places.{Whole, framing-whole}
@@ -50,7 +48,7 @@ module _ (o : Bool) (f : List ℕ) (w : Tally) (c : Tables) (s : Standing f w) (
   unfolding n
   whole = framing-whole o f (w .at) (g .framed)
 
-  fits : fitting (listingOf (kindOf k) .length) n ≡ true
+  fits : fitting (lengthsOf k) n ≡ true
   unfolding n k
   fits = sym (fits-place o f (w .at) n whole) ∙ not-false _ (passes (headRules o (tupAt o (drop (w .at) f))) (g .judged .head) .0)
 
@@ -61,24 +59,22 @@ module _ (o : Bool) (f : List ℕ) (w : Tally) (c : Tables) (s : Standing f w) (
     pub named : numberAt (it .head) 2 ≡ namedAt o f (w .at) .0
 
   pinged-U : k ≡ 10000 → Pinged
-  unfolding itemOf contentU listingOf kindOf inClass classes k
+  unfolding itemOf contentU listingOf among listings k
   pinged-U e =
-      let q : kindOf k ≡ PingU = ap kindOf e in
-      let long = upward-least 40 n _ (subst (λ (x : Kind). fitting (listingOf x .length) n ≡ true) q fits) in
+      let long = upward-least 40 n _ (subst (λ (j : ℕ). fitting (lengthsOf j) n ≡ true) e fits) in
       record {
         it = contentU o (tupAt o (drop (w .at) f) .body);
-        item = ap (λ (x : Kind). itemBy (listingOf x .shape) o (tupAt o (drop (w .at) f))) q;
+        item = ap (λ (j : ℕ). itemBy (shapeOf j) o (tupAt o (drop (w .at) f))) e;
         named = header o f (w .at) n whole long;
       }
 
   pinged-C : k ≡ 10010 → Pinged
-  unfolding itemOf contentC listingOf kindOf inClass classes k
+  unfolding itemOf contentC listingOf among listings k
   pinged-C e =
-      let q : kindOf k ≡ PingC = ap kindOf e in
-      let long = upward-least 40 n _ (subst (λ (x : Kind). fitting (listingOf x .length) n ≡ true) q fits) in
+      let long = upward-least 40 n _ (subst (λ (j : ℕ). fitting (lengthsOf j) n ≡ true) e fits) in
       record {
         it = contentC o (tupAt o (drop (w .at) f) .body);
-        item = ap (λ (x : Kind). itemBy (listingOf x .shape) o (tupAt o (drop (w .at) f))) q;
+        item = ap (λ (j : ℕ). itemBy (shapeOf j) o (tupAt o (drop (w .at) f))) e;
         named = header o f (w .at) n whole long;
       }
 

@@ -12,10 +12,10 @@ use Rattle.rules.specs.Rules.{_⇒_}
 use Rattle.rules.proofs.Laws.{_⊳_, by-rules}
 use Rattle.rules.proofs.Bools.{both-true}
 use Rattle.layout.specs.declared.Verdict.the-variants.{Fine, Fault}
-use Rattle.layout.specs.declared.Kind.{Kind}
-use Rattle.layout.specs.declared.Kind.the-variants.{Unlisted}
 use Rattle.layout.specs.Answers.{both, judged, _byte_}
-use Rattle.layout.specs.Types.{Shape, indexed, row, pairs, words, unlisted, kindRules, kindOf, shapeOf}
+use Rattle.layout.specs.declared.Says.{Says}
+use Rattle.layout.specs.declared.Says.the-variants as says
+use Rattle.layout.specs.Types.{Shape, indexed, row, pairs, words, unlisted, shapeOf, saysOf}
 use Rattle.layout.proofs.Verdicts.{both-left, both-right, passes, Near, AllNear, near-rules, near-append, near-both, near-fault}
 use Rattle.turning.specs.Rows.{Value, valuesOf}
 use Rattle.frame.specs.Frames.{Tup, allowed, sizeAt, lenAt, tupAt, frameRules, framing}
@@ -152,24 +152,28 @@ quiet-unless : (b : Bool) (l : Link) → Quiet l → Quiet (unless b l)
 quiet-unless true l q = tt
 quiet-unless false l q = q
 
-module _ (o : Bool) (t : Tup) (a : t .kind ≡ 100 → ⊥) (b : t .kind ≡ 1000 → ⊥) where
-  quiet-row : (vs : List Value) → Quiet (linkBy (kindOf (t .kind)) vs)
-  unfolding kindOf
-  quiet-row vs =
-      by-rules (λ (q : Kind). Quiet (linkBy q vs)) (kindRules (t .kind)) Unlisted
-      ((λ _. tt) ⊳ (λ _. tt) ⊳ (λ e. absurd (a (eqb-true (t .kind) 100 e)))
-      ⊳ (λ e. absurd (b (eqb-true (t .kind) 1000 e))) ⊳ (λ _. tt) ⊳ (λ _. tt)
-      ⊳ (λ _. quiet-unless (eqb (numberAt vs 2) 65535) (Links.names (record { 0 = numberAt vs 2 })) tt) ⊳ (λ _. tt)
-      ⊳ (λ _. tt) ⊳ (λ _. tt) ⊳ (λ _. tt) ⊳ (λ _. tt) ⊳ (λ _. tt) ⊳ (λ _. tt) ⊳ tt)
+-- a type that declares nothing
+abbrev pub QuietBy : Says → Type 0
+QuietBy says.Nothing = Unit {0}
+QuietBy says.Sounder = ⊥
+QuietBy says.Channel = ⊥
+QuietBy says.Names = Unit {0}
+QuietBy says.NamesOrAll = Unit {0}
 
-  -- a code that is neither a sounder's nor a channel's
-  pub quiet : Quiet (digest o t .link)
-  unfolding itemOf digestOf
-  quiet = by-shape (shapeOf (t .kind))
-    where
-      by-shape : (q : Shape) → Quiet (digestItem (itemBy q o t) .link)
-      by-shape indexed = tt
-      by-shape (row fs x) = quiet-row (valuesOf o (rowIn fs x (length (t .body))) (t .body))
-      by-shape pairs = tt
-      by-shape words = tt
-      by-shape unlisted = tt
+quiet-row : (a : Says) → QuietBy a → (vs : List Value) → Quiet (linkBy a vs)
+quiet-row says.Nothing q vs = tt
+quiet-row says.Sounder q vs = absurd q
+quiet-row says.Channel q vs = absurd q
+quiet-row says.Names q vs = tt
+quiet-row says.NamesOrAll q vs = quiet-unless (eqb (numberAt vs 2) 65535) (Links.names (record { 0 = numberAt vs 2 })) tt
+
+pub quiet : (o : Bool) (t : Tup) → QuietBy (saysOf (t .kind)) → Quiet (digest o t .link)
+unfolding itemOf digestOf
+quiet o t q = by-shape (shapeOf (t .kind))
+  where
+    by-shape : (h : Shape) → Quiet (digestItem (itemBy h o t) .link)
+    by-shape indexed = tt
+    by-shape (row fs x) = quiet-row (saysOf (t .kind)) q (valuesOf o (rowIn fs x (length (t .body))) (t .body))
+    by-shape pairs = tt
+    by-shape words = tt
+    by-shape unlisted = tt

@@ -2,6 +2,7 @@
 use layout::Answer;
 use layout::Counts;
 use layout::DocumentId;
+use layout::Says;
 use layout::SoftwareChannel;
 use layout::Verdict;
 use layout::codes;
@@ -41,7 +42,7 @@ const SAMPLE_TYPE: usize = 16;
 
 const NAMED_CHANNEL: usize = 12;
 
-// In an attitude this means all channels.
+// Where all may be named, as in an attitude, this means all channels.
 const ALL_CHANNELS: u16 = 65535;
 
 // What asking gives: both identifiers and both tuples' places, the channel's sampling rate and type of data sample, and what the
@@ -92,7 +93,7 @@ fn judge_head(file: &[u8], at: usize, msb: bool, whole: usize, code: u16, first:
     if signs != first {
         return layout::fault(codes::MISPLACED_SIGNATURE);
     }
-    if !layout::kind_of(code).fits(whole) {
+    if !layout::fits(code, whole) {
         return layout::fault(codes::UNFIT);
     }
     if code != types::SIGNATURE {
@@ -154,23 +155,23 @@ fn judge_links(
     ensures { λ r. ⌜ r ≡ linkTold msb (now (file .entry)) w (tables (now (sounders .entry)) (now (channels .entry))) ⌝ }
 {
     let at = w.at;
-    match code {
-        types::SOUNDER => { links::judge_sounder(sounders, w.sounders, sounder_at(file, at, msb)) }
-        types::CHANNEL => {
+    match layout::says_of(code) {
+        Says::Nothing => LinkVerdict::Linked { compared: 0 },
+        Says::Sounder => { links::judge_sounder(sounders, w.sounders, sounder_at(file, at, msb)) }
+        Says::Channel => {
             let it = channel_at(file, at, msb);
             links::judge_channel(sounders, w.sounders, channels, w.channels, it)
         }
-        types::ATTITUDE => {
+        Says::NamesOrAll => {
             let id = named_at(file, at, msb);
             if id.0 == ALL_CHANNELS {
                 return LinkVerdict::Linked { compared: 0 };
             }
             links::judge_name(channels, w.channels, id, w.near, notes)
         }
-        types::THRESHOLD | types::PING_U | types::PING_C => {
+        Says::Names => {
             links::judge_name(channels, w.channels, named_at(file, at, msb), w.near, notes)
         }
-        _ => LinkVerdict::Linked { compared: 0 },
     }
 }
 
@@ -363,22 +364,29 @@ fn turn(
             let whole = frame::length_at(file, at, msb);
             let code = frame::kind_at(file, at, msb);
             let mut next = w.past(whole, code, compared);
-            if code == types::SOUNDER {
-                links::put_sounder(sounders, w.sounders, sounder_at(file, at, msb), at);
-                next.sounders = w.sounders + 1;
-                return Turned::On(next);
+            match layout::says_of(code) {
+                Says::Names => Turned::On(next),
+                Says::NamesOrAll => Turned::On(next),
+                Says::Nothing => {
+                    if code == types::FILE_END {
+                        return Turned::Done(end(file, next, sounders, channels));
+                    }
+                    Turned::On(next)
+                }
+                Says::Sounder => {
+                    let it = sounder_at(file, at, msb);
+                    links::put_sounder(sounders, w.sounders, it, at);
+                    next.sounders = w.sounders + 1;
+                    Turned::On(next)
+                }
+                Says::Channel => {
+                    let it = channel_at(file, at, msb);
+                    links::put_channel(channels, w.channels, it, at);
+                    links::note_row(notes, it.id, w.channels);
+                    next.channels = w.channels + 1;
+                    Turned::On(next)
+                }
             }
-            if code == types::CHANNEL {
-                let it = channel_at(file, at, msb);
-                links::put_channel(channels, w.channels, it, at);
-                links::note_row(notes, it.id, w.channels);
-                next.channels = w.channels + 1;
-                return Turned::On(next);
-            }
-            if code == types::FILE_END {
-                return Turned::Done(end(file, next, sounders, channels));
-            }
-            Turned::On(next)
         }
     }
 }

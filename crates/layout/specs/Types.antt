@@ -1,15 +1,13 @@
--- The type codes: classes, listed types, their lengths and their rows. Assumes nothing.
+-- The type codes: classes; the listed types, with their lengths, their rows and what they say to other tuples. Assumes nothing.
 use Prim.Native.Nat.{ℕ, _-_, _%_, _+_}
-use mathlib.Core.Bool.{Bool, true, _&&_}
+use mathlib.Core.Bool.{Bool, true, false, cond, _&&_}
 use mathlib.Core.List.{List, [], _∷_}
 use mathlib.Core.Option.{Option, some, none}
 use lib.Dec.{leb, eqb}
 use lib.ListN.{getD}
-use Rattle.rules.specs.Rules.{Rule, _⇒_, firstOf}
 use Rattle.layout.specs.Fields.{Field, u, s, c, z, ident, size}
-use Rattle.layout.specs.declared.Kind.{Kind}
-use Rattle.layout.specs.declared.Kind.the-variants.{Signature, Sounder, Channel, Position, Navigation, Attitude, Threshold, Event}
-use Rattle.layout.specs.declared.Kind.the-variants.{PingU, PingC, RunStart, RunEnd, FileEnd, Index, Unlisted}
+use Rattle.layout.specs.declared.Says.{Says}
+use Rattle.layout.specs.declared.Says.the-variants.{Nothing, Sounder, Channel, Names, NamesOrAll}
 
 -- ---- classes by type code: position, sounder, channel, ping, index
 unfoldable pub classes : List (List ℕ)
@@ -34,29 +32,6 @@ index = 4
 unfoldable pub inClass : ℕ → ℕ → Bool
 inClass class k = let bounds = getD classes class [] in leb (getD bounds 0 0) k && leb k (getD bounds 1 0)
 
--- ---- listed types
-abbrev pub kindRules : ℕ → List (Rule Kind)
-kindRules k =
-    (inClass index k ⇒ Index)
-    ∷ (eqb k 65535 ⇒ Signature)
-    ∷ (eqb k 100 ⇒ Sounder)
-    ∷ (eqb k 1000 ⇒ Channel)
-    ∷ (eqb k 20 ⇒ Position)
-    ∷ (eqb k 30 ⇒ Navigation)
-    ∷ (eqb k 40 ⇒ Attitude)
-    ∷ (eqb k 10100 ⇒ Threshold)
-    ∷ (eqb k 10110 ⇒ Event)
-    ∷ (eqb k 10000 ⇒ PingU)
-    ∷ (eqb k 10010 ⇒ PingC)
-    ∷ (eqb k 65516 ⇒ RunStart)
-    ∷ (eqb k 65517 ⇒ RunEnd)
-    ∷ (eqb k 65534 ⇒ FileEnd)
-    ∷ []
-
--- what a type code stands for; all others are unlisted
-unfoldable pub kindOf : ℕ → Kind
-kindOf k = firstOf (kindRules k) Unlisted
-
 -- ---- lengths
 -- one length; the least length, and by what step it may be longer; any length
 pub data Length : Type 0 where
@@ -69,8 +44,8 @@ fitting (exactly n) m = eqb m n
 fitting (upward least step) m = leb least m && eqb ((m - least) % step) 0
 fitting free m = true
 
--- ---- rows
--- what the data of a kind hold before the attribute: fields, then characters where `some` says how many at least; a U-32 ping's
+-- ---- shapes
+-- what the data of a type hold before the attribute: fields, then characters where `some` says how many at least; a U-32 ping's
 -- header and pairs; a C-32 ping's header, number of samples and words
 pub data Shape : Type 0 where
   indexed : Shape
@@ -79,72 +54,81 @@ pub data Shape : Type 0 where
   words : Shape
   unlisted : Shape
 
--- what is listed of a kind: its lengths and its shape
-pub record Listing : Type 0 where
-  pub length : Length
-  pub shape : Shape
-
-abbrev pub listing : Length → Shape → Listing
-listing n h = record { length = n; shape = h }
-
 -- the header of both pings
 abbrev pub pingRow : List Field
 pingRow = u 2 ∷ u 4 ∷ u 2 ∷ u 2 ∷ u 4 ∷ s 4 ∷ []
 
--- one row for each type, each row the widths in order
-unfoldable pub listingOf : Kind → Listing
-listingOf Signature = listing (exactly 24) (row (ident ∷ u 2 ∷ u 2 ∷ u 4 ∷ []) none)
-listingOf Sounder =
-    listing (exactly 72) (row (u 2 ∷ u 4 ∷ u 2 ∷ u 2 ∷ s 2 ∷ u 2 ∷ s 2 ∷ u 2 ∷ u 2 ∷ s 2 ∷ u 2 ∷ u 2 ∷ c 30 ∷ z 2 ∷ []) none)
-listingOf Channel =
-    listing (exactly 108)
+-- ---- listed types
+-- what is listed of a type: its lengths, its shape, and what its tuples say to the others
+pub record Listing : Type 0 where
+  pub length : Length
+  pub shape : Shape
+  pub says : Says
+
+abbrev pub listing : Length → Shape → Says → Listing
+listing n h a = record { length = n; shape = h; says = a }
+
+-- a listed type: its code, and what is listed of it
+pub record Listed : Type 0 where
+  pub code : ℕ
+  pub listing : Listing
+
+abbrev pub type : ℕ → Length → Shape → Says → Listed
+type k n h a = record { code = k; listing = listing n h a }
+
+-- the one list: signature, echosounder, channel, position, navigation, attitude, threshold, event marker, both pings, start and end of
+-- run, end of file. One row for each type, each row the widths in order
+unfoldable pub listings : List Listed
+listings =
+    type 65535 (exactly 24) (row (ident ∷ u 2 ∷ u 2 ∷ u 4 ∷ []) none) Nothing
+    ∷ type 100 (exactly 72)
+    (row (u 2 ∷ u 4 ∷ u 2 ∷ u 2 ∷ s 2 ∷ u 2 ∷ s 2 ∷ u 2 ∷ u 2 ∷ s 2 ∷ u 2 ∷ u 2 ∷ c 30 ∷ z 2 ∷ []) none) Sounder
+    ∷ type 1000 (exactly 108)
     (row
     (u 2 ∷ u 4 ∷ u 4 ∷ u 2 ∷ u 2 ∷ u 2 ∷ z 2 ∷ u 4 ∷ u 4 ∷ s 2 ∷ s 2 ∷ s 2 ∷ s 2 ∷ u 2 ∷ u 2 ∷ u 2 ∷ u 2 ∷ u 2 ∷ u 2 ∷ u 2 ∷ s 2 ∷ s 2 ∷ s 2
     ∷ u 4 ∷ u 4 ∷ c 30 ∷ z 2 ∷ [])
-    none)
-listingOf Position = listing (exactly 36) (row (s 2 ∷ u 4 ∷ u 4 ∷ u 2 ∷ z 2 ∷ s 4 ∷ s 4 ∷ []) none)
-listingOf Navigation = listing (exactly 28) (row (u 2 ∷ u 4 ∷ u 2 ∷ s 2 ∷ u 2 ∷ z 2 ∷ []) none)
-listingOf Attitude = listing (exactly 36) (row (u 2 ∷ u 4 ∷ u 2 ∷ u 2 ∷ s 2 ∷ s 2 ∷ s 2 ∷ s 2 ∷ s 2 ∷ z 2 ∷ []) none)
-listingOf Threshold = listing (exactly 44) (row (u 2 ∷ u 4 ∷ u 2 ∷ u 2 ∷ u 2 ∷ u 2 ∷ u 2 ∷ u 2 ∷ u 4 ∷ u 4 ∷ u 4 ∷ []) none)
-listingOf Event = listing (upward 24 4) (row (u 2 ∷ u 4 ∷ []) (some 4))
-listingOf PingU = listing (upward 40 8) pairs
-listingOf PingC = listing (upward 40 4) words
-listingOf RunStart = listing (exactly 20) (row (u 2 ∷ u 4 ∷ []) none)
-listingOf RunEnd = listing (exactly 20) (row (u 2 ∷ u 4 ∷ []) none)
-listingOf FileEnd = listing (upward 24 4) (row (u 2 ∷ u 4 ∷ u 2 ∷ []) (some 2))
-listingOf Index = listing free indexed
-listingOf Unlisted = listing free unlisted
+    none) Channel
+    ∷ type 20 (exactly 36) (row (s 2 ∷ u 4 ∷ u 4 ∷ u 2 ∷ z 2 ∷ s 4 ∷ s 4 ∷ []) none) Nothing
+    ∷ type 30 (exactly 28) (row (u 2 ∷ u 4 ∷ u 2 ∷ s 2 ∷ u 2 ∷ z 2 ∷ []) none) Nothing
+    ∷ type 40 (exactly 36) (row (u 2 ∷ u 4 ∷ u 2 ∷ u 2 ∷ s 2 ∷ s 2 ∷ s 2 ∷ s 2 ∷ s 2 ∷ z 2 ∷ []) none) NamesOrAll
+    ∷ type 10100 (exactly 44) (row (u 2 ∷ u 4 ∷ u 2 ∷ u 2 ∷ u 2 ∷ u 2 ∷ u 2 ∷ u 2 ∷ u 4 ∷ u 4 ∷ u 4 ∷ []) none) Names
+    ∷ type 10110 (upward 24 4) (row (u 2 ∷ u 4 ∷ []) (some 4)) Nothing
+    ∷ type 10000 (upward 40 8) pairs Names
+    ∷ type 10010 (upward 40 4) words Names
+    ∷ type 65516 (exactly 20) (row (u 2 ∷ u 4 ∷ []) none) Nothing
+    ∷ type 65517 (exactly 20) (row (u 2 ∷ u 4 ∷ []) none) Nothing
+    ∷ type 65534 (upward 24 4) (row (u 2 ∷ u 4 ∷ u 2 ∷ []) (some 2)) Nothing
+    ∷ []
 
--- a type code's own
+-- how many they are
+abbrev pub listed : ℕ
+listed = 13
+
+-- the others, of the index class and not
+abbrev pub notListed : Bool → Listing
+notListed true = listing free indexed Nothing
+notListed false = listing free unlisted Nothing
+
+-- what some types say of a code; d where none has it
+unfoldable pub among : ℕ → List Listed → Listing → Listing
+among k [] d = d
+among k (l ∷ ls) d = cond (eqb k (l .code)) (l .listing) (among k ls d)
+
+-- what a type code stands for
+unfoldable pub listingOf : ℕ → Listing
+listingOf k = among k listings (notListed (inClass index k))
+
+-- its own parts
 abbrev pub shapeOf : ℕ → Shape
-shapeOf k = listingOf (kindOf k) .shape
+shapeOf k = listingOf k .shape
 
 abbrev pub lengthsOf : ℕ → Length
-lengthsOf k = listingOf (kindOf k) .length
+lengthsOf k = listingOf k .length
 
--- ---- the code's tables
--- the listed kinds in the tables' order, and the place of each there
-unfoldable pub listed : List Kind
-listed =
-    Signature ∷ Sounder ∷ Channel ∷ Position ∷ Navigation ∷ Attitude ∷ Threshold ∷ Event ∷ PingU ∷ PingC ∷ RunStart ∷ RunEnd ∷ FileEnd ∷ []
+abbrev pub saysOf : ℕ → Says
+saysOf k = listingOf k .says
 
-abbrev pub placeIn : Kind → ℕ
-placeIn Signature = 0
-placeIn Sounder = 1
-placeIn Channel = 2
-placeIn Position = 3
-placeIn Navigation = 4
-placeIn Attitude = 5
-placeIn Threshold = 6
-placeIn Event = 7
-placeIn PingU = 8
-placeIn PingC = 9
-placeIn RunStart = 10
-placeIn RunEnd = 11
-placeIn FileEnd = 12
-placeIn Index = 13
-placeIn Unlisted = 13
-
+-- ---- lengths by shapes
 -- the lengths of a shape: size, type, fields, attribute and backlink; and the characters, the pairs or the words, one at least
 abbrev pub lengthFrom : Shape → Length
 lengthFrom indexed = free
@@ -153,3 +137,14 @@ lengthFrom (row fs (some n)) = upward (size fs + 14 + n) 4
 lengthFrom pairs = upward (size pingRow + 14 + 8) 8
 lengthFrom words = upward (size pingRow + 4 + 14 + 4) 4
 lengthFrom unlisted = free
+
+-- the least length, and by what step it may be longer: 0 for a type of one length
+abbrev pub leastOf : Length → ℕ
+leastOf (exactly n) = n
+leastOf (upward n step) = n
+leastOf free = 0
+
+abbrev pub stepOf : Length → ℕ
+stepOf (exactly n) = 0
+stepOf (upward n step) = step
+stepOf free = 0

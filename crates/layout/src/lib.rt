@@ -1,5 +1,5 @@
-// The listed types as constant tables: their codes, classes, lengths and rows. The three kinds of identifier. What is said of a
-// tuple and of a call.
+// The listed types as constant tables: their codes, classes, lengths, rows and what they say to other tuples. The three kinds of
+// identifier. What is said of a tuple and of a call.
 pub mod codes;
 pub mod types;
 
@@ -9,8 +9,8 @@ ghost use mathlib.Core.List.{[]};
 ghost use lib.ListN.{getD};
 ghost use Rattle.layout.specs.Answers.{accepting};
 ghost use Rattle.layout.specs.Fields.{known};
-ghost use Rattle.layout.specs.Types.{inClass, kindOf, placeIn, listingOf, fitting};
-ghost use Rattle.layout.specs.inner.Codes.{leasts, steps, rowCodes, measures};
+ghost use Rattle.layout.specs.Types.{inClass, listed, lengthsOf, saysOf, fitting};
+ghost use Rattle.layout.specs.inner.Codes.{placeIn, rowCodes, measures};
 
 // What an acceptance counts: the tuples of what was handed in, the bytes or samples written, the identifiers compared while linking
 // the tuples of a file.
@@ -41,23 +41,14 @@ pub struct SoftwareChannel(pub u16);
 // The hardware channel of an echosounder. It names no tuple.
 pub struct Transceiver(pub u16);
 
-// What a type code stands for.
-pub enum Kind {
-    Signature,
+// What the tuples of a type say to the others: nothing; they declare a sounder or a channel; they name a channel; or they name one, or
+// all.
+pub enum Says {
+    Nothing,
     Sounder,
     Channel,
-    Position,
-    Navigation,
-    Attitude,
-    Threshold,
-    Event,
-    PingU,
-    PingC,
-    RunStart,
-    RunEnd,
-    FileEnd,
-    Index,
-    Unlisted,
+    Names,
+    NamesOrAll,
 }
 
 // The signature's identifier, as it is written; and the number that TR's table prints in its place, which some recorders write.
@@ -90,11 +81,6 @@ const CLASSES: [[u16; 2]; 5] = [
     [65406, 65515],
 ];
 
-// The least length of each listed type, and by what step it may be longer; a step of 0 allows the one length alone.
-const LEASTS: [usize; LISTED] = [24, 72, 108, 36, 28, 36, 44, 24, 40, 40, 20, 20, 24];
-
-const STEPS: [usize; LISTED] = [0, 0, 0, 0, 0, 0, 0, 4, 8, 4, 0, 0, 4];
-
 // The fields of each listed type, behind its type and before its attribute: 2 and 4 a number of as many bytes, s and S a signed
 // one, c thirty characters, z a space of two bytes, i the signature's identifier; a dot ends a row.
 const ROWS: [[u8; ROW]; LISTED] = [
@@ -116,24 +102,25 @@ const ROWS: [[u8; ROW]; LISTED] = [
 // How many fields each row has: its codes before the dots.
 pub const FIELDS: [usize; LISTED] = [4, 14, 27, 7, 6, 10, 11, 2, 6, 7, 2, 2, 3];
 
-// What each row measures: its numbers, its bytes before its characters, its bytes but for these, all its bytes.
-const MEASURES: [[usize; 4]; LISTED] = [
-    [3, 10, 10, 10],
-    [12, 26, 28, 58],
-    [24, 62, 64, 94],
-    [6, 22, 22, 22],
-    [5, 14, 14, 14],
-    [9, 22, 22, 22],
-    [11, 30, 30, 30],
-    [2, 6, 6, 6],
-    [6, 18, 18, 18],
-    [7, 22, 22, 22],
-    [2, 6, 6, 6],
-    [2, 6, 6, 6],
-    [3, 8, 8, 8],
+// What each listed type measures: of its row the numbers, the bytes before its characters, the bytes but for these and all bytes; its
+// least length, and by what step it may be longer: a step of 0 allows the one length alone.
+const MEASURES: [[usize; 6]; LISTED] = [
+    [3, 10, 10, 10, 24, 0],
+    [12, 26, 28, 58, 72, 0],
+    [24, 62, 64, 94, 108, 0],
+    [6, 22, 22, 22, 36, 0],
+    [5, 14, 14, 14, 28, 0],
+    [9, 22, 22, 22, 36, 0],
+    [11, 30, 30, 30, 44, 0],
+    [2, 6, 6, 6, 24, 4],
+    [6, 18, 18, 18, 40, 8],
+    [7, 22, 22, 22, 40, 4],
+    [2, 6, 6, 6, 20, 0],
+    [2, 6, 6, 6, 20, 0],
+    [3, 8, 8, 8, 24, 4],
 ];
 
-// The places of these four.
+// The places of these six.
 pub const NUMBERS: usize = 0;
 
 pub const BEFORE: usize = 1;
@@ -141,6 +128,10 @@ pub const BEFORE: usize = 1;
 pub const BARE: usize = 2;
 
 pub const SIZE: usize = 3;
+
+const LEAST: usize = 4;
+
+const STEP: usize = 5;
 
 // A fault at a tuple's first byte.
 pub fn fault(code: u8) -> Verdict
@@ -196,125 +187,34 @@ pub fn in_class(class: usize, code: u16) -> bool
     code <= bounds[1]
 }
 
-// The kind of a type code.
-pub fn kind_of(code: u16) -> Kind
-    ensures { λ r. ⌜ r ≡ kindOf code ⌝ }
+// The listing of a type code: its place among the listed types, LISTED where it is none of theirs.
+pub fn listing_of(code: u16) -> usize
+    ensures { λ r. ⌜ r ≡ placeIn code ⌝ }
 {
-    if in_class(INDEX, code) {
-        return Kind::Index;
-    }
     match code {
-        types::SIGNATURE => Kind::Signature,
-        types::SOUNDER => Kind::Sounder,
-        types::CHANNEL => Kind::Channel,
-        types::POSITION => Kind::Position,
-        types::NAVIGATION => Kind::Navigation,
-        types::ATTITUDE => Kind::Attitude,
-        types::THRESHOLD => Kind::Threshold,
-        types::EVENT => Kind::Event,
-        types::PING_U => Kind::PingU,
-        types::PING_C => Kind::PingC,
-        types::RUN_START => Kind::RunStart,
-        types::RUN_END => Kind::RunEnd,
-        types::FILE_END => Kind::FileEnd,
-        _ => Kind::Unlisted,
+        types::SIGNATURE => 0,
+        types::SOUNDER => 1,
+        types::CHANNEL => 2,
+        types::POSITION => 3,
+        types::NAVIGATION => 4,
+        types::ATTITUDE => 5,
+        types::THRESHOLD => 6,
+        types::EVENT => 7,
+        types::PING_U => 8,
+        types::PING_C => 9,
+        types::RUN_START => 10,
+        types::RUN_END => 11,
+        types::FILE_END => 12,
+        _ => LISTED,
     }
 }
 
-// What the tables say of a listing, by a constant place each, as in `row`: its least length,
-fn least(listing: usize) -> usize
-    requires { ⌜ listing < 13 ⌝ }
-    ensures { λ r. ⌜ r ≡ getD leasts listing 0 ⌝ }
-{
-    match listing {
-        0 => LEASTS[0],
-        1 => LEASTS[1],
-        2 => LEASTS[2],
-        3 => LEASTS[3],
-        4 => LEASTS[4],
-        5 => LEASTS[5],
-        6 => LEASTS[6],
-        7 => LEASTS[7],
-        8 => LEASTS[8],
-        9 => LEASTS[9],
-        10 => LEASTS[10],
-        11 => LEASTS[11],
-        _ => LEASTS[12],
-    }
-}
-
-// and its step.
-fn step(listing: usize) -> usize
-    requires { ⌜ listing < 13 ⌝ }
-    ensures { λ r. ⌜ r ≡ getD steps listing 0 ⌝ }
-{
-    match listing {
-        0 => STEPS[0],
-        1 => STEPS[1],
-        2 => STEPS[2],
-        3 => STEPS[3],
-        4 => STEPS[4],
-        5 => STEPS[5],
-        6 => STEPS[6],
-        7 => STEPS[7],
-        8 => STEPS[8],
-        9 => STEPS[9],
-        10 => STEPS[10],
-        11 => STEPS[11],
-        _ => STEPS[12],
-    }
-}
-
-impl Kind {
-    // The listing of a listed kind, by its place in the tables; LISTED for the others.
-    pub fn listing(self) -> usize
-        ensures { λ r. ⌜ r ≡ placeIn self ⌝ }
-    {
-        match self {
-            Kind::Signature => 0,
-            Kind::Sounder => 1,
-            Kind::Channel => 2,
-            Kind::Position => 3,
-            Kind::Navigation => 4,
-            Kind::Attitude => 5,
-            Kind::Threshold => 6,
-            Kind::Event => 7,
-            Kind::PingU => 8,
-            Kind::PingC => 9,
-            Kind::RunStart => 10,
-            Kind::RunEnd => 11,
-            Kind::FileEnd => 12,
-            Kind::Index => LISTED,
-            Kind::Unlisted => LISTED,
-        }
-    }
-
-    // Whether a tuple of this kind may be so long: any length will do for the kinds that are not listed.
-    pub fn fits(self, length: usize) -> bool
-        ensures { λ r. ⌜ r ≡ fitting (listingOf self .length) length ⌝ }
-    {
-        let listing = self.listing();
-        if LISTED <= listing {
-            return true;
-        }
-        let least = least(listing);
-        let step = step(listing);
-        if step == 0 {
-            return length == least;
-        }
-        if length < least {
-            return false;
-        }
-        (length - least) % step == 0
-    }
-}
-
-// The row of a listing.
+// What the tables say of a listing, by a constant place each: the compiler keeps no table, and ROWS[listing] would build all of it at
+// each call. Its row
 pub fn row(listing: usize) -> [u8; ROW]
-    requires { ⌜ listing < 13 ⌝ }
+    requires { ⌜ listing < listed ⌝ }
     ensures { λ r. ⌜ r ≡ getD rowCodes listing [] ⌝ }
 {
-    // by a constant place each: the compiler keeps no table, and ROWS[listing] would build all of it at each call
     match listing {
         0 => ROWS[0],
         1 => ROWS[1],
@@ -332,9 +232,9 @@ pub fn row(listing: usize) -> [u8; ROW]
     }
 }
 
-// What the row of a listing measures.
-pub fn measure(listing: usize) -> [usize; 4]
-    requires { ⌜ listing < 13 ⌝ }
+// and what it measures.
+pub fn measure(listing: usize) -> [usize; 6]
+    requires { ⌜ listing < listed ⌝ }
     ensures { λ r. ⌜ r ≡ getD measures listing [] ⌝ }
 {
     match listing {
@@ -352,4 +252,39 @@ pub fn measure(listing: usize) -> [usize; 4]
         11 => MEASURES[11],
         _ => MEASURES[12],
     }
+}
+
+// What the tuples of a type code say to the others.
+pub fn says_of(code: u16) -> Says
+    ensures { λ r. ⌜ r ≡ saysOf code ⌝ }
+{
+    match code {
+        types::SOUNDER => Says::Sounder,
+        types::CHANNEL => Says::Channel,
+        types::ATTITUDE => Says::NamesOrAll,
+        types::THRESHOLD => Says::Names,
+        types::PING_U => Says::Names,
+        types::PING_C => Says::Names,
+        _ => Says::Nothing,
+    }
+}
+
+// Whether a tuple of a type code may be so long: any length will do for a type that isn't listed.
+pub fn fits(code: u16, length: usize) -> bool
+    ensures { λ r. ⌜ r ≡ fitting (lengthsOf code) length ⌝ }
+{
+    let listing = listing_of(code);
+    if LISTED <= listing {
+        return true;
+    }
+    let measure = measure(listing);
+    let least = measure[LEAST];
+    let step = measure[STEP];
+    if step == 0 {
+        return length == least;
+    }
+    if length < least {
+        return false;
+    }
+    (length - least) % step == 0
 }

@@ -9,7 +9,7 @@ use lib.Seq.{drop-at}
 use Rattle.order.specs.Order.{bytesOf}
 use Rattle.order.proofs.Laws.{length-bytesOf}
 use Rattle.layout.specs.Fields.{Field, u, s}
-use Rattle.layout.specs.Types.{classes, inClass, kindOf, listingOf}
+use Rattle.layout.specs.Types.{listings, among, listingOf}
 use Rattle.turning.specs.Rows.{valuesOf}
 use Rattle.frame.specs.Frames.{Tup, frames}
 use Rattle.frame.specs.Files.{isMsb}
@@ -28,7 +28,7 @@ module _ (o : Bool) (rest : List ℕ) (ts : List Tup) where
   behind = u 2 ∷ u 2 ∷ u 4 ∷ s 4 ∷ []
 
   signs : (n : ℕ) → itemOf o (signature o n rest) ≡ some (plain 65535 (valuesOf o behind rest))
-  unfolding itemOf kindOf inClass classes listingOf
+  unfolding itemOf listingOf among listings
   signs n = ap (λ (bs : List ℕ). some (plain 65535 (valuesOf o behind bs))) (drop-at (bytesOf o 2 n) rest 2 (length-bytesOf o 2 n))
 
   says : (n : ℕ) → AllFramed (signature o n rest ∷ ts) → contentOf (spelled o n rest ts) ≡ plain 65535 (valuesOf o behind rest) ∷ items o ts

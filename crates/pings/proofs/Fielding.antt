@@ -11,7 +11,7 @@ use lib.Seq.{length-take-le}
 use Rattle.layout.specs.Answers.{tells}
 use Rattle.order.specs.Order.{numOf, signedOf}
 use Rattle.layout.specs.declared.Answer.{Answer}
-use Rattle.layout.specs.Types.{classes, inClass, kindOf, listingOf, pingRow}
+use Rattle.layout.specs.Types.{pingRow, listings, among, listingOf}
 use Rattle.frame.specs.Files.{isMsb}
 use Rattle.frame.proofs.Places.{Whole}
 use Rattle.turning.specs.Rows.{valuesOf}
@@ -53,12 +53,12 @@ module _ {f : List ℕ} {p n k : ℕ} {o : Bool} (s : SoundPing f p o n k) where
   attr-there = attribute-place (isMsb f) f p n w ∙ ap (λ (b : Bool). numOf b (take 4 (drop (p + (n - 8)) f))) (sym (s .msb))
 
   item-U : k ≡ 10000 → pingBy (readItem f p) ≡ contentU (isMsb f) (tupleThere f p .body)
-  unfolding itemOf kindOf inClass classes listingOf
-  item-U e = ap (λ (j : ℕ). pingBy (itemBy (listingOf (kindOf j) .shape) (isMsb f) (tupleThere f p))) (here (s .found) .kind ∙ e)
+  unfolding itemOf listingOf among listings
+  item-U e = ap (λ (j : ℕ). pingBy (itemBy (listingOf j .shape) (isMsb f) (tupleThere f p))) (here (s .found) .kind ∙ e)
 
   item-C : k ≡ 10010 → pingBy (readItem f p) ≡ contentC (isMsb f) (tupleThere f p .body)
-  unfolding itemOf kindOf inClass classes listingOf
-  item-C e = ap (λ (j : ℕ). pingBy (itemBy (listingOf (kindOf j) .shape) (isMsb f) (tupleThere f p))) (here (s .found) .kind ∙ e)
+  unfolding itemOf listingOf among listings
+  item-C e = ap (λ (j : ℕ). pingBy (itemBy (listingOf j .shape) (isMsb f) (tupleThere f p))) (here (s .found) .kind ∙ e)
 
   -- what is read at the places is what the reader hands over
   module _ (h : PingHeader) (a : ℤ) (v : ℕ) (eh : h ≡ headerOf (valuesOf o pingRow (drop (p + 6) f)))

@@ -14,7 +14,6 @@ use Rattle.rules.specs.Rules.{AllPass}
 use Rattle.layout.specs.declared.Answer.{Answer}
 use Rattle.layout.specs.declared.Answer.the-variants.{Refused}
 use Rattle.layout.specs.declared.Verdict.the-variants.{Fine}
-use Rattle.layout.specs.Types.{classes, inClass, kindOf}
 use Rattle.layout.specs.Answers.{both, tells, accepting}
 use Rattle.layout.proofs.Verdicts.{both-left, both-right, passes}
 use Rattle.frame.specs.Files.{isMsb}
@@ -60,18 +59,16 @@ module _ {f : List ℕ} {p n k : ℕ} {o : Bool} (s : SoundPing f p o n k) where
   taken q e = ap samplesBy e
 
   pub pairs-there : k ≡ 10000 → samplesAt f p ≡ pairUp (allWords 4 (isMsb f) (take (p + n - 8 - (p + 24)) (drop (p + 24) f)))
-  unfolding kindOf inClass classes
   pairs-there e =
       let long = long-U h fits e in
-      let q = samples-U (isMsb f) f p n (stands (s .found) .whole) (ap kindOf (h .kind ∙ e)) long in
+      let q = samples-U (isMsb f) f p n (stands (s .found) .whole) (h .kind ∙ e) long in
       let z : n - 32 ≡ p + n - 8 - (p + 24) = omega (arith, long) in
       taken (q .0) (q .1) ∙ q .2 ∙ ap (λ (i : ℕ). pairUp (allWords 4 (isMsb f) (take i (drop (p + 24) f)))) z
 
   pub words-there : k ≡ 10010 → samplesAt f p ≡ decode radix (allWords 4 (isMsb f) (take (p + n - 8 - (p + 28)) (drop (p + 28) f)))
-  unfolding kindOf inClass classes
   words-there e =
       let long = long-C h fits e in
-      let q = samples-C (isMsb f) f p n (stands (s .found) .whole) (ap kindOf (h .kind ∙ e)) long in
+      let q = samples-C (isMsb f) f p n (stands (s .found) .whole) (h .kind ∙ e) long in
       let z : n - 36 ≡ p + n - 8 - (p + 28) = omega (arith, long) in
       taken (q .0) (q .1) ∙ q .2 ∙ ap (λ (i : ℕ). decode radix (allWords 4 (isMsb f) (take i (drop (p + 28) f)))) z
 

@@ -2,8 +2,7 @@
 use layout::types;
 ghost use mathlib.Core.Path.{_≡_};
 ghost use mathlib.Core.List.{[], _∷_};
-ghost use Rattle.layout.specs.Types.{lengthsOf};
-ghost use Rattle.rows.specs.Places.{leastOf, stepOf};
+ghost use Rattle.layout.specs.Types.{lengthsOf, leastOf, stepOf};
 
 pub const CODE: u16 = types::PING_U;
 

@@ -17,12 +17,11 @@ use Rattle.order.specs.Order.{Bytes}
 use Rattle.layout.specs.declared.Counts.{Counts}
 use Rattle.layout.specs.declared.Answer.{Answer}
 use Rattle.layout.specs.declared.Answer.the-variants.{Accepted}
-use Rattle.layout.specs.declared.Kind.{Kind}
 use Rattle.layout.specs.Answers.{accepting, leftBy}
 use Rattle.layout.specs.Fields.{Field, num, txt, gap, ident, s, size, many, bareSize}
-use Rattle.layout.specs.Types.{Shape, indexed, row, pairs, words, unlisted, Length, exactly, upward, free, fitting, kindOf, shapeOf}
-use Rattle.layout.specs.Types.{lengthsOf, lengthFrom, listed, listingOf, placeIn}
-use Rattle.layout.proofs.Tables.{at-listed}
+use Rattle.layout.specs.Types.{Shape, indexed, row, pairs, words, unlisted, Length, exactly, upward, free, fitting, shapeOf}
+use Rattle.layout.specs.Types.{lengthsOf, lengthFrom, listings, notListed, inClass, index}
+use Rattle.layout.proofs.Tables.{alike}
 use Rattle.frame.specs.Frames.{allowed}
 use Rattle.frame.proofs.Frames.{allowed-of}
 use Rattle.turning.specs.Rows.{Value, number, text, woven, numbersIn, textIn, Fit, fit-end, fit-num, fit-txt, fit-gap, fit-ident, Lettered}
@@ -54,9 +53,12 @@ byFours pairs = true
 byFours words = true
 byFours unlisted = true
 
-test : map (λ (q : Kind). byFours (listingOf q .shape)) listed ≡ map (λ (q : Kind). true) listed
-unfolding listed listingOf
-test = refl
+by-fours : (k : ℕ) → byFours (shapeOf k) ≡ true
+by-fours = alike (λ k l. byFours (l .shape)) (λ k l. true) (unfold listings in refl) others
+  where
+    others : (k : ℕ) (b : Bool) → inClass index k ≡ b → byFours (notListed b .shape) ≡ true
+    others k true e = refl
+    others k false e = refl
 
 allowed-row : (fs : List Field) (x : Option ℕ) (n : ℕ) → byFours (row fs x) ≡ true → fitting (lengthFrom (row fs x)) n ≡ true → n ≤ 262144
     → allowed n ≡ true
@@ -162,7 +164,7 @@ module _ {k : ℕ} {ns t : List ℕ} (w : Taken k ns t) (g : RowSound k ns t) wh
   fits-row = lengths-row k (rowLength k t) (w .fits)
 
   even : byFours (shapeOf k) ≡ true
-  even = at-listed (λ (q : Kind). byFours (listingOf q .shape)) (λ (q : Kind). true) test (kindOf k) (row-listed k is)
+  even = by-fours k
 
   fill : (q : Shape) → shapeOf k ≡ q → IsRow q → Filled k (rowValues k ns t)
   fill indexed e z = absurd z
@@ -219,7 +221,7 @@ module _ {k : ℕ} {ns t : List ℕ} (w : Taken k ns t) (g : RowSound k ns t) wh
     characters-back =
         there-characters k f p (sym (ap (λ (asks : ℕ → Bool). readAnswer asks f p) (as-only k (w .type)) ∙ answer-back))
         ∙ ap textIn values-back
-        ∙ text-back (shapeOf k) ns t (rowLength k t) is (textual (kindOf k)) fits-row refl
+        ∙ text-back (shapeOf k) ns t (rowLength k t) is (textual k) fits-row refl
 
     pub row-back : RowBack k ns t f p
     row-back = record { numbers = numbers-back; read = read-back; characters = characters-back }
@@ -326,7 +328,7 @@ module _ (k : ℕ) (zs : List ℤ) (t : List ℕ) (c : k < 65536) (g : Typed (ro
   sound : RowSound k (patterns (rowOf k 0) zs) t
   sound =
       let n = rowLength k t in
-      let wide = as-wide (shapeOf k) t n (is-row (shapeOf k) (w .type)) (textual (kindOf k)) (lengths-row k n (w .fits)) refl in
+      let wide = as-wide (shapeOf k) t n (is-row (shapeOf k) (w .type)) (textual k) (lengths-row k n (w .fits)) refl in
       record {
         code = c;
         values = subst (λ (fs : List Field). Fit fs (rowValues k ns t)) wide (fit-widened (rowOf k 0) zs t g);

@@ -14,7 +14,7 @@ use Rattle.layout.specs.declared.Counts.{Counts}
 use Rattle.layout.specs.declared.Answer.{Answer}
 use Rattle.layout.specs.declared.Answer.the-variants.{Accepted}
 use Rattle.layout.specs.Answers.{judged, leftBy, accepting}
-use Rattle.layout.specs.Types.{pairs, words, classes, inClass, kindOf, listingOf}
+use Rattle.layout.specs.Types.{pairs, words, listings, among, listingOf}
 use Rattle.layout.proofs.Verdicts.{passed}
 use Rattle.frame.specs.Frames.{Tup, lengthOf, frame}
 use Rattle.frame.proofs.Frames.{allowed-of, length-frame}
@@ -109,7 +109,7 @@ module _ {h : PingHeader} {a : ℤ} {ns : List ℕ} {vs : List ℤ} (g : PingTyp
 
   module _ (o : Bool) where
     pub sound-U : 0 < length ns → Sound o (tupleU o (handedPing h a ns vs))
-    unfolding classes inClass kindOf listingOf
+    unfolding listingOf among listings
     sound-U any =
         let d = dataU o c in
         let n = length-U o c good in
@@ -133,7 +133,7 @@ module _ {h : PingHeader} {a : ℤ} {ns : List ℕ} {vs : List ℤ} (g : PingTyp
         }
 
     pub item-U : itemOf o (tupleU o (handedPing h a ns vs)) ≡ some (ping (handedPing h a ns vs))
-    unfolding itemOf classes inClass kindOf listingOf
+    unfolding itemOf listingOf among listings
     item-U = ap (λ (p : Ping). some (ping p)) (content-U o c good)
 
     module _ (w : Worded ns vs) where
@@ -144,7 +144,7 @@ module _ {h : PingHeader} {a : ℤ} {ns : List ℕ} {vs : List ℤ} (g : PingTyp
       below = below-fewest (paired ns vs) (good .within)
 
       pub sound-C : Sound o (tupleC o (handedPing h a ns vs))
-      unfolding classes inClass kindOf listingOf
+      unfolding listingOf among listings
       sound-C =
           let d = dataC o c ws in
           let n = length-C o c good ws below in
@@ -165,7 +165,7 @@ module _ {h : PingHeader} {a : ℤ} {ns : List ℕ} {vs : List ℤ} (g : PingTyp
           }
 
       pub item-C : itemOf o (tupleC o (handedPing h a ns vs)) ≡ some (ping (handedPing h a ns vs))
-      unfolding itemOf classes inClass kindOf listingOf
+      unfolding itemOf listingOf among listings
       item-C =
           ap (λ (p : Ping). some (ping p))
           (content-C o c good ws below (words-back (paired ns vs) (l .rising ∙ sym many) (w .worded ∙ sym many)))

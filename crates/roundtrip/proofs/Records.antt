@@ -11,7 +11,7 @@ use Rattle.order.specs.Order.{Bytes}
 use Rattle.layout.specs.declared.Counts.{Counts}
 use Rattle.layout.specs.declared.Answer.{Answer}
 use Rattle.layout.specs.declared.Answer.the-variants.{Accepted}
-use Rattle.layout.specs.Types.{classes, inClass, kindOf, listingOf}
+use Rattle.layout.specs.Types.{listings, among, listingOf}
 use Rattle.rows.specs.Readers.{rowText, charactersAt}
 use Rattle.roundtrip.specs.Held.{Holds}
 use Rattle.roundtrip.proofs.Handed.{again-row, again-plain}
@@ -84,7 +84,7 @@ use Rattle.file_end.specs.FileEnd as fileEnds
 
 pub signature-again : (r : Signature) → SignatureTyped r → {o : Bool} {out left f : List ℕ} {p : ℕ} {n : Counts} {x : SignatureRead}
     → SignatureWritten o r out (Accepted n) left → Holds f p o (take (n .written) left) → SignatureAt f p x → x ≡ signature.Read r
-unfolding kindOf inClass classes listingOf
+unfolding listingOf among listings
 signature-again r g {o = o} w h a =
     let v = again-plain 65535 (signatureIntegers r) [] (lit< tt) g tt refl refl refl o w h in
     a .outcome ∙ ap₂ signatures.answered (v .answer) (ap signatureOf (v .integers) ∙ signature-inverse r)
@@ -111,28 +111,28 @@ channel-again r t g b {o = o} {f = f} {p = p} w h a =
 
 pub threshold-again : (r : Threshold) → ThresholdTyped r → {o : Bool} {out left f : List ℕ} {p : ℕ} {n : Counts} {x : ThresholdRead}
     → ThresholdWritten o r out (Accepted n) left → Holds f p o (take (n .written) left) → ThresholdAt f p x → x ≡ threshold.Read r
-unfolding kindOf inClass classes listingOf
+unfolding listingOf among listings
 threshold-again r g {o = o} w h a =
     let v = again-plain 10100 (thresholdIntegers r) [] (lit< tt) g tt refl refl refl o w h in
     a .outcome ∙ ap₂ thresholds.answered (v .answer) (ap thresholdOf (v .integers) ∙ threshold-inverse r)
 
 pub position-again : (r : Position) → PositionTyped r → {o : Bool} {out left f : List ℕ} {p : ℕ} {n : Counts} {x : PositionRead}
     → PositionWritten o r out (Accepted n) left → Holds f p o (take (n .written) left) → PositionAt f p x → x ≡ position.Read r
-unfolding kindOf inClass classes listingOf
+unfolding listingOf among listings
 position-again r g {o = o} w h a =
     let v = again-plain 20 (positionIntegers r) [] (lit< tt) g tt refl refl refl o w h in
     a .outcome ∙ ap₂ positions.answered (v .answer) (ap positionOf (v .integers) ∙ position-inverse r)
 
 pub navigation-again : (r : Navigation) → NavigationTyped r → {o : Bool} {out left f : List ℕ} {p : ℕ} {n : Counts} {x : NavigationRead}
     → NavigationWritten o r out (Accepted n) left → Holds f p o (take (n .written) left) → NavigationAt f p x → x ≡ navigation.Read r
-unfolding kindOf inClass classes listingOf
+unfolding listingOf among listings
 navigation-again r g {o = o} w h a =
     let v = again-plain 30 (navigationIntegers r) [] (lit< tt) g tt refl refl refl o w h in
     a .outcome ∙ ap₂ navigations.answered (v .answer) (ap navigationOf (v .integers) ∙ navigation-inverse r)
 
 pub attitude-again : (r : Attitude) → AttitudeTyped r → {o : Bool} {out left f : List ℕ} {p : ℕ} {n : Counts} {x : AttitudeRead}
     → AttitudeWritten o r out (Accepted n) left → Holds f p o (take (n .written) left) → AttitudeAt f p x → x ≡ attitude.Read r
-unfolding kindOf inClass classes listingOf
+unfolding listingOf among listings
 attitude-again r g {o = o} w h a =
     let v = again-plain 40 (attitudeIntegers r) [] (lit< tt) g tt refl refl refl o w h in
     a .outcome ∙ ap₂ attitudes.answered (v .answer) (ap attitudeOf (v .integers) ∙ attitude-inverse r)
@@ -149,14 +149,14 @@ event-again r t g b {o = o} {f = f} {p = p} w h a =
 
 pub run-start-again : (r : RunStart) → RunStartTyped r → {o : Bool} {out left f : List ℕ} {p : ℕ} {n : Counts} {x : RunStartRead}
     → RunStartWritten o r out (Accepted n) left → Holds f p o (take (n .written) left) → RunStartAt f p x → x ≡ runStart.Read r
-unfolding kindOf inClass classes listingOf
+unfolding listingOf among listings
 run-start-again r g {o = o} w h a =
     let v = again-plain 65516 (runStartIntegers r) [] (lit< tt) g tt refl refl refl o w h in
     a .outcome ∙ ap₂ runStarts.answered (v .answer) (ap runStartOf (v .integers) ∙ run-start-inverse r)
 
 pub run-end-again : (r : RunEnd) → RunEndTyped r → {o : Bool} {out left f : List ℕ} {p : ℕ} {n : Counts} {x : RunEndRead}
     → RunEndWritten o r out (Accepted n) left → Holds f p o (take (n .written) left) → RunEndAt f p x → x ≡ runEnd.Read r
-unfolding kindOf inClass classes listingOf
+unfolding listingOf among listings
 run-end-again r g {o = o} w h a =
     let v = again-plain 65517 (runEndIntegers r) [] (lit< tt) g tt refl refl refl o w h in
     a .outcome ∙ ap₂ runEnds.answered (v .answer) (ap runEndOf (v .integers) ∙ run-end-inverse r)
@@ -164,7 +164,7 @@ run-end-again r g {o = o} w h a =
 pub file-end-again : (r : FileEnd) → FileEndTyped r → {o : Bool} {out left f : List ℕ} {p : ℕ} {n : Counts} {x : FileEndRead}
     → FileEndWritten o r out (Accepted n) left → Holds f p o (take (n .written) left) → FileEndAt f p x
     → (x ≡ fileEnd.Read r (rowText 65534 f p)) × (charactersAt f (rowText 65534 f p) ≡ (0 ∷ 0 ∷ []))
-unfolding kindOf inClass classes listingOf
+unfolding listingOf among listings
 file-end-again r g {o = o} {f = f} {p = p} w h a =
     let v = again-plain 65534 (fileEndIntegers r) (0 ∷ 0 ∷ []) (lit< tt) g (lit< tt, (lit< tt, tt)) refl refl refl o w h in
     let fields = ap fileEndOf (v .integers) ∙ file-end-inverse r in

@@ -18,7 +18,7 @@ use Rattle.layout.specs.declared.Answer.the-variants.{Accepted}
 use Rattle.layout.specs.declared.Answer.the-variants as answer
 use Rattle.layout.specs.Answers.{tells, accepting, leftBy}
 use Rattle.layout.specs.Fields.{Field, num, txt, gap, ident, s, widthOf, size, many, bareSize, beforeText}
-use Rattle.layout.specs.Types.{Shape, indexed, row, pairs, words, unlisted, kindOf, shapeOf, fitting, lengthFrom}
+use Rattle.layout.specs.Types.{Shape, indexed, row, pairs, words, unlisted, shapeOf, fitting, lengthFrom}
 use Rattle.turning.specs.Rows.{Value, valuesOf, numbersIn, textIn}
 use Rattle.turning.specs.inner.Codes.{fieldNumbers}
 use Rattle.turning.proofs.Taking.{numbers-cons, length-numbers}
@@ -205,7 +205,7 @@ module _ {k : ℕ} {f : List ℕ} {p : ℕ} {o : Bool} {n : ℕ} (r : Readable (
 
   pub text-there : n - 14 - bareSize (fieldsBy (shapeOf k)) ≡ length (textIn (readValues f p))
   text-there =
-      row-text n (shapeOf k) opened-row (textual (kindOf k)) opened-fits
+      row-text n (shapeOf k) opened-row (textual k) opened-fits
       ∙ sym (text-length o (rowBy (shapeOf k) (n - 10)) (drop (p + 6) f) filled)
       ∙ ap (λ (vs : List Value). length (textIn vs)) (sym there)
 

@@ -9,13 +9,11 @@ use borrow.Author.Tests.{eqb-true, leb-true}
 use lib.Dec.{eqb, leb}
 use lib.ListN.{length, replicate, getD}
 use Rattle.rules.proofs.Bools.{both-true}
-use Rattle.layout.specs.declared.Kind.{Kind}
-use Rattle.layout.specs.declared.Kind.the-variants.{Signature, Sounder, Channel, Position, Navigation, Attitude, Threshold, Event, PingU}
-use Rattle.layout.specs.declared.Kind.the-variants.{PingC, RunStart, RunEnd, FileEnd, Index, Unlisted}
 use Rattle.layout.specs.Fields.{Field, num, txt, gap, ident, s, size, many, bareSize, beforeText}
-use Rattle.layout.specs.Types.{Shape, indexed, row, pairs, words, unlisted, kindOf, shapeOf, listingOf, placeIn, fitting, lengthFrom}
-use Rattle.layout.specs.inner.Codes.{fieldsOf, rowCodes, measures, measured}
-use Rattle.layout.proofs.Tables.{Said, fieldsIn, tabled, by-kind}
+use Rattle.layout.specs.Types.{Shape, indexed, row, pairs, words, unlisted, Listing, listings, listed, notListed, inClass, index, shapeOf}
+use Rattle.layout.specs.Types.{lengthsOf, leastOf, stepOf, fitting, lengthFrom}
+use Rattle.layout.specs.inner.Codes.{placeIn, fieldsIn, fieldsOf, rowCodes, measures, measured}
+use Rattle.layout.proofs.Tables.{Tabled, tabled, alike, fields-there, measure-there, size-there}
 use Rattle.turning.specs.inner.Codes.{textFits}
 use Rattle.tuples.specs.Readers.{isRow, rowBy}
 use Rattle.tuples.proofs.Fields.{IsRow}
@@ -29,10 +27,13 @@ is-row pairs e = let z : _≡_ {A = ℕ} 0 1 = cc in absurd (omega arith)
 is-row words e = let z : _≡_ {A = ℕ} 0 1 = cc in absurd (omega arith)
 is-row unlisted e = let z : _≡_ {A = ℕ} 0 1 = cc in absurd (omega arith)
 
--- it is a listed kind's, and the code's row is its row
-listed-row : (q : Kind) → IsRow (listingOf q .shape) → placeIn q < 13
-unfolding listingOf
-listed-row = by-kind (λ (q : Kind). IsRow (listingOf q .shape) → placeIn q < 13) (λ q h z. h) (λ z. absurd z) (λ z. absurd z)
+-- it is a listed type's, and the code's row is its row
+listed-row : (q : Shape) (i : ℕ) → Tabled q i → IsRow q → i < listed
+listed-row indexed i h z = absurd z
+listed-row (row fs x) i h z = h
+listed-row pairs i h z = absurd z
+listed-row words i h z = absurd z
+listed-row unlisted i h z = absurd z
 
 in-fields : (q : Shape) → IsRow q → fieldsIn q ≡ fieldsBy q
 in-fields indexed z = absurd z
@@ -42,22 +43,24 @@ in-fields words z = absurd z
 in-fields unlisted z = absurd z
 
 module _ (k : ℕ) (z : IsRow (shapeOf k)) where
-  pub row-listed : placeIn (kindOf k) < 13
-  row-listed = listed-row (kindOf k) z
+  pub row-listed : placeIn k < listed
+  row-listed = listed-row (shapeOf k) (placeIn k) (tabled k) z
 
-  pub row-fields : fieldsOf (getD rowCodes (placeIn (kindOf k)) []) ≡ fieldsBy (shapeOf k)
-  row-fields = ap (λ (x : Said). x .fields) (tabled (kindOf k) row-listed) ∙ in-fields (shapeOf k) z
+  pub row-fields : fieldsOf (getD rowCodes (placeIn k) []) ≡ fieldsBy (shapeOf k)
+  row-fields = fields-there k row-listed ∙ in-fields (shapeOf k) z
 
   -- and so is what is measured of it
-  pub row-measure : getD measures (placeIn (kindOf k)) [] ≡ measured (fieldsBy (shapeOf k))
-  row-measure = ap (λ (x : Said). x .measure) (tabled (kindOf k) row-listed) ∙ ap measured (in-fields (shapeOf k) z)
+  pub row-measure : getD measures (placeIn k) []
+      ≡ measured (fieldsBy (shapeOf k)) ++ (leastOf (lengthsOf k) ∷ stepOf (lengthsOf k) ∷ [])
+  row-measure =
+      measure-there k row-listed
+      ∙ ap (λ (fs : List Field). measured fs ++ (leastOf (lengthsOf k) ∷ stepOf (lengthsOf k) ∷ [])) (in-fields (shapeOf k) z)
 
   -- which is little
   pub row-little : size (fieldsBy (shapeOf k)) ≤ 255
   row-little =
       leb-true (size (fieldsBy (shapeOf k))) 255
-      (ap (λ (fs : List Field). leb (size fs) 255) (sym (in-fields (shapeOf k) z))
-      ∙ sym (ap (λ (x : Said). x .little) (tabled (kindOf k) row-listed)))
+      (ap (λ (fs : List Field). leb (size fs) 255) (sym (in-fields (shapeOf k) z)) ∙ size-there k row-listed)
 
 -- ---- the characters of a row
 -- how many the first of its fields of characters has
@@ -84,23 +87,33 @@ Textual pairs = Unit {0}
 Textual words = Unit {0}
 Textual unlisted = Unit {0}
 
-pub textual : (q : Kind) → Textual (listingOf q .shape)
-unfolding listingOf
-textual Signature = (refl, refl)
-textual Sounder = (refl, refl)
-textual Channel = (refl, refl)
-textual Position = (refl, refl)
-textual Navigation = (refl, refl)
-textual Attitude = (refl, refl)
-textual Threshold = (refl, refl)
-textual Event = refl
-textual PingU = tt
-textual PingC = tt
-textual RunStart = (refl, refl)
-textual RunEnd = (refl, refl)
-textual FileEnd = refl
-textual Index = tt
-textual Unlisted = tt
+-- as a test, which holds of all types
+isTextual : Shape → Bool
+isTextual indexed = true
+isTextual (row fs none) =
+    eqb (firstText (fs ++ (s 4 ∷ [])) + bareSize fs) (size fs) && textFits fs (replicate (size fs - bareSize fs) 0)
+isTextual (row fs (some least)) = noText fs
+isTextual pairs = true
+isTextual words = true
+isTextual unlisted = true
+
+textual-by : (q : Shape) → isTextual q ≡ true → Textual q
+unfolding isTextual
+textual-by indexed e = tt
+textual-by (row fs none) e =
+    let b = both-true (eqb (firstText (fs ++ (s 4 ∷ [])) + bareSize fs) (size fs)) _ e in (eqb-true _ (size fs) (b .0), b .1)
+textual-by (row fs (some least)) e = e
+textual-by pairs e = tt
+textual-by words e = tt
+textual-by unlisted e = tt
+
+pub textual : (k : ℕ) → Textual (shapeOf k)
+unfolding isTextual
+textual k = textual-by (shapeOf k) (alike (λ j l. isTextual (l .shape)) (λ j l. true) (unfold listings in refl) others k)
+  where
+    others : (j : ℕ) (b : Bool) → inClass index j ≡ b → isTextual (notListed b .shape) ≡ true
+    others j true e = refl
+    others j false e = refl
 
 pub text-behind : (fs gs : List Field) (m : ℕ) → noText fs ≡ true → firstText (fs ++ (txt m ∷ gs)) ≡ m
 text-behind [] gs m e = refl

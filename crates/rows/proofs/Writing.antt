@@ -8,7 +8,7 @@ use native.Mathlib.Omega.{arith}
 use lib.ListN.{length, drop, getD, replicate, length-replicate}
 use lib.Seq.{drop-drop, getD-drop}
 use Rattle.layout.specs.Fields.{Field, num, txt, gap, ident, s, size, takes, many, bareSize}
-use Rattle.layout.specs.Types.{Shape, indexed, row, pairs, words, unlisted, Length, kindOf, shapeOf, lengthsOf, fitting, lengthFrom}
+use Rattle.layout.specs.Types.{Shape, indexed, row, pairs, words, unlisted, Length, shapeOf, lengthsOf, fitting, lengthFrom}
 use Rattle.layout.proofs.Tables.{lengths-from}
 use Rattle.turning.specs.Rows.{Value, number, text, woven, wovenField, behindField}
 use borrow.Author.Tests.{lt-ltb, le-ltb}
@@ -106,7 +106,7 @@ module _ (ns t : List ℕ) (n : ℕ) (is : n ≤ 262144) where
 
 -- a type code's lengths are its row's
 pub lengths-row : (k n : ℕ) → fitting (lengthsOf k) n ≡ true → fitting (lengthFrom (shapeOf k)) n ≡ true
-lengths-row k n e = ap (λ (l : Length). fitting l n) (sym (lengths-from (kindOf k))) ∙ e
+lengths-row k n e = ap (λ (l : Length). fitting l n) (sym (lengths-from k)) ∙ e
 
 -- ---- the rules, in their order
 module _ (k : ℕ) (ns t : List ℕ) (o : Bool) (out : List ℕ) where
@@ -190,7 +190,7 @@ module _ {k : ℕ} {ns t : List ℕ} {held n : ℕ} (c : Kept k ns t held n) whe
   module _ (less : bareSize (fieldsBy (shapeOf k)) < size (fieldsBy (shapeOf k))) where
     both-own : Handable (shapeOf k) ns t [] n
         × (handedValues (shapeOf k) ns t [] (getD ns (many (fieldsBy (shapeOf k))) 0) ≡ woven (rowBy (shapeOf k) 0) ns t)
-    both-own = own ns t n (c .most) q is (textual (kindOf k)) (lengths-row k n (c .fits)) (c .whole) less
+    both-own = own ns t n (c .most) q is (textual k) (lengths-row k n (c .fits)) (c .whole) less
 
     pub own-handable : Handable (shapeOf k) ns t [] n
     own-handable = both-own .0
@@ -199,7 +199,7 @@ module _ {k : ℕ} {ns t : List ℕ} {held n : ℕ} (c : Kept k ns t held n) whe
   module _ (full : size (fieldsBy (shapeOf k)) ≤ bareSize (fieldsBy (shapeOf k))) where
     both-behind : Handable (shapeOf k) ns [] t n
         × (handedValues (shapeOf k) ns [] t (getD ns (many (fieldsBy (shapeOf k))) 0) ≡ woven (rowBy (shapeOf k) 0) ns t)
-    both-behind = behind ns t n (c .most) q is (textual (kindOf k)) (lengths-row k n (c .fits)) (c .whole) full
+    both-behind = behind ns t n (c .most) q is (textual k) (lengths-row k n (c .fits)) (c .whole) full
 
     pub behind-handable : Handable (shapeOf k) ns [] t n
     behind-handable = both-behind .0

@@ -2,7 +2,7 @@
 use mathlib.Core.List.{List, [], _∷_, _++_}
 use Prim.Native.Nat.{ℕ, _+_}
 use Rattle.layout.specs.Fields.{Field, num, txt, gap, ident}
-use Rattle.layout.specs.Types.{Length, exactly, upward, free, lengthsOf}
+use Rattle.layout.specs.Types.{lengthsOf, leastOf, stepOf}
 use Rattle.tuples.specs.Readers.{rowOf}
 
 -- the places of a row's fields that are no spaces, the first at p
@@ -12,17 +12,6 @@ placesFrom (num g w ∷ fs) p = p ∷ placesFrom fs (p + w)
 placesFrom (txt w ∷ fs) p = p ∷ placesFrom fs (p + w)
 placesFrom (gap w ∷ fs) p = placesFrom fs (p + w)
 placesFrom (ident ∷ fs) p = p ∷ placesFrom fs (p + 2)
-
--- the least length, and by what step it may be longer: 0 for a type of one length
-abbrev pub leastOf : Length → ℕ
-leastOf (exactly n) = n
-leastOf (upward n step) = n
-leastOf free = 0
-
-abbrev pub stepOf : Length → ℕ
-stepOf (exactly n) = 0
-stepOf (upward n step) = step
-stepOf free = 0
 
 -- of a type of records, in its shortest tuple: the places in the row's order, the attribute's the last; the least length and the step
 abbrev pub placesOf : ℕ → List ℕ

@@ -10,6 +10,7 @@ ghost use lib.ListN.{length, drop};
 ghost use lib.Seq.{sets};
 ghost use Rattle.order.specs.Order.{signedOf, patternOf};
 ghost use Rattle.layout.specs.Fields.{size, many};
+ghost use Rattle.layout.specs.Types.{listed};
 ghost use Rattle.turning.specs.Rows.{valuesOf, numbersIn};
 ghost use Rattle.tuples.specs.Readers.{recordsOf};
 ghost use Rattle.tuples.specs.inner.Opening.{Readable};
@@ -29,7 +30,7 @@ pub enum RowRead {
 // Reads the numbers of a row, by its listing. Each arm names its row by a constant, and how many fields it has before its dots: so that
 // the compiler makes plain loads of the loop over it.
 fn read_listed(file: &[u8], at: usize, msb: bool, listing: usize, numbers: &mut [u32])
-    requires { ⌜ listing < 13 ⌝ }
+    requires { ⌜ listing < listed ⌝ }
     requires { ⌜ at + size (listedFields listing) ≤ length (now file) ⌝ }
     requires { ⌜ many (listedFields listing) ≤ length (now numbers) ⌝ }
     ensures { λ _. ⌜ now (numbers .exit)
@@ -64,7 +65,7 @@ fn take_row(
     requires { ⌜ Readable (recordsOf code) (now file) place msb whole code ⌝ }
     ensures { λ r. ⌜ RowAt code (now (file .entry)) place (now (numbers .entry)) r (now (numbers .exit)) ⌝ }
 {
-    let listing = layout::kind_of(code).listing();
+    let listing = layout::listing_of(code);
     let measure = layout::measure(listing);
     let many = measure[layout::NUMBERS];
     if numbers.len() <= many {
@@ -101,18 +102,17 @@ pub fn read_row(file: &[u8], place: usize, code: u16, numbers: &mut [u32]) -> Ro
 pub fn write_row(code: u16, numbers: &[u32], text: &[u8], msb: bool, out: &mut [u8]) -> Answer
     ensures { λ r. ⌜ RowWritten code (now (numbers .entry)) (now (text .entry)) msb (now (out .entry)) r (now (out .exit)) ⌝ }
 {
-    let kind = layout::kind_of(code);
-    if !tuples::is_record(kind) {
+    if !tuples::is_record(code) {
         return layout::refuse(codes::UNFIT, 0);
     }
-    let measure = layout::measure(kind.listing());
+    let measure = layout::measure(layout::listing_of(code));
     let many = measure[layout::NUMBERS];
     if numbers.len() <= many {
         return layout::refuse(codes::UNFIT, 0);
     }
     let bare = measure[layout::BARE];
     let whole = bare + text.len() + AROUND;
-    if !kind.fits(whole) {
+    if !layout::fits(code, whole) {
         return layout::refuse(codes::UNFIT, 0);
     }
     if frame::MOST < whole {

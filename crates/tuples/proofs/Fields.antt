@@ -8,7 +8,7 @@ use borrow.Author.Tests.{eqb-true, leb-true}
 use lib.Dec.{eqb, leb}
 use lib.ListN.{length, take, drop, length-drop}
 use lib.Seq.{length-take-le}
-use Rattle.layout.specs.Types.{Shape, indexed, row, pairs, words, unlisted, kindOf, listingOf, shapeOf, Length, exactly, upward, fitting}
+use Rattle.layout.specs.Types.{Shape, indexed, row, pairs, words, unlisted, shapeOf, lengthsOf, Length, exactly, upward, fitting}
 use Rattle.layout.specs.Types.{lengthFrom}
 use Rattle.layout.proofs.Tables.{lengths-from}
 use Rattle.layout.proofs.Verdicts.{both-left}
@@ -54,8 +54,8 @@ module _ (k : ℕ) {f : List ℕ} {p : ℕ} {o : Bool} {n i : ℕ} (r : Readable
 
   pub fits : fitting (lengthFrom (shapeOf k)) n ≡ true
   fits =
-      ap (λ (l : Length). fitting l n) (sym (lengths-from (kindOf k)))
-      ∙ ap (λ (j : ℕ). fitting (listingOf (kindOf j) .length) n) (sym same-type)
+      ap (λ (l : Length). fitting l n) (sym (lengths-from k))
+      ∙ ap (λ (j : ℕ). fitting (lengthsOf j) n) (sym same-type)
       ∙ fits-i
 
   -- a type of one length

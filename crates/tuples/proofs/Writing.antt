@@ -16,11 +16,10 @@ use Rattle.order.specs.Order.{bytesOf}
 use Rattle.order.proofs.Laws.{length-bytesOf}
 use Rattle.layout.specs.declared.Answer.{Answer}
 use Rattle.layout.specs.declared.Answer.the-variants.{Refused}
-use Rattle.layout.specs.declared.Kind.{Kind}
 use Rattle.layout.specs.Fields.{Field, num, txt, gap, ident, s, size}
-use Rattle.layout.specs.Types.{Shape, indexed, row, pairs, words, unlisted, kindOf, shapeOf, listingOf, placeIn}
-use Rattle.layout.specs.inner.Codes.{fieldsOf, rowCodes}
-use Rattle.layout.proofs.Tables.{Said, fieldsIn, tabled, by-kind}
+use Rattle.layout.specs.Types.{Shape, indexed, row, pairs, words, unlisted, shapeOf, listed}
+use Rattle.layout.specs.inner.Codes.{placeIn, fieldsIn, fieldsOf, rowCodes}
+use Rattle.layout.proofs.Tables.{Tabled, tabled, fields-there}
 use Rattle.frame.specs.Frames.{frame}
 use Rattle.frame.specs.inner.Framing.{openBytes, closeBytes}
 use Rattle.frame.proofs.Frames.{length-frame}
@@ -109,17 +108,19 @@ module _ (o : Bool) (ns t b : List ℕ) (n a : ℕ) where
   handed-sizes unlisted z = absurd z
 
   -- it is a listed type's, and the code's row is its row
-  handed-listed : (q : Kind) → Handable (listingOf q .shape) ns t b n → placeIn q < 13
-  unfolding listingOf
-  handed-listed =
-      by-kind (λ (q : Kind). Handable (listingOf q .shape) ns t b n → placeIn q < 13) (λ q h z. h) (λ z. absurd z) (λ z. absurd z)
+  handed-listed : (q : Shape) (i : ℕ) → Tabled q i → Handable q ns t b n → i < listed
+  handed-listed indexed i h z = absurd z
+  handed-listed (row fs x) i h z = h
+  handed-listed pairs i h z = h
+  handed-listed words i h z = h
+  handed-listed unlisted i h z = absurd z
 
   module _ (k : ℕ) (z : Handable (shapeOf k) ns t b n) where
-    pub row-listed : placeIn (kindOf k) < 13
-    row-listed = handed-listed (kindOf k) z
+    pub row-listed : placeIn k < listed
+    row-listed = handed-listed (shapeOf k) (placeIn k) (tabled k) z
 
-    pub row-there : fieldsOf (getD rowCodes (placeIn (kindOf k)) []) ≡ fieldsIn (shapeOf k)
-    row-there = ap (λ (x : Said). x .fields) (tabled (kindOf k) row-listed)
+    pub row-there : fieldsOf (getD rowCodes (placeIn k) []) ≡ fieldsIn (shapeOf k)
+    row-there = fields-there k row-listed
 
     pub sizes : (n ≡ size (fieldsIn (shapeOf k)) + length b + 14) × (n ≤ 262144) × (textFits (fieldsIn (shapeOf k)) t ≡ true)
     sizes = handed-sizes (shapeOf k) z

@@ -4,9 +4,9 @@ use frame::Step;
 use frame::TAIL;
 use frame::Walk;
 use layout::Answer;
-use layout::Kind;
 use layout::Verdict;
 use layout::codes;
+use layout::types;
 ghost use mathlib.Core.Path.{_≡_};
 ghost use mathlib.Core.Bool.{Bool};
 ghost use mathlib.Core.List.{[]};
@@ -14,8 +14,8 @@ ghost use Prim.Native.Nat.{ℕ, _+_, _-_, _^_, _≤_, _<_};
 ghost use lib.ListN.{length, take, drop};
 ghost use lib.Seq.{sets};
 ghost use Rattle.order.specs.Order.{numOf, signedOf, patternOf};
-ghost use Rattle.layout.specs.Types.{listingOf, shapeOf};
-ghost use Rattle.tuples.specs.Readers.{isPing, isRow, recordsOf};
+ghost use Rattle.layout.specs.Types.{shapeOf};
+ghost use Rattle.tuples.specs.Readers.{isPing, isRecord, recordsOf};
 ghost use Rattle.frame.specs.inner.Framing.{closeBytes};
 ghost use Rattle.tuples.specs.inner.Opening.{FoundTuple, FoundAs, OpenedAs};
 ghost use Rattle.tuples.specs.Writers.{Written, plainBytes};
@@ -77,34 +77,24 @@ fn open_found(file: &[u8], place: usize, msb: bool, whole: usize, code: u16, ask
     }
 }
 
-// Whether a kind is a record's.
-pub fn is_record(kind: Kind) -> bool
-    ensures { λ r. ⌜ r ≡ isRow (listingOf kind .shape) ⌝ }
+// Whether a type is a record's: listed, and no ping's.
+pub fn is_record(code: u16) -> bool
+    ensures { λ r. ⌜ r ≡ isRecord code ⌝ }
 {
-    match kind {
-        Kind::Signature => true,
-        Kind::Sounder => true,
-        Kind::Channel => true,
-        Kind::Position => true,
-        Kind::Navigation => true,
-        Kind::Attitude => true,
-        Kind::Threshold => true,
-        Kind::Event => true,
-        Kind::PingU => false,
-        Kind::PingC => false,
-        Kind::RunStart => true,
-        Kind::RunEnd => true,
-        Kind::FileEnd => true,
-        Kind::Index => false,
-        Kind::Unlisted => false,
+    if code == types::PING_U {
+        return false;
     }
+    if code == types::PING_C {
+        return false;
+    }
+    layout::listing_of(code) < layout::LISTED
 }
 
 // Whether a reader of the records of one type asks for a tuple of a type.
 fn asks_record(asked: u16, code: u16) -> bool
     ensures { λ r. ⌜ r ≡ recordsOf asked code ⌝ }
 {
-    if !is_record(layout::kind_of(asked)) {
+    if !is_record(asked) {
         return false;
     }
     code == asked
@@ -168,7 +158,7 @@ fn put_tuple(
         (plainBytes msb code (handedValues (shapeOf code) (now (numbers .entry)) (now (remark .entry)) (now (behind .entry))
         (patternOf 4 attribute))) ⌝ }
 {
-    let row = layout::row(layout::kind_of(code).listing());
+    let row = layout::row(layout::listing_of(code));
     frame::open_frame(out, 0, msb, whole, code);
     turning::write_row(&row, numbers, remark, msb, out, DATA);
     turning::copy(behind, 0, behind.len(), out, whole - TAIL - behind.len());

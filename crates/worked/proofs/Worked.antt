@@ -4,7 +4,7 @@ use mathlib.Core.Path.{_≡_, refl}
 use mathlib.Core.Bool.{true}
 use mathlib.Core.List.{List, [], _∷_, map}
 use Prim.Native.String.{String}
-use Rattle.layout.specs.Types.{classes, inClass, kindOf, listingOf}
+use Rattle.layout.specs.Types.{classes, inClass, listings, among, listingOf}
 use Rattle.layout.specs.declared.Answer.the-variants.{Accepted}
 use Rattle.layout.specs.Answers.{counting}
 use Rattle.frame.specs.Frames.{allowed, frame, sizeAt, kindAt, backAt, framing}
@@ -35,7 +35,7 @@ unfolding table allHold holds readAnswer sampleAnswer normalFile normalTuple lin
     singleForm singleAnswer firstUnlisted items contentOf normalTuples formed normalOf ending turn checkFrom checkFile formOf itemOf
     digestOf wordsIn attributeIn countIn contentU contentC dataU dataC has naming firstWrong words allWords unwords pairUp unpair isRun
     runLength decodeFrom isBad values firstBad firstDrop allowed frame sizeAt kindAt backAt framing mark isMsb marked stepForward tuplesFrom
-    tuplesOf classes inClass kindOf listingOf
+    tuplesOf classes inClass listings among listingOf
 worked = refl
 
 -- ---- the small whole file
@@ -48,7 +48,7 @@ unfolding lsb lsbOtherCut msb msbOtherCut normalFile normalTuple linesOf allDigi
     singleAnswer firstUnlisted items contentOf normalTuples formed normalOf ending turn checkFrom checkFile formOf itemOf digestOf wordsIn
     attributeIn countIn contentU contentC dataU dataC has comparedIn naming firstWrong words allWords unwords pairUp unpair isRun runLength
     decodeFrom isBad values firstBad firstDrop allowed frame sizeAt kindAt backAt framing mark isMsb marked stepForward tuplesFrom tuplesOf
-    classes inClass kindOf listingOf
+    classes inClass listings among listingOf
 accepted = refl
 
 -- and printed as the one normal form, which is printed as itself
@@ -58,5 +58,5 @@ unfolding normal lsb lsbOtherCut msb msbOtherCut normalFile normalTuple linesOf 
     singleForm singleAnswer firstUnlisted items contentOf normalTuples formed normalOf ending turn checkFrom checkFile formOf itemOf
     digestOf wordsIn attributeIn countIn contentU contentC dataU dataC has naming firstWrong words allWords unwords pairUp unpair isRun
     runLength decodeFrom isBad values firstBad firstDrop allowed frame sizeAt kindAt backAt framing mark isMsb marked stepForward tuplesFrom
-    tuplesOf classes inClass kindOf listingOf
+    tuplesOf classes inClass listings among listingOf
 one-form = refl

@@ -8,14 +8,14 @@ const NUMBERS_USES: &str = "\
 use mathlib.Core.List.{[], _∷_}
 use borrow.Author.Needs.{needs}
 use mir.Syntax.{$widths$}
-use Rattle.layout.specs.Types.{classes, inClass, kindOf, listingOf}
+use Rattle.layout.specs.Types.{listings, among, listingOf}
 use Rattle.rows.proofs.Views.{held-pattern}
 ";
 
 const NUMBERS: &str = "\
 -- n0 and so on: the place behind the call on a field; f0 and so on: what the struct tells of a signed field and those behind it
 returns : tie.Need-returns
-unfolding kindOf inClass classes listingOf
+unfolding listingOf among listings
 returns n$last$ =
 $places$
     let r = $start$ .args .self in

@@ -8,14 +8,14 @@ use crate::template::{antt, conversion, lines, Values};
 const OF_USES: &str = "\
 use borrow.Author.Needs.{needs}
 use mir.Syntax.{$widths$}
-use Rattle.layout.specs.Types.{classes, inClass, kindOf, listingOf}
+use Rattle.layout.specs.Types.{listings, among, listingOf}
 use Rattle.rows.proofs.Views.{held-signed}
 ";
 
 const OF: &str = "\
 -- n0 and so on: the place behind the call on a number
 returns : tie.Need-returns
-unfolding kindOf inClass classes listingOf
+unfolding listingOf among listings
 returns n$last$ =
 $places$
     λ i.

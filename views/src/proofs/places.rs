@@ -6,12 +6,12 @@ use crate::template::Values;
 
 const PLACES_USES: &str = "\
 use mathlib.Core.Path.{refl}
-$needs$use Rattle.layout.specs.Types.{classes, inClass, kindOf, listingOf}
+$needs$use Rattle.layout.specs.Types.{listings, among, listingOf}
 ";
 
 const PLACES: &str = "\
 returns : tie.Need-returns
-unfolding kindOf inClass classes listingOf
+unfolding listingOf among listings
 returns c = refl
 ";
 

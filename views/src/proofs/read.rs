@@ -10,7 +10,7 @@ use borrow.Author.Needs.{needs}
 use Rattle.order.proofs.Laws.{bytes-of}
 use Rattle.layout.specs.declared.Answer.{Answer}
 use Rattle.layout.specs.Answers.{tells}
-use Rattle.layout.specs.Types.{classes, inClass, kindOf, listingOf}
+use Rattle.layout.specs.Types.{listings, among, listingOf}
 $part_uses$use Rattle.rows.specs.Integers.{rowIntegers}
 use Rattle.rows.proofs.Views.{$views$}
 use Rattle.$module$·specs.specs.declared.$Name$.{$Name$}
@@ -36,14 +36,14 @@ abbrev there : tie.After-numbers2 → $Name$
 there d = $camel$Of (rowIntegers $code$ (start d .args .file .now) (start d .args .place))
 
 $stands$returns : tie.Need-returns
-unfolding kindOf inClass classes listingOf
+unfolding listingOf among listings
 returns c =
     let d = c .before .before .before in
     let e = view-refused $code$ refl refl (rw (c .before .code .given .1) at (d .before .read-row .ensures)) in
     record { answer = tells e; outcome = ap (λ (x : Answer). answered x $outcome$) e }
 
 returns-2 : tie.Need-returns-2
-unfolding kindOf inClass classes listingOf
+unfolding listingOf among listings
 returns-2 c =
     let d = $read$ in
     let r = rw ($told$ .given .1) at (d .before .read-row .ensures) in

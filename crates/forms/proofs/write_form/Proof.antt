@@ -5,7 +5,8 @@ use native.Mathlib.Omega.{arith}
 use borrow.Author.Needs.{needs}
 use lib.ListN.{length, drop}
 use lib.Seq.{sets}
-use Rattle.layout.specs.Types.{inClass, index, kindOf, placeIn}
+use Rattle.layout.specs.Types.{inClass, index}
+use Rattle.layout.specs.inner.Codes.{placeIn}
 use Rattle.frame.specs.Frames.{tupAt}
 use Rattle.content.specs.Forms.{formBytes}
 use Rattle.forms.specs.inner.Sound.{SoundHere}
@@ -18,8 +19,8 @@ use Rattle.forms.proofs.write_form.Tie as tie
 abbrev start : tie.Else2 → tie.Start
 start c = c .before .before .before .before .before
 
-abbrev no-ping : tie.After-listing → tie.Else2
-no-ping c = c .before .before .before
+abbrev no-ping : tie.After-listing-of → tie.Else2
+no-ping c = c .before .before
 
 returns : tie.Need-returns
 returns c =
@@ -54,15 +55,14 @@ returns-3 c =
     (whole (w .before .before .before), w .write-u .ensures)
 
 -- its listing, as the code looked it up
-placed : (c : tie.After-listing)
-    → c .listing .result ≡ placeIn (kindOf (start (c .before .before .before) .args .code))
-placed c = c .listing .ensures ∙ ap placeIn (c .before .kind-of .ensures)
+placed : (c : tie.After-listing-of) → c .listing-of .result ≡ placeIn (start (c .before .before) .args .code)
+placed c = c .listing-of .ensures
 
 write-raw-requires : tie.Need-write-raw-requires
 write-raw-requires c κs =
     let k = c .before in
     let l = k .before in
-    let d = l .before .before .before in
+    let d = no-ping l in
     let p = d .before .before .before .before .before .pre in
     (p .0, (raw-shape _ (outside d) (sym (placed l) ∙ k .if4 .taken), omega (arith, whole d, p .1)))
 
@@ -75,7 +75,7 @@ write-row-requires : tie.Need-write-row-requires
 write-row-requires c κs =
     let k = c .before in
     let l = k .before in
-    let u = l .before .before in
+    let u = l .before in
     let d = u .before in
     let p = d .before .before .before .before .before .pre in
     (p .0, (rowed _ (outside d) (d .if2 .left) (u .if3 .left) (λ e. k .if4 .left (placed l ∙ e)), (placed l, omega (arith, whole d, p .1))))
@@ -97,7 +97,6 @@ write-form-spec =
     write-u-requires
     (λ c. search needs)
     returns-3
-    (λ c κs. search needs)
     (λ c κs. search needs)
     write-raw-requires
     (λ c. search needs)

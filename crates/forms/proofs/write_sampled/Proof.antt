@@ -32,7 +32,7 @@ room s =
 open-form-requires : tie.Need-open-form-requires
 open-form-requires c κs =
     let r = room (c .before .before .before .before) in
-    let l = ping-listed (c .before .listing .ensures) in
+    let l = ping-listed (c .before .listing-of .ensures) in
     (l .0, (omega arith, (omega arith, (omega arith, omega arith))))
 
 spread-words-requires : tie.Need-spread-words-requires
@@ -54,7 +54,7 @@ returns c =
     let listing = header .before .before in
     let s = listing .before .before .before in
     words-written (s .pre .0) (s .args .out .now) _ (s .args .to) refl (s .args .bytes) (s .pre .1 .1 .0) (s .pre .1 .0)
-    (rw (back .close-form .ensures, pairs .spread-words .ensures, header .open-form .ensures, listing .listing .ensures))
+    (rw (back .close-form .ensures, pairs .spread-words .ensures, header .open-form .ensures, listing .listing-of .ensures))
 
 pub write-sampled-spec : {M : Type 1} → statement M
 write-sampled-spec =

@@ -24,7 +24,7 @@ room s = (long-words (s .pre .0) refl, most (s .pre .0) .2)
 open-form-requires : tie.Need-open-form-requires
 open-form-requires c κs =
     let r = room (c .before .before .before .before) in
-    let l = ping-listed (c .before .listing .ensures) in
+    let l = ping-listed (c .before .listing-of .ensures) in
     (l .0, (omega arith, (omega arith, (omega arith, omega arith))))
 
 close-form-requires : tie.Need-close-form-requires
@@ -40,7 +40,7 @@ returns c =
     let listing = header .before .before in
     let s = listing .before .before .before in
     silent-written (s .pre .0) (s .args .out .now) _ (s .args .to) refl (s .pre .1 .0)
-    (rw (back .close-form .ensures, silence .write-silence .ensures, header .open-form .ensures, listing .listing .ensures))
+    (rw (back .close-form .ensures, silence .write-silence .ensures, header .open-form .ensures, listing .listing-of .ensures))
 
 pub write-silent-spec : {M : Type 1} → statement M
 write-silent-spec =

@@ -28,7 +28,7 @@ room s = let r = most (s .pre .0) in (long-pairs (s .pre .0) refl, r .1, r .2)
 open-form-requires : tie.Need-open-form-requires
 open-form-requires c κs =
     let r = room (c .before .before .before .before) in
-    let l = ping-listed (c .before .listing .ensures) in
+    let l = ping-listed (c .before .listing-of .ensures) in
     (l .0, (omega arith, (omega arith, (omega arith, omega arith))))
 
 turn-words-requires : tie.Need-turn-words-requires
@@ -54,7 +54,7 @@ returns c =
     let listing = header .before .before in
     let s = listing .before .before .before in
     pairs-written (s .pre .0) (s .args .out .now) _ (s .args .to) refl
-    (rw (back .close-form .ensures, pairs .turn-words .ensures, header .open-form .ensures, listing .listing .ensures))
+    (rw (back .close-form .ensures, pairs .turn-words .ensures, header .open-form .ensures, listing .listing-of .ensures))
 
 pub write-u-spec : {M : Type 1} → statement M
 write-u-spec =

@@ -7,10 +7,9 @@ use borrow.Author.Needs.{needs}
 use borrow.Author.Tests.{not-false}
 use lib.Dec.{eqb}
 use Rattle.rules.specs.Rules.{_⇒_}
-use Rattle.layout.specs.declared.Kind.{Kind}
 use Rattle.layout.specs.Answers.{judged, _byte_}
 use Rattle.layout.specs.Fields.{known}
-use Rattle.layout.specs.Types.{kindOf, listingOf, fitting}
+use Rattle.layout.specs.Types.{lengthsOf, fitting}
 use Rattle.intake.specs.inner.Tallies.{Fits, headVerdict}
 use Rattle.intake.proofs.Judges.{tupIn, identifiedIn, room, head-place, identifier-read, no-identifier}
 use Rattle.intake.proofs.judge_head.Statement.{statement}
@@ -18,7 +17,7 @@ use Rattle.intake.proofs.judge_head.Tie as tie
 
 -- places, named by what has been done there
 abbrev start : tie.Else2 → tie.Start
-start c = c .before .before .before .before .before
+start c = c .before .before .before .before
 
 returns : tie.Need-returns
 returns c =
@@ -30,28 +29,25 @@ placed : (c : tie.Else1) → let a = c .before .before .args in not (Bool·beq (
 placed c = c .if1 .left
 
 -- the test of the length, as the code made it
-tested : (c : tie.After-fits2) → let a = c .before .before .before .before .args in
-    fitting (listingOf (kindOf (a .code)) .length) (a .whole) ≡ c .fits2 .result
-tested c =
-    sym (c .fits2 .ensures
-    ∙ ap (λ (q : Kind). fitting (listingOf q .length) (c .before .before .before .before .args .whole)) (c .before .kind-of .ensures))
+tested : (c : tie.After-fits2) → let a = c .before .before .before .args in fitting (lengthsOf (a .code)) (a .whole) ≡ c .fits2 .result
+tested c = sym (c .fits2 .ensures)
 
 returns-2 : tie.Need-returns-2
 returns-2 c =
     let d = c .before .before in
-    let s = d .before .before .before .before in
-    rw (c .fault2 .ensures, head-place (s .pre) (s .args .first), placed (d .before .before), tested d, c .before .if2 .taken)
+    let s = d .before .before .before in
+    rw (c .fault2 .ensures, head-place (s .pre) (s .args .first), placed (d .before), tested d, c .before .if2 .taken)
 
 -- its length fits: the identifier is left
-fits : (c : tie.Else2) → let a = c .before .before .before .before .before .args in Fits (a .whole) (a .code)
+fits : (c : tie.Else2) → let a = start c .args in Fits (a .whole) (a .code)
 fits c = tested (c .before) ∙ not-false _ (c .if2 .left)
 
-past2 : (c : tie.Else2) → let a = c .before .before .before .before .before .args in
+past2 : (c : tie.Else2) → let a = start c .args in
     headVerdict (a .msb) (a .first) (tupIn (a .msb) (a .file .now) (a .at))
     ≡ judged ((not (identifiedIn (a .msb) (a .file .now) (a .at)) ⇒ 8 byte 0) ∷ [])
 past2 c =
-    let s = c .before .before .before .before .before in
-    rw (head-place (s .pre) (s .args .first), placed (c .before .before .before), fits c)
+    let s = start c in
+    rw (head-place (s .pre) (s .args .first), placed (c .before .before), fits c)
 
 returns-3 : tie.Need-returns-3
 returns-3 c = rw (past2 (c .before), no-identifier (start (c .before) .pre) (c .if3 .taken))
@@ -61,7 +57,7 @@ read : (c : tie.After-read2) → let a = start (c .before .before) .args in
     identifiedIn (a .msb) (a .file .now) (a .at) ≡ known (c .read2 .result)
 read c =
     let d = c .before .before in
-    identifier-read (d .before .before .before .before .before .pre) (fits d) (c .before .if3 .left) ∙ ap known (sym (c .read2 .ensures))
+    identifier-read (start d .pre) (fits d) (c .before .if3 .left) ∙ ap known (sym (c .read2 .ensures))
 
 returns-4 : tie.Need-returns-4
 returns-4 c =
@@ -81,7 +77,6 @@ judge-head-spec =
     (tie.spec
     (λ c κs. search needs)
     returns
-    (λ c κs. search needs)
     (λ c κs. search needs)
     (λ c κs. search needs)
     returns-2

@@ -1,20 +1,23 @@
--- `intake::turn` meets its contract: what was said of the tuple, and its type, say which law of a turn holds. Assumes nothing.
-use mathlib.Core.Path.{_≡_, sym, subst}
+-- `intake::turn` meets its contract: what was said of the tuple, and what its type says, tell which law of a turn holds. Assumes nothing.
+use mathlib.Core.Path.{_≡_, refl, sym, subst, _∙_}
 use Prim.Native.Nat.{_<_}
 use native.Mathlib.Omega.{arith}
 use borrow.Author.Needs.{needs}
 use lib.ListN.{drop}
 use Rattle.layout.specs.declared.Verdict.the-variants.{Fine, Fault}
+use Rattle.layout.specs.declared.Says.{Says}
+use Rattle.layout.specs.declared.Says.the-variants as says
+use Rattle.layout.specs.Types.{saysOf}
 use Rattle.frame.specs.Frames.{lenAt}
 use Rattle.frame.proofs.Places.{Whole, framing-whole}
 use Rattle.links.specs.declared.Channel.{Channel}
 use Rattle.links.specs.Links.{mostChannels}
 use Rattle.links.specs.inner.Tables.{channelOf, channelRow}
 use Rattle.intake.specs.inner.Tallies.{Tables, tables, Here, said, comparesAt}
-use Rattle.intake.proofs.Said.{fault-near, fine-parts}
+use Rattle.intake.proofs.Said.{QuietBy, fault-near, fine-parts}
 use Rattle.intake.proofs.Judges.{room, whole, channel-whole, turn-fine, turn-fault}
 use Rattle.intake.proofs.Tallies.{compares-few, fine-fits, holds, room-sounder, room-channel, turns-fault, turns-sounder}
-use Rattle.intake.proofs.Tallies.{turns-channel, turns-end, turns-other}
+use Rattle.intake.proofs.Tallies.{turns-channel, turns-end, turns-other, no-end-of}
 use Rattle.intake.proofs.turn.Statement.{statement}
 use Rattle.intake.proofs.turn.Tie as tie
 
@@ -22,11 +25,14 @@ use Rattle.intake.proofs.turn.Tie as tie
 abbrev asked : tie.After-judge-arg6 → tie.Start
 asked c = c .before .before .before .before .before .before .before
 
-abbrev typed-sounder : tie.After-struct-known → tie.After-kind-at
-typed-sounder c = c .before .before .before .before .before .before
+abbrev typed : tie.After-says-of → tie.After-kind-at
+typed c = c .before .before
 
-abbrev typed-channel : tie.After-struct-known2 → tie.After-kind-at
-typed-channel c = c .before .before .before .before .before .before .before .before .before
+abbrev of-sounder : tie.After-put-sounder-arg → tie.After-enum-told4
+of-sounder c = c .before .before
+
+abbrev of-channel : tie.After-put-channel-arg → tie.After-enum-told5
+of-channel c = c .before .before
 
 abbrev held : tie.Start → Tables
 held s = tables (s .args .sounders .now) (s .args .channels .now)
@@ -93,103 +99,134 @@ past-requires c κs =
       omega (arith, p .spent, p .few, p .within, l, cost d, compares-few (s .args .msb) (s .pre .1 .1 .1) p),
     )
 
+-- what the type says, in an arm of the match
+says-by : (c : tie.After-says-of) {a : Says} → c .says-of .result ≡ a → saysOf (typed c .kind-at .result) ≡ a
+says-by c e = sym (c .says-of .ensures) ∙ e
+
 -- ---- a sounder
 put-sounder-requires : tie.Need-put-sounder-requires
 put-sounder-requires c κs =
-    let t = c .before .before in
-    let k = t .before .before in
+    let e = of-sounder c in
+    let m = e .before .before in
+    let k = typed m in
     let s = from k in (
-      room-sounder _ (s .pre .1 .1 .1) (s .pre .0) (here k) (fine (k .before .before .before)) (t .if1 .taken),
+      room-sounder _ (s .pre .1 .1 .1) (s .pre .0) (here k) (fine (k .before .before .before)) (says-by m (e .enum-told4 .given .1)),
       omega (arith, s .pre .0 .within, s .pre .1 .1 .0),
     )
 
 add-next : tie.Need-add-next
-add-next c = let s = from (typed-sounder c) in omega (arith, s .pre .0 .sounders)
+add-next c = let s = from (typed (of-sounder (c .before .before) .before .before)) in omega (arith, s .pre .0 .sounders)
 
-returns : tie.Need-returns
-returns c =
+returns-6 : tie.Need-returns-6
+returns-6 c =
     let d = c .before in
-    let t = d .before .before .before in
-    let p = t .before in
-    let k = p .before in
+    let n = d .before .before in
+    let e = n .before in
+    let m = e .before .before in
+    let k = typed m in
     let s = from k in
-    rw (p .past .ensures, d .put-sounder .ensures, d .before .sounder-at .ensures)
+    rw (m .before .past .ensures, d .put-sounder .ensures, n .sounder-at .ensures)
     (turns-sounder _ (s .pre .1 .1 .1) (s .pre .0) (s .pre .1 .0) _ (here k) (fine (k .before .before .before))
-    (cost (k .before .before .before)) (t .if1 .taken))
+    (cost (k .before .before .before)) (says-by m (e .enum-told4 .given .1)))
 
 -- ---- a channel
 channel-at-requires : tie.Need-channel-at-requires
-channel-at-requires c κs =
-    let k = c .before .before .before in
+channel-at-requires e κs =
+    let m = e .before .before in
+    let k = typed m in
     let s = from k in
-    channel-whole (here k) (fine-fits _ (s .pre .1 .1 .1) (s .pre .0) (here k) (fine (k .before .before .before))) (c .if2 .taken)
+    channel-whole (here k) (fine-fits _ (s .pre .1 .1 .1) (s .pre .0) (here k) (fine (k .before .before .before)))
+    (says-by m (e .enum-told5 .given .1))
 
 -- there is room for it
-room-for : (c : tie.Then2) → let s = from (c .before .before .before) in s .args .w .channels < mostChannels
-room-for c =
-    let k = c .before .before .before in
+room-for : (e : tie.After-enum-told5) → let s = from (typed (e .before .before)) in s .args .w .channels < mostChannels
+room-for e =
+    let m = e .before .before in
+    let k = typed m in
     let s = from k in
-    room-channel _ (s .pre .1 .1 .1) (s .pre .0) (here k) (fine (k .before .before .before)) (c .if2 .taken)
+    room-channel _ (s .pre .1 .1 .1) (s .pre .0) (here k) (fine (k .before .before .before)) (says-by m (e .enum-told5 .given .1))
 
 put-channel-requires : tie.Need-put-channel-requires
 put-channel-requires c κs =
-    let t = c .before .before in
-    let s = from (t .before .before .before) in
-    (room-for t, omega (arith, s .pre .0 .within, s .pre .1 .1 .0))
+    let e = of-channel c in
+    let s = from (typed (e .before .before)) in
+    (room-for e, omega (arith, s .pre .0 .within, s .pre .1 .1 .0))
 
 add-next-2 : tie.Need-add-next-2
-add-next-2 c = let s = from (typed-channel c) in
+add-next-2 c =
+    let s = from (typed (of-channel (c .before .before .before .before) .before .before)) in
     omega (arith, s .pre .0 .channels)
 
-returns-2 : tie.Need-returns-2
-returns-2 c =
+returns-7 : tie.Need-returns-7
+returns-7 c =
     let d = c .before .before .before in
     let n = d .before .before in
-    let t = n .before in
-    let p = t .before .before in
-    let k = p .before in
+    let e = n .before in
+    let m = e .before .before in
+    let k = typed m in
     let s = from k in
-    rw (p .past .ensures, d .put-channel .ensures .0, n .channel-at .ensures)
+    rw (m .before .past .ensures, d .put-channel .ensures .0, n .channel-at .ensures)
     (turns-channel _ (s .pre .1 .1 .1) (s .pre .0) (s .pre .1 .0) _ (here k) (fine (k .before .before .before))
-    (cost (k .before .before .before)) (t .if2 .taken)
+    (cost (k .before .before .before)) (says-by m (e .enum-told5 .given .1))
     (subst (λ (x : Channel). channelOf (channelRow x (s .args .w .at)) ≡ x) (n .channel-at .ensures) (d .put-channel .ensures .1)))
 
 -- ---- the end of file
-abbrev ended : tie.After-end-arg4 → tie.Then3
+abbrev ended : tie.After-end-arg4 → tie.Then1
 ended c = c .before .before .before .before
 
 end-requires : tie.Need-end-requires
 end-requires c κs =
-    let p = ended c .before .before .before in
+    let p = ended c .before .before .before .before in
     let s = from (p .before) in
     rw (p .past .ensures) (
       omega (arith, s .pre .1 .1 .1 .sounders, s .pre .0 .sounders),
       omega (arith, s .pre .1 .1 .1 .channels, s .pre .0 .channels),
     )
 
-returns-3 : tie.Need-returns-3
-returns-3 c =
+returns : tie.Need-returns
+returns c =
     let t = ended (c .before) in
-    let p = t .before .before .before in
+    let p = t .before .before .before .before in
     let k = p .before in
     let s = from k in
     rw (c .end .ensures, p .past .ensures)
     (turns-end _ (s .pre .1 .1 .1) (s .pre .0) (s .pre .1 .0) (p .past .result .near) (here k) (fine (k .before .before .before))
-    (cost (k .before .before .before)) (t .if3 .taken))
+    (cost (k .before .before .before)) (t .if1 .taken))
 
 -- ---- a fault, and any other tuple
-returns-4 : tie.Need-returns-4
-returns-4 c =
+returns-2 : tie.Need-returns-2
+returns-2 c =
     let s = start (c .before .before .before .before) in
     rw (c .refuse .ensures) (turns-fault _ (s .pre .1 .1 .1) (s .pre .0) (s .pre .1 .0) _ _ (faulty (c .before .before)))
 
+-- what names a channel
+returns-3 : tie.Need-returns-3
+returns-3 c =
+    let m = c .before .before in
+    let k = typed m in
+    let s = from k in
+    let e = says-by m {a = says.Names} (c .enum-told .given .1) in
+    rw (m .before .past .ensures) (turns-other _ (s .pre .1 .1 .1) (s .pre .0) (s .pre .1 .0) _ (here k) (fine (k .before .before .before))
+    (cost (k .before .before .before)) (subst QuietBy (sym e) tt) (no-end-of _ _ e refl))
+
+returns-4 : tie.Need-returns-4
+returns-4 c =
+    let m = c .before .before in
+    let k = typed m in
+    let s = from k in
+    let e = says-by m {a = says.NamesOrAll} (c .enum-told2 .given .1) in
+    rw (m .before .past .ensures) (turns-other _ (s .pre .1 .1 .1) (s .pre .0) (s .pre .1 .0) _ (here k) (fine (k .before .before .before))
+    (cost (k .before .before .before)) (subst QuietBy (sym e) tt) (no-end-of _ _ e refl))
+
+-- what says nothing
 returns-5 : tie.Need-returns-5
 returns-5 c =
-    let p = c .before .before .before in
-    let k = p .before in
+    let m = c .before .before .before in
+    let k = typed m in
     let s = from k in
-    rw (p .past .ensures) (turns-other _ (s .pre .1 .1 .1) (s .pre .0) (s .pre .1 .0) _ (here k) (fine (k .before .before .before))
-    (cost (k .before .before .before)) (c .before .before .if1 .left) (c .before .if2 .left) (c .if3 .left))
+    let e = says-by m (c .before .enum-told3 .given .1) in
+    rw (m .before .past .ensures) (turns-other _ (s .pre .1 .1 .1) (s .pre .0) (s .pre .1 .0) _ (here k) (fine (k .before .before .before))
+    (cost (k .before .before .before)) (subst QuietBy (sym e) tt) (c .if1 .left))
 
 pub turn-spec : {M : Type 1} → statement M
 turn-spec =
@@ -203,16 +240,24 @@ turn-spec =
     length-at-requires
     kind-at-requires
     past-requires
-    (λ c κs. room (here (c .before .before .before)))
+    (λ c κs. search needs)
+    (λ c. search needs)
+    (λ c. search needs)
+    (λ c. search needs)
+    end-requires
+    returns
+    (λ c. search needs)
+    (λ c κs. room (here (typed (c .before .before))))
     put-sounder-requires
     add-next
-    returns
+    (λ c. search needs)
     channel-at-requires
     put-channel-requires
-    (λ c κs. room-for (c .before .before .before .before))
+    (λ c κs. room-for (of-channel (c .before .before)))
     add-next-2
     returns-2
-    end-requires
     returns-3
     returns-4
-    returns-5)
+    returns-5
+    returns-6
+    returns-7)

@@ -15,7 +15,7 @@ use Rattle.layout.specs.declared.Answer.{Answer}
 use Rattle.layout.specs.declared.Verdict.{Verdict}
 use Rattle.layout.specs.declared.Verdict.the-variants.{Fine}
 use Rattle.layout.specs.Answers.{both, judged, _byte_}
-use Rattle.layout.specs.Types.{kindOf, listingOf, fitting, inClass}
+use Rattle.layout.specs.Types.{lengthsOf, fitting, inClass}
 use Rattle.layout.specs.Types
 use Rattle.frame.specs.Frames.{Tup, lenAt, kindAt, tupAt, framing}
 use Rattle.links.specs.declared.LinkVerdict.{LinkVerdict}
@@ -106,7 +106,7 @@ pub record Here (o : Bool) (f : List ℕ) (at n k : ℕ) : Type 0 where
 
 -- its length fits its type
 abbrev pub Fits : ℕ → ℕ → Type 0
-Fits n k = fitting (listingOf (kindOf k) .length) n ≡ true
+Fits n k = fitting (lengthsOf k) n ≡ true
 
 -- what a sounder tuple and a channel tuple declare, and the channel that another names, by their bytes
 abbrev pub sounderAt : Bool → List ℕ → ℕ → Sounder

@@ -3,6 +3,7 @@ use mathlib.Core.Path.{_≡_, refl}
 use mathlib.Core.List.{[]}
 use native.Mathlib.Omega.{arith}
 use borrow.Author.Needs.{needs}
+use Rattle.layout.specs.Types.{listings}
 use Rattle.layout.specs.inner.Codes.{rowCodes}
 use Rattle.layout.proofs.Arms.{arm, at-least}
 use Rattle.layout.proofs.row.Statement.{statement}
@@ -10,14 +11,14 @@ use Rattle.layout.proofs.row.Tie as tie
 
 -- behind the twelve arms one listing is left
 returns-13 : tie.Need-returns-13
-unfolding rowCodes
+unfolding rowCodes listings
 returns-13 c =
     let s = c .before .before in
     let e : s .args .listing ≡ 12 = omega (arith, s .pre, at-least 12 (s .args .listing) (c .before .match .rest)) in
     arm rowCodes [] e refl
 
 pub row-spec : {M : Type 1} → statement M
-unfolding rowCodes
+unfolding rowCodes listings
 row-spec =
     tie.close
     (tie.spec

@@ -1,14 +1,54 @@
--- The code's tables: rows of field codes, least lengths and steps, in the order of `listed`. Assumes nothing.
-use Prim.Native.Nat.{ℕ, zero, suc}
-use mathlib.Core.List.{List, [], _∷_}
+-- The code's tables: what each listed type measures, and its row as codes; in the order of `listings`. Assumes nothing.
+use Prim.Native.Nat.{ℕ, zero, suc, _-_}
+use mathlib.Core.Bool.{Bool, cond}
+use mathlib.Core.List.{List, [], _∷_, _++_, map}
 use mathlib.Core.Option.{Option, some, none}
 use lib.Dec.{eqb}
+use lib.ListN.{length, replicate}
 use Rattle.rules.specs.Rules.{_⇒_, firstOf}
-use Rattle.layout.specs.Text.{ascii}
-use Rattle.layout.specs.Fields.{Field, u, s, c, z, ident, many, beforeText, bareSize, size}
-use Rattle.layout.specs.Types.{Length, exactly, upward}
+use Rattle.layout.specs.Fields.{Field, num, txt, gap, ident, u, s, c, z, many, beforeText, bareSize, size}
+use Rattle.layout.specs.Types.{Shape, indexed, row, pairs, words, unlisted, pingRow, Length, exactly, upward, leastOf, stepOf}
+use Rattle.layout.specs.Types.{Listing, Listed, listings}
 
--- the field of a code: 2, 4, s, S, c, z, i; any other code is none
+-- ---- places
+-- the place of a type code among some types: their number where none has it
+unfoldable pub placeAmong : ℕ → List Listed → ℕ
+placeAmong k [] = 0
+placeAmong k (l ∷ ls) = cond (eqb k (l .code)) 0 (suc (placeAmong k ls))
+
+abbrev pub placeIn : ℕ → ℕ
+placeIn k = placeAmong k listings
+
+-- ---- rows
+-- the fields that a shape begins with
+abbrev pub fieldsIn : Shape → List Field
+fieldsIn indexed = []
+fieldsIn (row fs x) = fs
+fieldsIn pairs = pingRow
+fieldsIn words = pingRow ++ (u 4 ∷ [])
+fieldsIn unlisted = []
+
+-- the code of a field: 2, 4, s, S, c, z, i
+abbrev pub codeOf : Field → ℕ
+codeOf (num signed w) = cond signed (cond (eqb w 2) 115 83) (cond (eqb w 2) 50 52)
+codeOf (txt w) = 99
+codeOf (gap w) = 122
+codeOf ident = 105
+
+-- a row as codes, with dots behind them
+abbrev pub rowLength : ℕ
+rowLength = 27
+
+abbrev pub dotted : List ℕ → List ℕ
+dotted ks = ks ++ replicate (rowLength - length ks) 46
+
+abbrev pub codesIn : Listing → List ℕ
+codesIn l = dotted (map codeOf (fieldsIn (l .shape)))
+
+unfoldable pub rowCodes : List (List ℕ)
+rowCodes = map (λ l. codesIn (l .listing)) listings
+
+-- the field of a code; any other code is none
 unfoldable pub fieldOf : ℕ → Option Field
 fieldOf k =
     firstOf
@@ -31,49 +71,17 @@ unfoldable pub fieldsOf : List ℕ → List Field
 fieldsOf [] = []
 fieldsOf (k ∷ ks) = fieldsFrom (fieldOf k) (fieldsOf ks)
 
-unfoldable pub rowCodes : List (List ℕ)
-rowCodes =
-    ascii "i224......................."
-    ∷ ascii "2422s2s22s22cz............."
-    ∷ ascii "244222z44ssss2222222sss44cz"
-    ∷ ascii "s442zSS...................."
-    ∷ ascii "242s2z....................."
-    ∷ ascii "2422sssssz................."
-    ∷ ascii "24222222444................"
-    ∷ ascii "24........................."
-    ∷ ascii "24224S....................."
-    ∷ ascii "24224S4...................."
-    ∷ ascii "24........................."
-    ∷ ascii "24........................."
-    ∷ ascii "242........................"
-    ∷ []
-
-unfoldable pub leasts : List ℕ
-leasts = 24 ∷ 72 ∷ 108 ∷ 36 ∷ 28 ∷ 36 ∷ 44 ∷ 24 ∷ 40 ∷ 40 ∷ 20 ∷ 20 ∷ 24 ∷ []
-
-unfoldable pub steps : List ℕ
-steps = 0 ∷ 0 ∷ 0 ∷ 0 ∷ 0 ∷ 0 ∷ 0 ∷ 4 ∷ 8 ∷ 4 ∷ 0 ∷ 0 ∷ 4 ∷ []
-
+-- ---- measures
 -- what a row measures: its numbers, its bytes before its characters, its bytes but for these, all its bytes
 abbrev pub measured : List Field → List ℕ
 measured fs = many fs ∷ beforeText fs ∷ bareSize fs ∷ size fs ∷ []
 
+-- a type's: its row's; its least length and its step
+abbrev pub measuredBy : Listing → List ℕ
+measuredBy l = measured (fieldsIn (l .shape)) ++ (leastOf (l .length) ∷ stepOf (l .length) ∷ [])
+
 unfoldable pub measures : List (List ℕ)
-measures =
-    (3 ∷ 10 ∷ 10 ∷ 10 ∷ [])
-    ∷ (12 ∷ 26 ∷ 28 ∷ 58 ∷ [])
-    ∷ (24 ∷ 62 ∷ 64 ∷ 94 ∷ [])
-    ∷ (6 ∷ 22 ∷ 22 ∷ 22 ∷ [])
-    ∷ (5 ∷ 14 ∷ 14 ∷ 14 ∷ [])
-    ∷ (9 ∷ 22 ∷ 22 ∷ 22 ∷ [])
-    ∷ (11 ∷ 30 ∷ 30 ∷ 30 ∷ [])
-    ∷ (2 ∷ 6 ∷ 6 ∷ 6 ∷ [])
-    ∷ (6 ∷ 18 ∷ 18 ∷ 18 ∷ [])
-    ∷ (7 ∷ 22 ∷ 22 ∷ 22 ∷ [])
-    ∷ (2 ∷ 6 ∷ 6 ∷ 6 ∷ [])
-    ∷ (2 ∷ 6 ∷ 6 ∷ 6 ∷ [])
-    ∷ (3 ∷ 8 ∷ 8 ∷ 8 ∷ [])
-    ∷ []
+measures = map (λ l. measuredBy (l .listing)) listings
 
 -- the lengths that a least length and a step say
 abbrev pub lengthBy : ℕ → ℕ → Length

@@ -1,38 +1,34 @@
--- `normal::is_unlisted` meets its contract: of the kinds that have no listing, only the index class is left out. Assumes nothing.
+-- `normal::is_unlisted` meets its contract: of the types that have no listing, only the index class is left out. Assumes nothing.
 use mathlib.Core.Path.{_≡_, refl, sym, ap, _∙_}
-use mathlib.Core.Bool.{Bool, true, false, cond, true≢false}
+use mathlib.Core.Bool.{false, true≢false}
 use Prim.Native.Nat.{ℕ}
+use native.Mathlib.Omega.{arith}
 use borrow.Author.Needs.{needs}
+use borrow.Author.Tests.{eq-eqb, ne-eqb}
 use lib.Dec.{eqb}
-use lib.ListN.{drop}
-use Rattle.rules.specs.Rules.{firstOf}
-use Rattle.rules.proofs.Laws.{_⊳_, by-rules}
-use Rattle.layout.specs.declared.Kind.{Kind}
-use Rattle.layout.specs.declared.Kind.the-variants.{Index, Unlisted}
-use Rattle.layout.specs.Types.{inClass, index, kindRules, kindOf, listingOf, shapeOf, placeIn}
+use Rattle.layout.specs.Types.{Shape, indexed, row, pairs, words, unlisted, inClass, index, shapeOf, listed}
+use Rattle.layout.specs.inner.Codes.{placeIn}
+use Rattle.layout.proofs.Tables.{Tabled, tabled, index-shape, shape-index}
 use Rattle.normal.specs.Normaliser.{isUnlisted}
 use Rattle.normal.proofs.is_unlisted.Statement.{statement}
 use Rattle.normal.proofs.is_unlisted.Tie as tie
 
-indexed : (k : ℕ) → inClass index k ≡ true → false ≡ isUnlisted (shapeOf k)
-unfolding kindOf listingOf
-indexed k e = sym (ap (λ (b : Bool). isUnlisted (listingOf (cond b Index (firstOf (drop 1 (kindRules k)) Unlisted)) .shape)) e)
-
-unlisted-by : (k : ℕ) → inClass index k ≡ false → eqb (placeIn (kindOf k)) 13 ≡ isUnlisted (shapeOf k)
-unfolding kindOf listingOf
-unlisted-by k e =
-    by-rules (λ (q : Kind). eqb (placeIn q) 13 ≡ isUnlisted (listingOf q .shape)) (kindRules k) Unlisted
-    ((λ h. absurd (true≢false (sym h ∙ e))) ⊳ (λ _. refl) ⊳ (λ _. refl) ⊳ (λ _. refl) ⊳ (λ _. refl) ⊳ (λ _. refl)
-    ⊳ (λ _. refl) ⊳ (λ _. refl) ⊳ (λ _. refl) ⊳ (λ _. refl) ⊳ (λ _. refl) ⊳ (λ _. refl) ⊳ (λ _. refl) ⊳ (λ _. refl)
-    ⊳ refl)
+by-place : (k : ℕ) → inClass index k ≡ false → (q : Shape) → shapeOf k ≡ q → Tabled q (placeIn k) → eqb (placeIn k) listed ≡ isUnlisted q
+by-place k e indexed s l = absurd (true≢false (sym (shape-index k s) ∙ e))
+by-place k e (row fs x) s l = ne-eqb (placeIn k) listed (λ z. omega arith)
+by-place k e pairs s l = ne-eqb (placeIn k) listed (λ z. omega arith)
+by-place k e words s l = ne-eqb (placeIn k) listed (λ z. omega arith)
+by-place k e unlisted s l = eq-eqb (placeIn k) listed l
 
 returns : tie.Need-returns
-returns c = indexed _ (sym (c .before .in-class .ensures) ∙ c .if1 .taken)
+returns c = sym (ap isUnlisted (index-shape _ (sym (c .before .in-class .ensures) ∙ c .if1 .taken)))
 
 returns-2 : tie.Need-returns-2
-returns-2 c = let k = c .before .before in
-    ap (λ (n : ℕ). eqb n 13) (c .listing .ensures ∙ ap placeIn (c .before .kind-of .ensures))
-    ∙ unlisted-by _ (sym (k .before .in-class .ensures) ∙ k .if1 .left)
+returns-2 c =
+    let i = c .before in
+    let k = i .before .before .args .code in
+    ap (λ (n : ℕ). eqb n listed) (c .listing-of .ensures)
+    ∙ by-place k (sym (i .before .in-class .ensures) ∙ i .if1 .left) (shapeOf k) refl (tabled k)
 
 pub is-unlisted-spec : {M : Type 1} → statement M
-is-unlisted-spec = tie.close (tie.spec (λ c κs. search needs) returns (λ c κs. search needs) (λ c κs. search needs) returns-2)
+is-unlisted-spec = tie.close (tie.spec (λ c κs. search needs) returns (λ c κs. search needs) returns-2)

@@ -8,6 +8,7 @@ use borrow.Author.Needs.{needs}
 use lib.ListN.{length, take, drop, getD}
 use lib.Seq.{sets}
 use Rattle.layout.specs.Fields.{Field, size, many}
+use Rattle.layout.specs.Types.{listings}
 use Rattle.layout.specs.inner.Codes.{fieldOf, fieldsOf, rowCodes}
 use Rattle.layout.proofs.Arms.{at-least}
 use Rattle.layout.proofs.Rows.{cut}
@@ -47,7 +48,7 @@ last : (m : tie.At-match-rest) → m .before .before .before .args .listing ≡ 
 last m = let s = m .before .before .before in omega (arith, s .pre .0, at-least 12 (s .args .listing) (m .match .rest))
 
 pub read-listed-spec : {M : Type 1} → statement M
-unfolding rowCodes fieldsOf fieldOf
+unfolding rowCodes listings fieldsOf fieldOf
 read-listed-spec =
     tie.close
     (tie.spec

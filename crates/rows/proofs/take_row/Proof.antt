@@ -1,15 +1,16 @@
 -- `rows::take_row` meets its contract: the fields' numbers and the attribute, one behind the other; 19 where fewer are lent. Assumes
 -- nothing.
 use mathlib.Core.Path.{_≡_, ap, _∙_}
-use mathlib.Core.List.{List, [], _∷_}
+use mathlib.Core.List.{List, [], _∷_, _++_}
 use Prim.Native.Nat.{ℕ, _+_, _-_, _≤_, _<_}
 use native.Mathlib.Omega.{arith}
 use borrow.Author.Needs.{needs}
 use lib.ListN.{length, getD, drop}
 use lib.Seq.{sets}
 use Rattle.layout.specs.Fields.{Field, size, many, beforeText, bareSize}
-use Rattle.layout.specs.Types.{shapeOf, kindOf, placeIn}
-use Rattle.layout.specs.inner.Codes.{measures, measured}
+use Rattle.layout.specs.Types.{shapeOf, lengthsOf, leastOf, stepOf}
+use Rattle.layout.specs.Types as types
+use Rattle.layout.specs.inner.Codes.{placeIn, measures, measured}
 use Rattle.turning.specs.Rows.{valuesOf, numbersIn}
 use Rattle.rows.specs.inner.Listed.{listedFields}
 use Rattle.rows.specs.Readers.{fieldsBy}
@@ -19,8 +20,8 @@ use Rattle.rows.proofs.take_row.Statement.{statement}
 use Rattle.rows.proofs.take_row.Tie as tie
 
 -- ---- places: the function's start, and where the row is measured
-abbrev start : tie.After-listing → tie.Start
-start l = l .before .before .before .before
+abbrev start : tie.After-listing-of → tie.Start
+start l = l .before .before .before
 
 abbrev measuring : tie.After-read4 → tie.After-measure
 measuring c = c .before .before .before .before .before .before
@@ -29,18 +30,24 @@ abbrev attribute : tie.After-slice-known2 → tie.Start
 attribute c = start (c .before .before .before .before .before .before)
 
 -- the fields of the row
-abbrev fields : tie.After-listing → List Field
+abbrev fields : tie.After-listing-of → List Field
 fields l = fieldsBy (shapeOf (start l .args .code))
 
--- ---- the listing is that of the type asked for
-at-listing : (l : tie.After-listing) → l .listing .result ≡ placeIn (kindOf (start l .args .code))
-at-listing l = l .listing .ensures ∙ ap placeIn (l .before .kind-of .ensures)
+-- what is measured of the type
+abbrev measuredFor : tie.After-listing-of → List ℕ
+measuredFor l =
+    let n = lengthsOf (start l .args .code) in
+    measured (fields l) ++ (leastOf n ∷ stepOf n ∷ [])
 
-listed : (l : tie.After-listing) → l .listing .result < 13
+-- ---- the listing is that of the type asked for
+at-listing : (l : tie.After-listing-of) → l .listing-of .result ≡ placeIn (start l .args .code)
+at-listing l = l .listing-of .ensures
+
+listed : (l : tie.After-listing-of) → l .listing-of .result < types.listed
 listed l = let d = start l in rw (at-listing l) (row-listed (d .args .code) (opened-row (d .pre)))
 
 -- what the tables say of it
-told : (m : tie.After-measure) → m .measure .result ≡ measured (fields (m .before))
+told : (m : tie.After-measure) → m .measure .result ≡ measuredFor (m .before)
 told m =
     let d = start (m .before) in
     m .measure .ensures ∙ ap (λ (i : ℕ). getD measures i []) (at-listing (m .before)) ∙ row-measure (d .args .code) (opened-row (d .pre))
@@ -54,7 +61,7 @@ before-told m = ap (λ (l : List ℕ). getD l 1 0) (told m)
 bare-told : (m : tie.After-measure) → getD (m .measure .result) 2 0 ≡ bareSize (fields (m .before))
 bare-told m = ap (λ (l : List ℕ). getD l 2 0) (told m)
 
-rowed : (l : tie.After-listing) → listedFields (l .listing .result) ≡ fields l
+rowed : (l : tie.After-listing-of) → listedFields (l .listing-of .result) ≡ fields l
 rowed l = let d = start l in ap listedFields (at-listing l) ∙ row-fields (d .args .code) (opened-row (d .pre))
 
 -- ---- the places of the tuple are the file's
@@ -105,7 +112,6 @@ pub take-row-spec : {M : Type 1} → statement M
 take-row-spec =
     tie.close
     (tie.spec
-    (λ c κs. search needs)
     (λ c κs. search needs)
     (λ c κs. listed c)
     (λ c. search needs)

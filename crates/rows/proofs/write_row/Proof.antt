@@ -2,7 +2,7 @@
 -- Assumes nothing.
 use mathlib.Core.Path.{_≡_, sym, ap, _∙_}
 use mathlib.Core.Bool.{true}
-use mathlib.Core.List.{List, []}
+use mathlib.Core.List.{List, [], _∷_, _++_}
 use Prim.Native.Nat.{ℕ, _+_, _<_, _≤_}
 use native.Mathlib.Omega.{arith}
 use borrow.Author.Needs.{needs}
@@ -12,11 +12,10 @@ use mir.Facts.{toZ-ofZ}
 use lib.ListN.{length, getD}
 use Rattle.order.specs.Order.{patternOf}
 use Rattle.order.proofs.Signed.{pattern-signed}
-use Rattle.layout.specs.declared.Kind.{Kind}
 use Rattle.layout.specs.Fields.{Field, size, many, bareSize}
-use Rattle.layout.specs.Types.{kindOf, shapeOf, listingOf, placeIn, fitting}
-use Rattle.layout.specs.inner.Codes.{measures, measured}
-use Rattle.tuples.specs.Readers.{isRow, isRecord}
+use Rattle.layout.specs.Types.{shapeOf, lengthsOf, leastOf, stepOf, fitting}
+use Rattle.layout.specs.inner.Codes.{placeIn, measures, measured}
+use Rattle.tuples.specs.Readers.{isRecord}
 use Rattle.rows.specs.Readers.{fieldsBy}
 use Rattle.rows.specs.Writers.{rowLength}
 use Rattle.rows.proofs.Shapes.{is-row, row-listed, row-measure, row-little, bare-size}
@@ -26,7 +25,7 @@ use Rattle.rows.proofs.write_row.Tie as tie
 
 -- ---- places: the function's start; from where all rules are kept back to where the row is measured
 abbrev start : tie.After-is-record → tie.Start
-start r = r .before .before .before .before .before
+start r = r .before .before .before .before
 
 abbrev measuring : tie.Else4 → tie.After-measure
 measuring l = l .before .before .before .before
@@ -41,9 +40,15 @@ fields r = fieldsBy (shapeOf (start r .args .code))
 abbrev typed-at : tie.After-measure → tie.After-is-record
 typed-at m = m .before .before .before
 
+-- what is measured of the type
+abbrev measuredFor : tie.After-is-record → List ℕ
+measuredFor r =
+    let n = lengthsOf (start r .args .code) in
+    measured (fields r) ++ (leastOf n ∷ stepOf n ∷ [])
+
 -- ---- whether it is a record's type
 recorded : (r : tie.After-is-record) → r .is-record .result ≡ isRecord (start r .args .code)
-recorded r = r .is-record .ensures ∙ ap (λ (q : Kind). isRow (listingOf q .shape)) (r .before .kind-of .ensures)
+recorded r = r .is-record .ensures
 
 is : (e : tie.Else1) → isRecord (start (e .before) .args .code) ≡ true
 is e = sym (recorded (e .before)) ∙ not-false _ (e .if1 .left)
@@ -56,14 +61,14 @@ returns c =
     (sym (recorded r) ∙ not-true _ (c .before .if1 .taken)))
 
 -- ---- its listing, and what the tables say of it
-at-listing : (l : tie.After-listing) → l .listing .result ≡ placeIn (kindOf (start (l .before .before) .args .code))
-at-listing l = l .listing .ensures ∙ ap placeIn (l .before .before .before .kind-of .ensures)
+at-listing : (l : tie.After-listing-of) → l .listing-of .result ≡ placeIn (start (l .before .before) .args .code)
+at-listing l = l .listing-of .ensures
 
 measure-requires : tie.Need-measure-requires
 measure-requires c κs = let k = start (c .before .before) .args .code in
     rw (at-listing c) (row-listed k (is-row (shapeOf k) (is (c .before))))
 
-told : (m : tie.After-measure) → m .measure .result ≡ measured (fields (typed-at m))
+told : (m : tie.After-measure) → m .measure .result ≡ measuredFor (typed-at m)
 told m =
     let k = start (typed-at m) .args .code in
     m .measure .ensures
@@ -95,10 +100,8 @@ as-length : (m : tie.After-measure) → lengthAt m ≡ rowLength (start (typed-a
 as-length m = ap (λ (b : ℕ). b + length (start (typed-at m) .args .text .now) + 14) (bare-told m)
 
 fitted : (f : tie.After-fits2)
-    → let m = f .before .before in f .fits2 .result ≡ fitting (listingOf (kindOf (start (typed-at m) .args .code)) .length) (lengthAt m)
-fitted f =
-    let m = f .before .before in
-    f .fits2 .ensures ∙ ap (λ (q : Kind). fitting (listingOf q .length) (lengthAt m)) (typed-at m .before .kind-of .ensures)
+    → let m = f .before .before in f .fits2 .result ≡ fitting (lengthsOf (start (typed-at m) .args .code)) (lengthAt m)
+fitted f = f .fits2 .ensures
 
 returns-3 : tie.Need-returns-3
 returns-3 c =
@@ -144,7 +147,7 @@ last : (g : tie.After-signed4)
     patternOf 4 (g .signed4 .result) ≡ getD (start (typed-at m) .args .numbers .now) (getD (m .measure .result) 0 0) 0
 last g =
     let m = measuring (kept-at g) in
-    let s = typed-at m .before .before .before .before in
+    let s = typed-at m .before .before .before in
     ap (patternOf 4) (g .signed4 .ensures) ∙ pattern-signed 4 _ (s .shared-slice-known .given (getD (m .measure .result) 0 0) .fits)
 
 own-less : (h : tie.Then5) → let m = measuring (kept-at (h .before)) in bareSize (fields (typed-at m)) < size (fields (typed-at m))
@@ -181,7 +184,6 @@ pub write-row-spec : {M : Type 1} → statement M
 write-row-spec =
     tie.close
     (tie.spec
-    (λ c κs. search needs)
     (λ c κs. search needs)
     (λ c κs. search needs)
     returns

@@ -4,27 +4,22 @@ use mathlib.Core.Bool.{Bool, _&&_}
 use borrow.Author.Needs.{needs}
 use borrow.Author.Tests.{not-true, not-false}
 use lib.Dec.{eqb}
-use Rattle.layout.specs.declared.Kind.{Kind}
-use Rattle.layout.specs.Types.{listingOf}
-use Rattle.tuples.specs.Readers.{isRow}
 use Rattle.tuples.proofs.asks_record.Statement.{statement}
 use Rattle.tuples.proofs.asks_record.Tie as tie
 
 returns : tie.Need-returns
 returns c =
-    let a = c .before .before .before .args in
+    let a = c .before .before .args in
     ap (λ (b : Bool). b && eqb (a .code) (a .asked))
     (sym (not-true _ (c .if1 .taken))
-    ∙ c .before .is-record .ensures
-    ∙ ap (λ (q : Kind). isRow (listingOf q .shape)) (c .before .before .kind-of .ensures))
+    ∙ c .before .is-record .ensures)
 
 returns-2 : tie.Need-returns-2
 returns-2 c =
-    let a = c .before .before .before .args in
+    let a = c .before .before .args in
     ap (λ (b : Bool). b && eqb (a .code) (a .asked))
     (sym (not-false _ (c .if1 .left))
-    ∙ c .before .is-record .ensures
-    ∙ ap (λ (q : Kind). isRow (listingOf q .shape)) (c .before .before .kind-of .ensures))
+    ∙ c .before .is-record .ensures)
 
 pub asks-record-spec : {M : Type 1} → statement M
-asks-record-spec = tie.close (tie.spec (λ c κs. search needs) (λ c κs. search needs) returns returns-2)
+asks-record-spec = tie.close (tie.spec (λ c κs. search needs) returns returns-2)

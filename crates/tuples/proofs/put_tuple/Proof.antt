@@ -11,17 +11,16 @@ use lib.ListN.{length, getD}
 use lib.Seq.{take-length}
 use Rattle.order.specs.Order.{patternOf}
 use Rattle.layout.specs.Fields.{size}
-use Rattle.layout.specs.Types.{shapeOf, placeIn}
-use Rattle.layout.specs.inner.Codes.{fieldsOf, rowCodes}
-use Rattle.layout.proofs.Tables.{fieldsIn}
+use Rattle.layout.specs.Types.{shapeOf}
+use Rattle.layout.specs.inner.Codes.{fieldsIn, fieldsOf, rowCodes}
 use Rattle.turning.specs.inner.Codes.{textFits}
 use Rattle.tuples.proofs.Writing.{row-listed, row-there, sizes, put}
 use Rattle.tuples.proofs.put_tuple.Statement.{statement}
 use Rattle.tuples.proofs.put_tuple.Tie as tie
 
 -- ---- places: back to the function's start, from where the listing is known, the fields are written, the characters and the tail
-abbrev start : tie.After-listing → tie.Start
-start l = l .before .before .before .before .before .before
+abbrev start : tie.After-listing-of → tie.Start
+start l = l .before .before .before .before .before
 
 abbrev rowing : tie.After-write-row-arg → tie.After-row
 rowing c = c .before .before .before .before .before .before
@@ -39,7 +38,7 @@ rowed c =
     let a = d .args in
     ap fieldsOf
     (c .row .ensures
-    ∙ ap (λ (i : ℕ). getD rowCodes i []) (c .before .listing .ensures ∙ ap placeIn (c .before .before .kind-of .ensures)))
+    ∙ ap (λ (i : ℕ). getD rowCodes i []) (c .before .listing-of .ensures))
     ∙ row-there (a .msb) (a .numbers .now) (a .remark .now) (a .behind .now) (a .whole) (patternOf 4 (a .attribute)) (a .code) (d .pre .0)
 
 -- how many bytes it has
@@ -56,7 +55,7 @@ row-requires : tie.Need-row-requires
 row-requires c κs =
     let d = start c in
     let a = d .args in
-    rw (c .listing .ensures, c .before .kind-of .ensures)
+    rw (c .listing-of .ensures)
     (row-listed (a .msb) (a .numbers .now) (a .remark .now) (a .behind .now) (a .whole) (patternOf 4 (a .attribute)) (a .code)
     (d .pre .0))
 
@@ -101,7 +100,6 @@ pub put-tuple-spec : {M : Type 1} → statement M
 put-tuple-spec =
     tie.close
     (tie.spec
-    (λ c κs. search needs)
     (λ c κs. search needs)
     row-requires
     open-frame-requires

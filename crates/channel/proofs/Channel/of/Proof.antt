@@ -2,14 +2,14 @@
 -- `channel::Channel::of` meets its contract: each field by its number. Assumes nothing.
 use borrow.Author.Needs.{needs}
 use mir.Syntax.{w16, w32}
-use Rattle.layout.specs.Types.{classes, inClass, kindOf, listingOf}
+use Rattle.layout.specs.Types.{listings, among, listingOf}
 use Rattle.rows.proofs.Views.{held-signed}
 use Rattle.channel.proofs.Channel.of.Statement.{statement}
 use Rattle.channel.proofs.Channel.of.Tie as tie
 
 -- n0 and so on: the place behind the call on a number
 returns : tie.Need-returns
-unfolding kindOf inClass classes listingOf
+unfolding listingOf among listings
 returns n24 =
     let n23 = n24 .before in
     let n22 = n23 .before in

@@ -2,14 +2,14 @@
 -- `event::Event::of` meets its contract: each field by its number. Assumes nothing.
 use borrow.Author.Needs.{needs}
 use mir.Syntax.{w32}
-use Rattle.layout.specs.Types.{classes, inClass, kindOf, listingOf}
+use Rattle.layout.specs.Types.{listings, among, listingOf}
 use Rattle.rows.proofs.Views.{held-signed}
 use Rattle.event.proofs.Event.of.Statement.{statement}
 use Rattle.event.proofs.Event.of.Tie as tie
 
 -- n0 and so on: the place behind the call on a number
 returns : tie.Need-returns
-unfolding kindOf inClass classes listingOf
+unfolding listingOf among listings
 returns n2 =
     let n1 = n2 .before in
     let n0 = n1 .before in

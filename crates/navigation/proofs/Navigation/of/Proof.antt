@@ -2,14 +2,14 @@
 -- `navigation::Navigation::of` meets its contract: each field by its number. Assumes nothing.
 use borrow.Author.Needs.{needs}
 use mir.Syntax.{w16, w32}
-use Rattle.layout.specs.Types.{classes, inClass, kindOf, listingOf}
+use Rattle.layout.specs.Types.{listings, among, listingOf}
 use Rattle.rows.proofs.Views.{held-signed}
 use Rattle.navigation.proofs.Navigation.of.Statement.{statement}
 use Rattle.navigation.proofs.Navigation.of.Tie as tie
 
 -- n0 and so on: the place behind the call on a number
 returns : tie.Need-returns
-unfolding kindOf inClass classes listingOf
+unfolding listingOf among listings
 returns n5 =
     let n4 = n5 .before in
     let n3 = n4 .before in

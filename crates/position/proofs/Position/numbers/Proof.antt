@@ -3,14 +3,14 @@
 use mathlib.Core.List.{[], _∷_}
 use borrow.Author.Needs.{needs}
 use mir.Syntax.{w16, w32}
-use Rattle.layout.specs.Types.{classes, inClass, kindOf, listingOf}
+use Rattle.layout.specs.Types.{listings, among, listingOf}
 use Rattle.rows.proofs.Views.{held-pattern}
 use Rattle.position.proofs.Position.numbers.Statement.{statement}
 use Rattle.position.proofs.Position.numbers.Tie as tie
 
 -- n0 and so on: the place behind the call on a field; f0 and so on: what the struct tells of a signed field and those behind it
 returns : tie.Need-returns
-unfolding kindOf inClass classes listingOf
+unfolding listingOf among listings
 returns n6 =
     let n5 = n6 .before .before in
     let n4 = n5 .before .before in

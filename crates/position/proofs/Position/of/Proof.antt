@@ -2,14 +2,14 @@
 -- `position::Position::of` meets its contract: each field by its number. Assumes nothing.
 use borrow.Author.Needs.{needs}
 use mir.Syntax.{w16, w32}
-use Rattle.layout.specs.Types.{classes, inClass, kindOf, listingOf}
+use Rattle.layout.specs.Types.{listings, among, listingOf}
 use Rattle.rows.proofs.Views.{held-signed}
 use Rattle.position.proofs.Position.of.Statement.{statement}
 use Rattle.position.proofs.Position.of.Tie as tie
 
 -- n0 and so on: the place behind the call on a number
 returns : tie.Need-returns
-unfolding kindOf inClass classes listingOf
+unfolding listingOf among listings
 returns n6 =
     let n5 = n6 .before in
     let n4 = n5 .before in

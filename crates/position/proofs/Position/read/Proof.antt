@@ -6,7 +6,7 @@ use borrow.Author.Needs.{needs}
 use Rattle.order.proofs.Laws.{bytes-of}
 use Rattle.layout.specs.declared.Answer.{Answer}
 use Rattle.layout.specs.Answers.{tells}
-use Rattle.layout.specs.Types.{classes, inClass, kindOf, listingOf}
+use Rattle.layout.specs.Types.{listings, among, listingOf}
 use Rattle.rows.specs.Integers.{rowIntegers}
 use Rattle.rows.proofs.Views.{view-refused, view-accepted, view-integers}
 use Rattle.position.specs.declared.Position.{Position}
@@ -27,14 +27,14 @@ abbrev there : tie.After-numbers2 → Position
 there d = positionOf (rowIntegers 20 (start d .args .file .now) (start d .args .place))
 
 returns : tie.Need-returns
-unfolding kindOf inClass classes listingOf
+unfolding listingOf among listings
 returns c =
     let d = c .before .before .before in
     let e = view-refused 20 refl refl (rw (c .before .code .given .1) at (d .before .read-row .ensures)) in
     record { answer = tells e; outcome = ap (λ (x : Answer). answered x (there d)) e }
 
 returns-2 : tie.Need-returns-2
-unfolding kindOf inClass classes listingOf
+unfolding listingOf among listings
 returns-2 c =
     let d = c .before .before .before in
     let r = rw (c .before .enum-told .given .1) at (d .before .read-row .ensures) in

@@ -3,7 +3,7 @@
 use mathlib.Core.Path.{refl}
 use mathlib.Core.List.{[]}
 use borrow.Author.Needs.{needs}
-use Rattle.layout.specs.Types.{classes, inClass, kindOf, listingOf}
+use Rattle.layout.specs.Types.{listings, among, listingOf}
 use Rattle.tuples.specs.Readers.{rowOf}
 use Rattle.rows.specs.Integers.{patterns}
 use Rattle.rows.proofs.Views.{only-room}
@@ -19,7 +19,7 @@ abbrev start : tie.After-write-row → tie.Start
 start w = numbered w .before .before
 
 returns : tie.Need-returns
-unfolding kindOf inClass classes listingOf
+unfolding listingOf among listings
 returns c =
     let w = c .before .before in
     let a = start w .args in

@@ -6,7 +6,7 @@ use borrow.Author.Needs.{needs}
 use Rattle.order.proofs.Laws.{bytes-of}
 use Rattle.layout.specs.declared.Answer.{Answer}
 use Rattle.layout.specs.Answers.{tells}
-use Rattle.layout.specs.Types.{classes, inClass, kindOf, listingOf}
+use Rattle.layout.specs.Types.{listings, among, listingOf}
 use Rattle.tuples.specs.declared.Part.{Part}
 use Rattle.rows.specs.Readers.{rowText}
 use Rattle.rows.specs.Integers.{rowIntegers}
@@ -33,14 +33,14 @@ abbrev stands : tie.After-numbers2 → Part
 stands d = rowText 100 (start d .args .file .now) (start d .args .place)
 
 returns : tie.Need-returns
-unfolding kindOf inClass classes listingOf
+unfolding listingOf among listings
 returns c =
     let d = c .before .before .before in
     let e = view-refused 100 refl refl (rw (c .before .code .given .1) at (d .before .read-row .ensures)) in
     record { answer = tells e; outcome = ap (λ (x : Answer). answered x (there d) (stands d)) e }
 
 returns-2 : tie.Need-returns-2
-unfolding kindOf inClass classes listingOf
+unfolding listingOf among listings
 returns-2 c =
     let d = c .before .before .before .before in
     let r = rw (c .before .before .text .given .1) at (d .before .read-row .ensures) in

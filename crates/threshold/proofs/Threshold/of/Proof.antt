@@ -2,14 +2,14 @@
 -- `threshold::Threshold::of` meets its contract: each field by its number. Assumes nothing.
 use borrow.Author.Needs.{needs}
 use mir.Syntax.{w32}
-use Rattle.layout.specs.Types.{classes, inClass, kindOf, listingOf}
+use Rattle.layout.specs.Types.{listings, among, listingOf}
 use Rattle.rows.proofs.Views.{held-signed}
 use Rattle.threshold.proofs.Threshold.of.Statement.{statement}
 use Rattle.threshold.proofs.Threshold.of.Tie as tie
 
 -- n0 and so on: the place behind the call on a number
 returns : tie.Need-returns
-unfolding kindOf inClass classes listingOf
+unfolding listingOf among listings
 returns n11 =
     let n10 = n11 .before in
     let n9 = n10 .before in
