@@ -72,7 +72,9 @@ fn turn_listed(file: &[u8], at: usize, msb: bool, listing: usize, out: &mut [u8]
         9 => turning::turn_row(file, at, msb, &layout::row(9)[0..FIELDS[9]], out, to),
         10 => turning::turn_row(file, at, msb, &layout::row(10)[0..FIELDS[10]], out, to),
         11 => turning::turn_row(file, at, msb, &layout::row(11)[0..FIELDS[11]], out, to),
-        _ => turning::turn_row(file, at, msb, &layout::row(12)[0..FIELDS[12]], out, to),
+        12 => turning::turn_row(file, at, msb, &layout::row(12)[0..FIELDS[12]], out, to),
+        13 => turning::turn_row(file, at, msb, &layout::row(13)[0..FIELDS[13]], out, to),
+        _ => turning::turn_row(file, at, msb, &layout::row(14)[0..FIELDS[14]], out, to),
     }
 }
 

@@ -155,15 +155,15 @@ quiet-unless false l q = q
 -- a type that declares nothing
 abbrev pub QuietBy : Says → Type 0
 QuietBy says.Nothing = Unit {0}
-QuietBy says.Sounder = ⊥
-QuietBy says.Channel = ⊥
+QuietBy (says.Sounder m) = ⊥
+QuietBy (says.Channel m) = ⊥
 QuietBy says.Names = Unit {0}
 QuietBy says.NamesOrAll = Unit {0}
 
 quiet-row : (a : Says) → QuietBy a → (vs : List Value) → Quiet (linkBy a vs)
 quiet-row says.Nothing q vs = tt
-quiet-row says.Sounder q vs = absurd q
-quiet-row says.Channel q vs = absurd q
+quiet-row (says.Sounder m) q vs = absurd q
+quiet-row (says.Channel m) q vs = absurd q
 quiet-row says.Names q vs = tt
 quiet-row says.NamesOrAll q vs = quiet-unless (eqb (numberAt vs 2) 65535) (Links.names (record { 0 = numberAt vs 2 })) tt
 

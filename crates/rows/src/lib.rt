@@ -49,7 +49,9 @@ fn read_listed(file: &[u8], at: usize, msb: bool, listing: usize, numbers: &mut 
         9 => turning::read_row(file, at, msb, &layout::row(9)[0..FIELDS[9]], numbers),
         10 => turning::read_row(file, at, msb, &layout::row(10)[0..FIELDS[10]], numbers),
         11 => turning::read_row(file, at, msb, &layout::row(11)[0..FIELDS[11]], numbers),
-        _ => turning::read_row(file, at, msb, &layout::row(12)[0..FIELDS[12]], numbers),
+        12 => turning::read_row(file, at, msb, &layout::row(12)[0..FIELDS[12]], numbers),
+        13 => turning::read_row(file, at, msb, &layout::row(13)[0..FIELDS[13]], numbers),
+        _ => turning::read_row(file, at, msb, &layout::row(14)[0..FIELDS[14]], numbers),
     }
 }
 

@@ -14,7 +14,7 @@ use Rattle.frame.specs.Tuples.{tuplesFrom, tuplesOf}
 use Rattle.samples.specs.Words.{words, allWords, unwords, pairUp, unpair}
 use Rattle.samples.specs.Runs.{isRun, runLength, decodeFrom, isBad, values, firstBad}
 use Rattle.samples.specs.Judging.{firstDrop}
-use Rattle.links.specs.Links.{has, comparedIn, naming, firstWrong}
+use Rattle.links.specs.Links.{has, declaredOwn, comparedIn, naming, firstWrong}
 use Rattle.content.specs.Pings.{wordsIn, attributeIn, countIn, contentU, contentC, dataU, dataC}
 use Rattle.content.specs.Items.{itemOf, digestOf}
 use Rattle.content.specs.Forms.{formOf}
@@ -33,7 +33,7 @@ use Rattle.worked.specs.Cruise.{lsb, lsbOtherCut, msb, msbOtherCut, norm
 pub worked : allHold table ≡ true
 unfolding table allHold holds readAnswer sampleAnswer normalFile normalTuple linesOf allDigits bytesIn inputFrom hex decimals normalAnswer
     singleForm singleAnswer firstUnlisted items contentOf normalTuples formed normalOf ending turn checkFrom checkFile formOf itemOf
-    digestOf wordsIn attributeIn countIn contentU contentC dataU dataC has naming firstWrong words allWords unwords pairUp unpair isRun
+    digestOf wordsIn attributeIn countIn contentU contentC dataU dataC has declaredOwn naming firstWrong words allWords unwords pairUp unpair isRun
     runLength decodeFrom isBad values firstBad firstDrop allowed frame sizeAt kindAt backAt framing mark isMsb marked stepForward tuplesFrom
     tuplesOf classes inClass listings among listingOf
 worked = refl
@@ -46,7 +46,7 @@ variants = lsb ∷ lsbOtherCut ∷ msb ∷ msbOtherCut ∷ []
 pub accepted : map (λ (v : List String). checkFile (fileOf v)) variants ≡ map (λ (v : List String). Accepted (counting 6 0 2)) variants
 unfolding lsb lsbOtherCut msb msbOtherCut normalFile normalTuple linesOf allDigits bytesIn inputFrom hex decimals normalAnswer singleForm
     singleAnswer firstUnlisted items contentOf normalTuples formed normalOf ending turn checkFrom checkFile formOf itemOf digestOf wordsIn
-    attributeIn countIn contentU contentC dataU dataC has comparedIn naming firstWrong words allWords unwords pairUp unpair isRun runLength
+    attributeIn countIn contentU contentC dataU dataC has declaredOwn comparedIn naming firstWrong words allWords unwords pairUp unpair isRun runLength
     decodeFrom isBad values firstBad firstDrop allowed frame sizeAt kindAt backAt framing mark isMsb marked stepForward tuplesFrom tuplesOf
     classes inClass listings among listingOf
 accepted = refl
@@ -56,7 +56,7 @@ pub one-form : map (λ (v : List String). normalFile (text v)) (normal ∷ varia
     ≡ text normal ∷ text normal ∷ text normal ∷ text normal ∷ text normal ∷ []
 unfolding normal lsb lsbOtherCut msb msbOtherCut normalFile normalTuple linesOf allDigits bytesIn inputFrom hex decimals normalAnswer
     singleForm singleAnswer firstUnlisted items contentOf normalTuples formed normalOf ending turn checkFrom checkFile formOf itemOf
-    digestOf wordsIn attributeIn countIn contentU contentC dataU dataC has naming firstWrong words allWords unwords pairUp unpair isRun
+    digestOf wordsIn attributeIn countIn contentU contentC dataU dataC has declaredOwn naming firstWrong words allWords unwords pairUp unpair isRun
     runLength decodeFrom isBad values firstBad firstDrop allowed frame sizeAt kindAt backAt framing mark isMsb marked stepForward tuplesFrom
     tuplesOf classes inClass listings among listingOf
 one-form = refl

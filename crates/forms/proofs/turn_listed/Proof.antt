@@ -39,9 +39,9 @@ module _ (s : tie.Start) {k n : ℕ} {r : List ℕ} (e : s .args .listing ≡ k)
   left g = let a = s .args in
       g ∙ ap (λ (fs : List Field). sets (a .out .now) (a .to) (turned (a .msb) fs (drop (a .at) (a .file .now)))) of-listing
 
--- behind the twelve arms one listing is left
-last : (m : tie.At-match-rest) → m .before .before .before .args .listing ≡ 12
-last m = let s = m .before .before .before in omega (arith, s .pre .0, at-least 12 (s .args .listing) (m .match .rest))
+-- behind the fourteen arms one listing is left
+last : (m : tie.At-match-rest) → m .before .before .before .args .listing ≡ 14
+last m = let s = m .before .before .before in omega (arith, s .pre .0, at-least 14 (s .args .listing) (m .match .rest))
 
 pub turn-listed-spec : {M : Type 1} → statement M
 unfolding rowCodes listings fieldsOf fieldOf
@@ -149,7 +149,25 @@ turn-listed-spec =
     (λ c. search needs)
     (λ c. search needs)
     (λ c. search needs)
-    (λ c κs. let r = c .before .before .before in let m = r .before in asked (m .before .before .before) (last m) (r .row13 .ensures) refl)
+    (λ c κs. let r = c .before .before .before in
+    let m = r .before in
+    asked (m .before .before .before) (m .match .keys13) (r .row13 .ensures) refl)
+    (λ c κs. search needs)
+    (λ c. search needs)
+    (λ c. search needs)
+    (λ c. search needs)
+    (λ c. search needs)
+    (λ c κs. let r = c .before .before .before in
+    let m = r .before in
+    asked (m .before .before .before) (m .match .keys14) (r .row14 .ensures) refl)
+    (λ c κs. search needs)
+    (λ c. search needs)
+    (λ c. search needs)
+    (λ c. search needs)
+    (λ c. search needs)
+    (λ c κs. let r = c .before .before .before in
+    let m = r .before in
+    asked (m .before .before .before) (last m) (r .row15 .ensures) refl)
     (λ c. search needs)
     (λ c. let t = c .before .before in
     let r = t .before .before .before .before in
@@ -214,4 +232,14 @@ turn-listed-spec =
     (λ c. let t = c .before .before in
     let r = t .before .before .before .before in
     let m = r .before in
-    left (m .before .before .before) (last m) (r .row13 .ensures) refl (t .turn-row13 .ensures)))
+    left (m .before .before .before) (m .match .keys13) (r .row13 .ensures) refl (t .turn-row13 .ensures))
+    (λ c. search needs)
+    (λ c. let t = c .before .before in
+    let r = t .before .before .before .before in
+    let m = r .before in
+    left (m .before .before .before) (m .match .keys14) (r .row14 .ensures) refl (t .turn-row14 .ensures))
+    (λ c. search needs)
+    (λ c. let t = c .before .before in
+    let r = t .before .before .before .before in
+    let m = r .before in
+    left (m .before .before .before) (last m) (r .row15 .ensures) refl (t .turn-row15 .ensures)))

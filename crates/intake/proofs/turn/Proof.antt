@@ -10,9 +10,10 @@ use Rattle.layout.specs.declared.Says.the-variants as says
 use Rattle.layout.specs.Types.{saysOf}
 use Rattle.frame.specs.Frames.{lenAt}
 use Rattle.frame.proofs.Places.{Whole, framing-whole}
+use Rattle.links.specs.declared.Sounder.{Sounder}
 use Rattle.links.specs.declared.Channel.{Channel}
 use Rattle.links.specs.Links.{mostChannels}
-use Rattle.links.specs.inner.Tables.{channelOf, channelRow}
+use Rattle.links.specs.inner.Tables.{sounderOf, sounderRow, channelOf, channelRow}
 use Rattle.intake.specs.inner.Tallies.{Tables, tables, Here, said, comparesAt}
 use Rattle.intake.proofs.Said.{QuietBy, fault-near, fine-parts}
 use Rattle.intake.proofs.Judges.{room, whole, channel-whole, turn-fine, turn-fault}
@@ -28,11 +29,11 @@ asked c = c .before .before .before .before .before .before .before
 abbrev typed : tie.After-says-of → tie.After-kind-at
 typed c = c .before .before
 
-abbrev of-sounder : tie.After-put-sounder-arg → tie.After-enum-told4
-of-sounder c = c .before .before
+abbrev of-sounder : tie.After-put-sounder-arg → tie.After-maker
+of-sounder c = c .before .before .before
 
-abbrev of-channel : tie.After-put-channel-arg → tie.After-enum-told5
-of-channel c = c .before .before
+abbrev of-channel : tie.After-put-channel-arg → tie.After-maker2
+of-channel c = c .before .before .before
 
 abbrev held : tie.Start → Tables
 held s = tables (s .args .sounders .now) (s .args .channels .now)
@@ -110,7 +111,7 @@ put-sounder-requires c κs =
     let m = e .before .before in
     let k = typed m in
     let s = from k in (
-      room-sounder _ (s .pre .1 .1 .1) (s .pre .0) (here k) (fine (k .before .before .before)) (says-by m (e .enum-told4 .given .1)),
+      room-sounder _ (s .pre .1 .1 .1) (s .pre .0) (here k) (fine (k .before .before .before)) (says-by m (e .maker .given .1)),
       omega (arith, s .pre .0 .within, s .pre .1 .1 .0),
     )
 
@@ -121,30 +122,32 @@ returns-6 : tie.Need-returns-6
 returns-6 c =
     let d = c .before in
     let n = d .before .before in
-    let e = n .before in
+    let e = n .before .before in
     let m = e .before .before in
     let k = typed m in
     let s = from k in
-    rw (m .before .past .ensures, d .put-sounder .ensures, n .sounder-at .ensures)
+    rw (m .before .past .ensures, d .put-sounder .ensures .0, n .sounder-at .ensures)
     (turns-sounder _ (s .pre .1 .1 .1) (s .pre .0) (s .pre .1 .0) _ (here k) (fine (k .before .before .before))
-    (cost (k .before .before .before)) (says-by m (e .enum-told4 .given .1)))
+    (cost (k .before .before .before)) (says-by m (e .maker .given .1))
+    (subst (λ (x : Sounder). sounderOf (sounderRow x (s .args .w .at)) ≡ x) (n .sounder-at .ensures) (d .put-sounder .ensures .1)))
 
 -- ---- a channel
 channel-at-requires : tie.Need-channel-at-requires
-channel-at-requires e κs =
+channel-at-requires c κs =
+    let e = c .before in
     let m = e .before .before in
     let k = typed m in
     let s = from k in
     channel-whole (here k) (fine-fits _ (s .pre .1 .1 .1) (s .pre .0) (here k) (fine (k .before .before .before)))
-    (says-by m (e .enum-told5 .given .1))
+    (says-by m (e .maker2 .given .1))
 
 -- there is room for it
-room-for : (e : tie.After-enum-told5) → let s = from (typed (e .before .before)) in s .args .w .channels < mostChannels
+room-for : (e : tie.After-maker2) → let s = from (typed (e .before .before)) in s .args .w .channels < mostChannels
 room-for e =
     let m = e .before .before in
     let k = typed m in
     let s = from k in
-    room-channel _ (s .pre .1 .1 .1) (s .pre .0) (here k) (fine (k .before .before .before)) (says-by m (e .enum-told5 .given .1))
+    room-channel _ (s .pre .1 .1 .1) (s .pre .0) (here k) (fine (k .before .before .before)) (says-by m (e .maker2 .given .1))
 
 put-channel-requires : tie.Need-put-channel-requires
 put-channel-requires c κs =
@@ -161,13 +164,13 @@ returns-7 : tie.Need-returns-7
 returns-7 c =
     let d = c .before .before .before in
     let n = d .before .before in
-    let e = n .before in
+    let e = n .before .before in
     let m = e .before .before in
     let k = typed m in
     let s = from k in
     rw (m .before .past .ensures, d .put-channel .ensures .0, n .channel-at .ensures)
     (turns-channel _ (s .pre .1 .1 .1) (s .pre .0) (s .pre .1 .0) _ (here k) (fine (k .before .before .before))
-    (cost (k .before .before .before)) (says-by m (e .enum-told5 .given .1))
+    (cost (k .before .before .before)) (says-by m (e .maker2 .given .1))
     (subst (λ (x : Channel). channelOf (channelRow x (s .args .w .at)) ≡ x) (n .channel-at .ensures) (d .put-channel .ensures .1)))
 
 -- ---- the end of file
@@ -247,7 +250,7 @@ turn-spec =
     end-requires
     returns
     (λ c. search needs)
-    (λ c κs. room (here (typed (c .before .before))))
+    (λ c κs. room (here (typed (c .before .before .before))))
     put-sounder-requires
     add-next
     (λ c. search needs)

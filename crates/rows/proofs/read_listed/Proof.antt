@@ -43,9 +43,9 @@ module _ (s : tie.Start) {k n : ℕ} {r : List ℕ} (e : s .args .listing ≡ k)
       let a = s .args in
       g ∙ ap (λ (fs : List Field). sets (a .numbers .now) 0 (numbersIn (valuesOf (a .msb) fs (drop (a .at) (a .file .now))))) of-listing
 
--- behind the twelve arms one listing is left
-last : (m : tie.At-match-rest) → m .before .before .before .args .listing ≡ 12
-last m = let s = m .before .before .before in omega (arith, s .pre .0, at-least 12 (s .args .listing) (m .match .rest))
+-- behind the fourteen arms one listing is left
+last : (m : tie.At-match-rest) → m .before .before .before .args .listing ≡ 14
+last m = let s = m .before .before .before in omega (arith, s .pre .0, at-least 14 (s .args .listing) (m .match .rest))
 
 pub read-listed-spec : {M : Type 1} → statement M
 unfolding rowCodes listings fieldsOf fieldOf
@@ -153,82 +153,97 @@ read-listed-spec =
     (λ c. search needs)
     (λ c. search needs)
     (λ c. search needs)
-    (λ c κs. let r = c .before .before .before in let m = r .before in asked (m .before .before .before) (last m) (r .row13 .ensures) refl)
+    (λ c κs. let r = c .before .before .before in
+    let m = r .before in
+    asked (m .before .before .before) (m .match .keys13) (r .row13 .ensures) refl)
+    (λ c κs. search needs)
     (λ c. search needs)
-    (λ c.
-    let t = c .before .before in
+    (λ c. search needs)
+    (λ c. search needs)
+    (λ c. search needs)
+    (λ c κs. let r = c .before .before .before in
+    let m = r .before in
+    asked (m .before .before .before) (m .match .keys14) (r .row14 .ensures) refl)
+    (λ c κs. search needs)
+    (λ c. search needs)
+    (λ c. search needs)
+    (λ c. search needs)
+    (λ c. search needs)
+    (λ c κs. let r = c .before .before .before in
+    let m = r .before in
+    asked (m .before .before .before) (last m) (r .row15 .ensures) refl)
+    (λ c. search needs)
+    (λ c. let t = c .before .before in
     let r = t .before .before .before .before in
     let m = r .before in
     left (m .before .before .before) (m .match .keys1) (r .row .ensures) refl (t .read-row .ensures))
     (λ c. search needs)
-    (λ c.
-    let t = c .before .before in
+    (λ c. let t = c .before .before in
     let r = t .before .before .before .before in
     let m = r .before in
     left (m .before .before .before) (m .match .keys2) (r .row2 .ensures) refl (t .read-row2 .ensures))
     (λ c. search needs)
-    (λ c.
-    let t = c .before .before in
+    (λ c. let t = c .before .before in
     let r = t .before .before .before .before in
     let m = r .before in
     left (m .before .before .before) (m .match .keys3) (r .row3 .ensures) refl (t .read-row3 .ensures))
     (λ c. search needs)
-    (λ c.
-    let t = c .before .before in
+    (λ c. let t = c .before .before in
     let r = t .before .before .before .before in
     let m = r .before in
     left (m .before .before .before) (m .match .keys4) (r .row4 .ensures) refl (t .read-row4 .ensures))
     (λ c. search needs)
-    (λ c.
-    let t = c .before .before in
+    (λ c. let t = c .before .before in
     let r = t .before .before .before .before in
     let m = r .before in
     left (m .before .before .before) (m .match .keys5) (r .row5 .ensures) refl (t .read-row5 .ensures))
     (λ c. search needs)
-    (λ c.
-    let t = c .before .before in
+    (λ c. let t = c .before .before in
     let r = t .before .before .before .before in
     let m = r .before in
     left (m .before .before .before) (m .match .keys6) (r .row6 .ensures) refl (t .read-row6 .ensures))
     (λ c. search needs)
-    (λ c.
-    let t = c .before .before in
+    (λ c. let t = c .before .before in
     let r = t .before .before .before .before in
     let m = r .before in
     left (m .before .before .before) (m .match .keys7) (r .row7 .ensures) refl (t .read-row7 .ensures))
     (λ c. search needs)
-    (λ c.
-    let t = c .before .before in
+    (λ c. let t = c .before .before in
     let r = t .before .before .before .before in
     let m = r .before in
     left (m .before .before .before) (m .match .keys8) (r .row8 .ensures) refl (t .read-row8 .ensures))
     (λ c. search needs)
-    (λ c.
-    let t = c .before .before in
+    (λ c. let t = c .before .before in
     let r = t .before .before .before .before in
     let m = r .before in
     left (m .before .before .before) (m .match .keys9) (r .row9 .ensures) refl (t .read-row9 .ensures))
     (λ c. search needs)
-    (λ c.
-    let t = c .before .before in
+    (λ c. let t = c .before .before in
     let r = t .before .before .before .before in
     let m = r .before in
     left (m .before .before .before) (m .match .keys10) (r .row10 .ensures) refl (t .read-row10 .ensures))
     (λ c. search needs)
-    (λ c.
-    let t = c .before .before in
+    (λ c. let t = c .before .before in
     let r = t .before .before .before .before in
     let m = r .before in
     left (m .before .before .before) (m .match .keys11) (r .row11 .ensures) refl (t .read-row11 .ensures))
     (λ c. search needs)
-    (λ c.
-    let t = c .before .before in
+    (λ c. let t = c .before .before in
     let r = t .before .before .before .before in
     let m = r .before in
     left (m .before .before .before) (m .match .keys12) (r .row12 .ensures) refl (t .read-row12 .ensures))
     (λ c. search needs)
-    (λ c.
-    let t = c .before .before in
+    (λ c. let t = c .before .before in
     let r = t .before .before .before .before in
     let m = r .before in
-    left (m .before .before .before) (last m) (r .row13 .ensures) refl (t .read-row13 .ensures)))
+    left (m .before .before .before) (m .match .keys13) (r .row13 .ensures) refl (t .read-row13 .ensures))
+    (λ c. search needs)
+    (λ c. let t = c .before .before in
+    let r = t .before .before .before .before in
+    let m = r .before in
+    left (m .before .before .before) (m .match .keys14) (r .row14 .ensures) refl (t .read-row14 .ensures))
+    (λ c. search needs)
+    (λ c. let t = c .before .before in
+    let r = t .before .before .before .before in
+    let m = r .before in
+    left (m .before .before .before) (last m) (r .row15 .ensures) refl (t .read-row15 .ensures)))
