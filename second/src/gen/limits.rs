@@ -248,6 +248,14 @@ fn all_channels_case(nth: usize, style: &Style) -> Case {
     case(format!("65535-{name}"), &drafts, style, MORE, code)
 }
 
+/// A channel of the EK-500 that names the base's sounder, which is Biosonics's.
+fn other_maker_case(style: &Style) -> Case {
+    let mut rng = Rng::new(10);
+    let more = vec![ek500_channel(&mut rng, 2, 1)];
+    let drafts = with(&mut rng, more);
+    case("other-maker".to_string(), &drafts, style, MORE, 13)
+}
+
 type Making = Box<dyn Fn(&Style) -> Case>;
 
 fn makings() -> Vec<Making> {
@@ -287,6 +295,7 @@ fn makings() -> Vec<Making> {
     for nth in 0..4 {
         makings.push(Box::new(move |style| all_channels_case(nth, style)));
     }
+    makings.push(Box::new(other_maker_case));
     makings
 }
 

@@ -1,6 +1,8 @@
 //! What the tests share.
 #![allow(dead_code)]
 
+pub mod said;
+
 use second::gen::{limit, limit_count, Case};
 use second::walk::{forward, Step, Tuple};
 use second::Order;
