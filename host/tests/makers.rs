@@ -44,6 +44,9 @@ fn retype(deposit: &mut Deposit, order: Order, place: usize, kind: u16) {
     deposit.bytes[place + 4..place + 6].copy_from_slice(&two_bytes(order, kind));
 }
 
+/// A tuple put to a file, and the type that it gets in the place of its own.
+type Retyped = (fn(&mut Deposit) -> usize, u16);
+
 /// A ping, and the parents that it is to have.
 struct Linked {
     ping: usize,
@@ -301,7 +304,7 @@ fn unlisted_types_of_other_makers() {
         begun.channel_by(Maker::Simrad, 1, 5);
         begun.ping_u32(1);
         assert!(normal_form(begun.clone().ended()).is_ok());
-        let more: [(fn(&mut Deposit) -> usize, u16); 4] = [
+        let more: [Retyped; 4] = [
             (|more| more.sounder_by(Maker::Simrad, 6, 0), 300),
             (|more| more.sounder_by(Maker::Simrad, 6, 0), 201),
             (|more| more.channel_by(Maker::Simrad, 2, 5), 3000),
@@ -327,7 +330,7 @@ fn unlisted_types_of_other_makers() {
 #[test]
 fn unfit_lengths() {
     for order in ORDERS {
-        let puts: [(fn(&mut Deposit) -> usize, u16); 4] = [
+        let puts: [Retyped; 4] = [
             (|more| more.sounder_by(Maker::Biosonics, 6, 0), 200),
             (|more| more.sounder_by(Maker::Simrad, 6, 0), 100),
             (|more| more.sounder_by(Maker::Simrad, 6, 0), 2000),

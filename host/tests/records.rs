@@ -29,11 +29,19 @@ const ROWS: [(u16, &str); 13] = [
     (65534, "2 4 2 n"),
 ];
 
-/// A tuple by its row: its numbers, its characters, and the tuple with its spaces 0.
+/// A tuple by its row: its numbers, its characters, the tuple with its spaces 0, and
+/// this in the other byte order.
 struct ByRow {
     numbers: Vec<i64>,
     characters: Vec<u8>,
     plain: Vec<u8>,
+    turned: Vec<u8>,
+}
+
+/// The bytes of a width that names them.
+fn bytes_of(width: &str) -> usize {
+    let digits = width.trim_start_matches(|c: char| !c.is_ascii_digit());
+    digits.parse().expect("a width")
 }
 
 fn by_row(tuple: &Tuple, row: &str) -> ByRow {
@@ -41,15 +49,15 @@ fn by_row(tuple: &Tuple, row: &str) -> ByRow {
         numbers: Vec::new(),
         characters: Vec::new(),
         plain: tuple.bytes.clone(),
+        turned: Vec::new(),
     };
-    let attribute = tuple.bytes.len() - 8;
+    let (attribute, backlink) = (tuple.bytes.len() - 8, tuple.bytes.len() - 4);
+    let mut numbers = vec![0..4, 4..6, attribute..backlink, backlink..backlink + 4];
     let mut at = 6;
     for width in row.split(' ') {
-        let digits = width.trim_start_matches(|c: char| !c.is_ascii_digit());
-        let end = if width == "n" {
-            attribute
-        } else {
-            at + digits.parse::<usize>().expect("a width")
+        let end = match width {
+            "n" => attribute,
+            _ => at + bytes_of(width),
         };
         match width {
             "2" => told.numbers.push(tuple.two(at).into()),
@@ -61,10 +69,17 @@ fn by_row(tuple: &Tuple, row: &str) -> ByRow {
             "i2" => assert_eq!(tuple.two(at), 44204),
             _ => panic!("no width: {width}"),
         }
+        if !["c30", "n"].contains(&width) {
+            numbers.push(at..end);
+        }
         at = end;
     }
     assert_eq!(at, attribute);
     told.numbers.push((tuple.four(attribute) as i32).into());
+    told.turned = told.plain.clone();
+    for number in numbers {
+        told.turned[number].reverse();
+    }
     told
 }
 
@@ -190,10 +205,7 @@ fn counted(order: Order, kind: u16, row: &str) -> Tuple {
         // the least that makes the length a multiple of 4
         "n" if kind == FileEnd::CODE => 2,
         "n" => 4,
-        _ => {
-            let digits = width.trim_start_matches(|c: char| !c.is_ascii_digit());
-            digits.parse().expect("a width")
-        }
+        _ => bytes_of(width),
     });
     // behind data size and type the fields, then attribute and backlink
     let length = 6 + widths.sum::<usize>() + 8;
@@ -218,41 +230,18 @@ fn every_byte_of_all_records() {
             let tuple = counted(order, kind, row);
             let file = [&order.mark()[..], &tuple.bytes].concat();
             holds_row(&file, &tuple);
-            // the normal form of it alone is the same in LSB order, spaces 0
-            let normal = [Order::Lsb.mark().to_vec(), plain_lsb(&tuple, row)].concat();
+            // alone it has a normal form: LSB order, its spaces 0
+            let told = by_row(&tuple, row);
+            let normal = match order {
+                Order::Lsb => told.plain,
+                Order::Msb => told.turned,
+            };
             let mut out = vec![7; file.len()];
-            assert_eq!(
-                normalise_tuple(&file, &mut out).map(|n| n.length),
-                Ok(file.len())
-            );
-            assert_eq!(out, normal, "{kind}");
+            let written = normalise_tuple(&file, &mut out).expect("a normal form");
+            assert_eq!(written.length, file.len());
+            assert_eq!(out, [Order::Lsb.mark().to_vec(), normal].concat(), "{kind}");
         }
     }
-}
-
-/// A tuple in LSB order with its spaces 0: each of its numbers turned, where it isn't.
-fn plain_lsb(tuple: &Tuple, row: &str) -> Vec<u8> {
-    let mut plain = by_row(tuple, row).plain;
-    if tuple.order == Order::Lsb {
-        return plain;
-    }
-    let length = plain.len();
-    let (mut at, mut numbers) = (
-        6,
-        vec![0..4, 4..6, length - 8..length - 4, length - 4..length],
-    );
-    for width in row.split(' ').filter(|width| *width != "n") {
-        let digits = width.trim_start_matches(|c: char| !c.is_ascii_digit());
-        let end = at + digits.parse::<usize>().expect("a width");
-        if !width.starts_with('c') {
-            numbers.push(at..end);
-        }
-        at = end;
-    }
-    for number in numbers {
-        plain[number].reverse();
-    }
-    plain
 }
 
 const EK500_REMARKS: [u8; REMARK] = *b"Remarks of exactly 30 letters.";
