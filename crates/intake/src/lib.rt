@@ -19,6 +19,8 @@ ghost use Prim.Native.Nat.{_+_, _^_, _<_, _≤_};
 ghost use lib.Dec.{eqb};
 ghost use lib.ListN.{length, drop};
 ghost use mathlib.Core.Bool.{_&&_, _||_};
+ghost use Rattle.layout.specs.Types;
+ghost use Rattle.layout.specs.Types.{inClass};
 ghost use Rattle.frame.specs.Frames.{tupAt};
 ghost use Rattle.frame.specs.Files.{limit};
 ghost use Rattle.links.specs.Links.{mostChannels, Steady};
@@ -345,6 +347,17 @@ fn end(file: &[u8], w: Tally, sounders: &[Row], channels: &[Row]) -> Answer
     })
 }
 
+// Whether a tuple of a type code may declare: it is of the sounders' or of the channels' class. It spares all others a look at what
+// their type says.
+fn may_declare(code: u16) -> bool
+    ensures { λ r. ⌜ r ≡ inClass Types.sounder code || inClass Types.channel code ⌝ }
+{
+    either(
+        layout::in_class(layout::SOUNDER, code),
+        layout::in_class(layout::CHANNEL, code),
+    )
+}
+
 // One turn: the tuple where the tally stands is judged, its declaration is kept, and the tally passes it.
 fn turn(
     file: &[u8],
@@ -370,15 +383,16 @@ fn turn(
             let whole = frame::length_at(file, at, msb);
             let code = frame::kind_at(file, at, msb);
             let mut next = w.past(whole, code, compared);
+            if !may_declare(code) {
+                if code == types::FILE_END {
+                    return Turned::Done(end(file, next, sounders, channels));
+                }
+                return Turned::On(next);
+            }
             match layout::says_of(code) {
+                Says::Nothing => Turned::On(next),
                 Says::Names => Turned::On(next),
                 Says::NamesOrAll => Turned::On(next),
-                Says::Nothing => {
-                    if code == types::FILE_END {
-                        return Turned::Done(end(file, next, sounders, channels));
-                    }
-                    Turned::On(next)
-                }
                 Says::Sounder(maker) => {
                     let it = sounder_at(file, at, msb, maker);
                     links::put_sounder(sounders, w.sounders, it, at);
