@@ -52,8 +52,8 @@ pub fn form_length(file: &[u8], at: usize, msb: bool, whole: usize, code: u16) -
 }
 
 // Writes the fields of a tuple of a listed type, by its listing. Each arm names its row by a constant, and how many fields it has before
-// its dots: so that the compiler makes plain loads and stores of the loop over it. It does so where it takes these functions into their
-// one caller, and that only up to some size: so they are two. Of the signature and of what declares,
+// its dots: so that the compiler makes plain loads and stores of the loop over it, if it has fifteen fields at most. It does so where it
+// takes these functions into their one caller, and that only up to some size: so they are two. Of the signature and of what declares,
 fn turn_first(file: &[u8], at: usize, msb: bool, listing: usize, out: &mut [u8], to: usize)
     requires { ⌜ listing < 5 ⌝ }
     requires { ⌜ at + size (listedFields listing) ≤ length (now file) ⌝ }
