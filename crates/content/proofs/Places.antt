@@ -263,7 +263,8 @@ module _ (o : Bool) (f : List ℕ) (at n : ℕ) (w : Whole o f at n) where
       by (shapeOf k) refl (saysOf k) refl (opens k) (sayable k) (ap (λ (l : Length). fitting l n) (sym (lengths-from k)) ∙ g)
     where
       by : (q : Shape) → shapeOf (kindAt o (drop at f)) ≡ q → (a : Says) → saysOf (kindAt o (drop at f)) ≡ a
-          → take (length (opening a)) (fieldsIn q) ≡ opening a → sayableBy q a ≡ a → fitting (lengthFrom q) n ≡ true → digestItem (itemBy q o t) .link ≡ linkAt a
+          → take (length (opening a)) (fieldsIn q) ≡ opening a → sayableBy q a ≡ a
+          → fitting (lengthFrom q) n ≡ true → digestItem (itemBy q o t) .link ≡ linkAt a
       by indexed s a d e y g = ap linkAt y
       by (row fs x) s a d e y g =
           let m = length (t .body) in

@@ -133,7 +133,8 @@ module _ (k : ℕ) (h : placeIn k < listed) where
   pub fields-there : fieldsOf (getD rowCodes (placeIn k) []) ≡ fieldsIn (shapeOf k)
   unfolding rowCodes
   fields-there =
-      ap fieldsOf (getD-in (λ (l : Listed). codesIn (l .listing)) listings (placeIn k) other [] (omega (arith, how-many)) ∙ ap codesIn there)
+      let j : placeIn k < length listings = omega (arith, how-many) in
+      ap fieldsOf (getD-in (λ (l : Listed). codesIn (l .listing)) listings (placeIn k) other [] j ∙ ap codesIn there)
       ∙ each-there [] (λ l. fieldsOf (codesIn l)) (λ l. fieldsIn (l .shape)) (unfold listings fieldOf fieldsOf in refl)
 
   -- its row is little

@@ -85,8 +85,8 @@ pub record Listed : Type 0 where
 abbrev pub type : ℕ → Length → Shape → Says → Listed
 type k n h a = record { code = k; listing = listing n h a }
 
--- the one list: signature, both makers' echosounders and channels, position, navigation, attitude, threshold, event marker, both pings, start and end of
--- run, end of file. One row for each type, each row the widths in order
+-- the one list: signature, both makers' echosounders and channels, position, navigation, attitude, threshold, event marker, both pings,
+-- start and end of run, end of file. One row for each type, each row the widths in order
 unfoldable pub listings : List Listed
 listings =
     type 65535 (exactly 24) (row (ident ∷ u 2 ∷ u 2 ∷ u 4 ∷ []) none) Nothing

@@ -53,11 +53,12 @@ module _ (k a b m n : ℕ) {r : List ℕ} (p : Parted k a b m n r) where
       → two ≡ sets one n (numbersIn (valuesOf o (fieldsOf (take b (drop a r))) (drop (at + m) src)))
       → two ≡ sets lent 0 (numbersIn (valuesOf o (listedFields k) (drop at src)))
   both o src lent at d e =
+      let xs = numbersIn (valuesOf o fs (drop at src)) in
       e
       ∙ ap (λ (x : List ℕ). sets x n (numbersIn (valuesOf o gs (drop (at + m) src)))) d
-      ∙ ap (λ (i : ℕ). sets (sets lent 0 (numbersIn (valuesOf o fs (drop at src)))) i (numbersIn (valuesOf o gs (drop (at + m) src))))
+      ∙ ap (λ (i : ℕ). sets (sets lent 0 xs) i (numbersIn (valuesOf o gs (drop (at + m) src))))
       (sym (p .numbers))
-      ∙ ap (λ (i : ℕ). sets (sets lent 0 (numbersIn (valuesOf o fs (drop at src)))) (many fs) (numbersIn (valuesOf o gs (drop (at + i) src))))
+      ∙ ap (λ (i : ℕ). sets (sets lent 0 xs) (many fs) (numbersIn (valuesOf o gs (drop (at + i) src))))
       (sym (p .bytes))
       ∙ numbers-parted o fs gs src lent at
       ∙ ap (λ (hs : List Field). sets lent 0 (numbersIn (valuesOf o hs (drop at src)))) (p .whole)

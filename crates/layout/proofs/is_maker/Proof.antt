@@ -20,7 +20,8 @@ returns : tie.Need-returns
 returns c =
     let n = c .before in
     let a = n .before .before .args in
-    ap₂ eqb (n .number-of .ensures .0 ∙ ap makerNumber (n .before .maker-of .ensures)) (c .number-of2 .ensures .0) ∙ same (makerOf (a .number)) (a .maker)
+    ap₂ eqb (n .number-of .ensures .0 ∙ ap makerNumber (n .before .maker-of .ensures)) (c .number-of2 .ensures .0)
+    ∙ same (makerOf (a .number)) (a .maker)
 
 pub is-maker-spec : {M : Type 1} → statement M
 is-maker-spec = tie.close (tie.spec (λ c κs. search needs) (λ c κs. search needs) (λ c κs. search needs) returns)

@@ -12,6 +12,16 @@ use Rattle.rows.proofs.Parts.{Parted, first-asks, other-asks, both}
 use Rattle.rows.proofs.read_channel.Statement.{statement}
 use Rattle.rows.proofs.read_channel.Tie as tie
 
+-- places, named by what has been done there
+abbrev start : tie.After-row → tie.Start
+start c = c .before .before .before
+
+abbrev rowed : tie.After-read-row → tie.After-row
+rowed c = c .before .before .before .before
+
+abbrev first-read : tie.After-read-row2 → tie.After-read-row
+first-read c = c .before .before .before .before .before .before
+
 parted : {r : List ℕ} → r ≡ getD rowCodes 3 [] → Parted 3 14 13 36 13 r
 unfolding rowCodes listings fieldsOf fieldOf
 parted e = rw e (record { first = lit≤ tt; other = lit≤ tt; bytes = refl; numbers = refl; whole = refl })
@@ -19,22 +29,24 @@ parted e = rw e (record { first = lit≤ tt; other = lit≤ tt; bytes = refl; nu
 read-row-requires : tie.Need-read-row-requires
 read-row-requires c κs =
     let t = c .before .before .before in
-    let d = t .before .before .before in
-    first-asks _ _ _ _ _ (parted (t .row .ensures)) (d .args .file .now) (d .args .numbers .now) (d .args .at) (d .pre .0) (d .pre .1)
+    let d = start t in
+    let a = d .args in
+    first-asks _ _ _ _ _ (parted (t .row .ensures)) (a .file .now) (a .numbers .now) (a .at) (d .pre .0) (d .pre .1)
 
 read-row-requires-2 : tie.Need-read-row-requires-2
 read-row-requires-2 c κs =
-    let t = c .before .before .before .before .before .before .before .before .before in
-    let d = t .before .before .before in
-    let x = other-asks _ _ _ _ _ (parted (t .row .ensures)) (d .args .file .now) (d .args .numbers .now) (d .args .at) (d .pre .0) (d .pre .1) in
+    let t = rowed (c .before .before .before .before .before) in
+    let d = start t in
+    let a = d .args in
+    let x = other-asks _ _ _ _ _ (parted (t .row .ensures)) (a .file .now) (a .numbers .now) (a .at) (d .pre .0) (d .pre .1) in
     (x .0, (x .1 .0, omega (arith, x .1 .1)))
 
 returns : tie.Need-returns
 returns c =
     let q = c .before .before in
-    let f = q .before .before .before .before .before .before in
-    let t = f .before .before .before .before in
-    let a = t .before .before .before .args in
+    let f = first-read q in
+    let t = rowed f in
+    let a = start t .args in
     both _ _ _ _ _ (parted (t .row .ensures)) (a .msb) (a .file .now) (a .numbers .now) (a .at) (f .read-row .ensures)
     (q .read-row2 .ensures)
 
