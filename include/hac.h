@@ -54,8 +54,8 @@ enum {
     HAC_TUPLE_LEAST = 16,       /* the least of a tuple */
     HAC_TUPLE_LIMIT = 262144,   /* the most of a tuple; its length is a multiple of 4 */
     HAC_VALUE_LIMIT = 32764,    /* the most values of a ping */
-    HAC_SOUNDER_LIMIT = 64,     /* the most sounders of a file */
-    HAC_CHANNEL_LIMIT = 1024,   /* the most channels of a file */
+    HAC_SOUNDER_LIMIT = 64,     /* the most sounders of a file, of both makers together */
+    HAC_CHANNEL_LIMIT = 1024,   /* the most channels of a file, of both makers together */
     HAC_REMARK = 30,            /* the characters of a remark */
     HAC_FIRST_PLACE = 4         /* the place of a file's first tuple, behind the mark */
 };
@@ -67,7 +67,18 @@ enum {
    - 23, U-32: the first sample number that isn't above the one before it, at ping + 24 + 8 i, i the place of its pair.
    - 24, C-32: the first word outside the limits, at ping + 28 + 4 i, i its place among the words.
    - 25, C-32: the number of samples, at ping + 24, where it isn't the number of words that are no runs.
-   Of one ping 11 comes first, at the ping; then 24; then 25. */
+   Of one ping 11 comes first, at the ping; then 24; then 25.
+
+   12, 13, 14 and 17 are about sounders and channels, of which two makers' are listed: Biosonics' (HAC_TYPE_SOUNDER and
+   HAC_TYPE_CHANNEL, 100 and 1000) and Simrad's, the EK-500 (HAC_TYPE_EK500_SOUNDER and HAC_TYPE_EK500_CHANNEL, 200 and 2000). A
+   file may have both.
+   - 12: an identifier is declared once, whoever made what declares it again: no two sounders have one document identifier, no
+     two channels one software channel.
+   - 13: at a ping, a threshold or an attitude whose channel isn't declared earlier, and at a channel whose sounder isn't, or is
+     of the other maker.
+   - 14: the limits count both makers' together.
+   - 17: a sounder's number of channels is the number of channels that name it.
+   All four are listed, so none of them gives 18. */
 enum {
     HAC_ACCEPTED = 0,
     HAC_OVER_LIMIT = 1,          /* file over the limit */
@@ -82,7 +93,7 @@ enum {
     HAC_BROKEN_SAMPLES = 10,     /* no longer given: 23, 24 and 25 stand in its place */
     HAC_OVERFULL = 11,           /* ping over 32,764 values, or writer's tuple over 262,144 */
     HAC_DECLARED_TWICE = 12,     /* identifier declared twice */
-    HAC_NO_PARENT = 13,          /* parent not declared earlier */
+    HAC_NO_PARENT = 13,          /* parent not declared earlier, or of the other maker */
     HAC_TOO_MANY = 14,           /* 65th sounder or 1,025th channel */
     HAC_BEHIND_END = 15,         /* bytes after end of file */
     HAC_CLASS_ABSENT = 16,       /* a required class is absent */
@@ -103,9 +114,9 @@ enum { HAC_TYPE_PING_U = 10000, HAC_TYPE_PING_C = 10010 };
 /* ---- the first five entries of every answer
 
    HAC_COMPARED is how many identifiers are compared while the file handed in is linked: while a channel's sounder is looked for
-   among the sounders, and the channel of a ping, a threshold or an attitude among the channels. Each search goes in declaration
-   order and stops at its match: a channel of the third sounder compares 3. An attitude for all channels compares none. Looking
-   for an identifier declared twice isn't counted. It is at most HAC_CHANNEL_LIMIT times HAC_TUPLES. */
+   among the sounders, and the channel of a ping, a threshold or an attitude among the channels, both makers' alike. Each search
+   goes in declaration order and stops at its match: a channel of the third sounder compares 3. An attitude for all channels
+   compares none. Looking for an identifier declared twice isn't counted. It is at most HAC_CHANNEL_LIMIT times HAC_TUPLES. */
 enum {
     HAC_CODE = 0,
     HAC_PLACE = 1,
@@ -136,14 +147,18 @@ uint8_t hac_backward(const uint8_t *file, size_t length, size_t place, uint64_t 
 
 /* ---- the channel and the sounder of the ping at a place, with the file's number of tuples and of identifiers compared, and what
    the channel's tuple says of its samples, so that nobody has to read it again. Refused as the check does; then 9 at a place
-   where no listed ping starts. */
+   where no listed ping starts.
+
+   Whose both are is told by the type of the tuple at either place, which hac_forward gives there: HAC_TYPE_EK500_CHANNEL at the
+   channel's, and then HAC_TYPE_EK500_SOUNDER at the sounder's. What a type of data sample stands for is the maker's: 1 is Sv for
+   Biosonics and raw power for the EK-500 (TR Tables 4 and 5). */
 enum { HAC_ASK_ENTRIES = 11 };
 
 enum {
     HAC_ASK_CHANNEL = 5,             /* the software channel identifier */
     HAC_ASK_CHANNEL_PLACE = 6,       /* where the channel's tuple starts */
     HAC_ASK_SAMPLING_RATE = 7,       /* the channel's sampling rate */
-    HAC_ASK_TYPE_OF_DATA_SAMPLE = 8, /* the channel's type of data sample */
+    HAC_ASK_TYPE_OF_DATA_SAMPLE = 8, /* the channel's type of data sample, a number of its maker's */
     HAC_ASK_SOUNDER = 9,             /* the document identifier */
     HAC_ASK_SOUNDER_PLACE = 10       /* where the sounder's tuple starts */
 };
@@ -219,8 +234,9 @@ uint8_t hac_write_c32(uint16_t time_fraction, uint32_t time_cpu, uint16_t softwa
 
        uint32_t numbers[HAC_NAVIGATION_NUMBERS] = {[HAC_NAVIGATION_HEADING] = -905, [HAC_NAVIGATION_NAVIGATION_SPEED] = 5144};
 
-   A record's characters are a sounder's and a channel's remarks, an event's text and an end of file's data. They are a part of
-   the file when they are read, and `text` when they are written; a record that has none is written with a text of length 0.
+   A record's characters are the remarks of either maker's sounder and channel, an event's text and an end of file's data. They
+   are a part of the file when they are read, and `text` when they are written; a record that has none is written with a text of
+   length 0.
 
    These two calls stand in the place of 22, a reader and a writer of each record. What changes for a caller of these:
    - hac_read_navigation(file, length, place, answer, HAC_READ_NAVIGATION_ENTRIES) is now

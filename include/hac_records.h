@@ -23,8 +23,8 @@ enum {
     HAC_SIGNATURE_NUMBERS = 4
 };
 
-/* Sounder, type 100: TR Table 2. An echosounder. Its remarks, 30 characters, stand beside it; to write others is refused by 9
-   at 0. */
+/* Sounder, type 100: TR Table 2. An echosounder, of Biosonics. Its remarks, 30 characters, stand beside it; to write others is
+   refused by 9 at 0. */
 enum {
     HAC_TYPE_SOUNDER = 100,
     HAC_SOUNDER_LENGTH = 72,
@@ -49,7 +49,38 @@ enum {
     HAC_SOUNDER_NUMBERS = 13
 };
 
-/* Channel, type 1000: TR Table 4. Its remarks, 30 characters, stand beside it; to write others is refused by 9 at 0. */
+/* Ek500Sounder, type 200: TR Table 3. An echosounder of the other maker, the EK-500 of Simrad. The start of its super layer is
+   one signed number of four bytes at 30: nothing is aligned. Its remarks, 30 characters, stand beside it; to write others is
+   refused by 9 at 0. */
+enum {
+    HAC_TYPE_EK500_SOUNDER = 200,
+    HAC_EK500_SOUNDER_LENGTH = 80,
+    HAC_EK500_SOUNDER_REMARKS_OFFSET = 42,
+    HAC_EK500_SOUNDER_REMARKS_LENGTH = 30  /* so many characters */
+};
+
+enum {
+    HAC_EK500_SOUNDER_NUMBER_OF_SOFTWARE_CHANNELS = 0,
+    HAC_EK500_SOUNDER_ECHOSOUNDER_DOCUMENT_IDENTIFIER = 1,
+    HAC_EK500_SOUNDER_SOUND_SPEED = 2,
+    HAC_EK500_SOUNDER_PING_MODE = 3,
+    HAC_EK500_SOUNDER_PING_INTERVAL = 4,
+    HAC_EK500_SOUNDER_TRANSMIT_POWER = 5,
+    HAC_EK500_SOUNDER_NOISE_MARGIN = 6,
+    HAC_EK500_SOUNDER_SAMPLE_RANGE = 7,
+    HAC_EK500_SOUNDER_SUPER_LAYER_TYPE = 8,
+    HAC_EK500_SOUNDER_SUPER_LAYER_NUMBER = 9,
+    HAC_EK500_SOUNDER_SUPER_LAYER_RANGE = 10,
+    HAC_EK500_SOUNDER_SUPER_LAYER_START = 11,              /* int32_t */
+    HAC_EK500_SOUNDER_SUPER_LAYER_MARGIN = 12,
+    HAC_EK500_SOUNDER_SUPER_LAYER_SV_THRESHOLD = 13,       /* int16_t */
+    HAC_EK500_SOUNDER_EK_500_VERSION = 14,
+    HAC_EK500_SOUNDER_TUPLE_ATTRIBUTE = 15,                /* int32_t */
+    HAC_EK500_SOUNDER_NUMBERS = 16
+};
+
+/* Channel, type 1000: TR Table 4. A channel of a Biosonics echosounder, which names one of that maker. Its remarks, 30
+   characters, stand beside it; to write others is refused by 9 at 0. */
 enum {
     HAC_TYPE_CHANNEL = 1000,
     HAC_CHANNEL_LENGTH = 108,
@@ -84,6 +115,44 @@ enum {
     HAC_CHANNEL_BOTTOM_WINDOW_MAX = 23,
     HAC_CHANNEL_TUPLE_ATTRIBUTE = 24,                                                /* int32_t */
     HAC_CHANNEL_NUMBERS = 25
+};
+
+/* Ek500Channel, type 2000: TR Table 5. A channel of an EK-500, which names an echosounder of that maker. Its remarks, 30
+   characters, stand beside it; to write others is refused by 9 at 0. */
+enum {
+    HAC_TYPE_EK500_CHANNEL = 2000,
+    HAC_EK500_CHANNEL_LENGTH = 108,
+    HAC_EK500_CHANNEL_REMARKS_OFFSET = 68,
+    HAC_EK500_CHANNEL_REMARKS_LENGTH = 30  /* so many characters */
+};
+
+enum {
+    HAC_EK500_CHANNEL_SOFTWARE_CHANNEL_IDENTIFIER = 0,
+    HAC_EK500_CHANNEL_ECHOSOUNDER_DOCUMENT_IDENTIFIER = 1,
+    HAC_EK500_CHANNEL_SAMPLING_RATE = 2,
+    HAC_EK500_CHANNEL_TYPE_OF_DATA_SAMPLE = 3,
+    HAC_EK500_CHANNEL_TRANSCEIVER_CHANNEL_NUMBER = 4,
+    HAC_EK500_CHANNEL_ACOUSTIC_FREQUENCY = 5,
+    HAC_EK500_CHANNEL_INSTALLATION_DEPTH_OF_TRANSDUCER = 6,
+    HAC_EK500_CHANNEL_ALONGSHIP_ANGLE_OFFSET_OF_THE_TRANSDUCER_FACE = 7,                   /* int16_t */
+    HAC_EK500_CHANNEL_ATHWARTSHIP_ANGLE_OFFSET_OF_THE_TRANSDUCER_FACE = 8,                 /* int16_t */
+    HAC_EK500_CHANNEL_ALONGSHIP_ANGLE_OFFSET_OF_THE_MAIN_AXIS_OF_THE_ACOUSTIC_BEAM = 9,    /* int16_t */
+    HAC_EK500_CHANNEL_ATHWARTSHIP_ANGLE_OFFSET_OF_THE_MAIN_AXIS_OF_THE_ACOUSTIC_BEAM = 10, /* int16_t */
+    HAC_EK500_CHANNEL_ABSORPTION_OF_SOUND = 11,
+    HAC_EK500_CHANNEL_PULSE_LENGTH_MODE = 12,
+    HAC_EK500_CHANNEL_BANDWIDTH_MODE = 13,
+    HAC_EK500_CHANNEL_MAX_POWER = 14,
+    HAC_EK500_CHANNEL_ALONGSHIP_ANGLE_SENSITIVITY = 15,
+    HAC_EK500_CHANNEL_ATHWARTSHIP_ANGLE_SENSITIVITY = 16,
+    HAC_EK500_CHANNEL_ALONGSHIP_3_DB_BEAMWIDTH_OF_THE_TRANSDUCER = 17,
+    HAC_EK500_CHANNEL_ATHWARTSHIP_3_DB_BEAMWIDTH_OF_THE_TRANSDUCER = 18,
+    HAC_EK500_CHANNEL_TWO_WAY_BEAM_ANGLE = 19,                                             /* int16_t */
+    HAC_EK500_CHANNEL_CALIBRATION_TRANSDUCER_GAIN = 20,
+    HAC_EK500_CHANNEL_BOTTOM_DETECTION_MINIMUM_LEVEL = 21,                                 /* int16_t */
+    HAC_EK500_CHANNEL_BOTTOM_WINDOW_MIN_DEPTH = 22,
+    HAC_EK500_CHANNEL_BOTTOM_WINDOW_MAX_DEPTH = 23,
+    HAC_EK500_CHANNEL_TUPLE_ATTRIBUTE = 24,                                                /* int32_t */
+    HAC_EK500_CHANNEL_NUMBERS = 25
 };
 
 /* Threshold, type 10100: TR Table 8. */

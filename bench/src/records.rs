@@ -1,8 +1,7 @@
 //! The time to read one record through the boundary, beside the second program's.
 
 use crate::{time, ROUNDS};
-use hac::{Channel, Event, Navigation, Order, Refusal, Sounder, Threshold};
-use hac::{FIRST_PLACE, REMARK, TUPLE_LIMIT};
+use hac::{Order, Refusal, FIRST_PLACE, REMARK, TUPLE_LIMIT};
 use std::hint::black_box;
 
 /// So many calls in a row are timed together.
@@ -22,23 +21,26 @@ struct Record {
 }
 
 macro_rules! record {
-    ($record:ident, $text:expr, $second:ident) => {
+    ($name:expr, $text:expr, $second:ident) => {
         Record {
-            name: stringify!($record),
-            code: $record::CODE,
-            numbers: $record::NUMBERS,
+            name: $name,
+            code: second::records::$second::CODE,
+            // the attribute is a number, too
+            numbers: second::records::$second::FIELDS.len() + 1,
             text: $text,
             second: |file, place| black_box(second::records::$second::read(file, place)).is_ok(),
         }
     };
 }
 
-const RECORDS: [Record; 5] = [
-    record!(Navigation, &[], Navigation),
-    record!(Sounder, &[b' '; REMARK], Echosounder),
-    record!(Channel, &[b' '; REMARK], Channel),
-    record!(Threshold, &[], Threshold),
-    record!(Event, &TEXT, EventMarker),
+const RECORDS: [Record; 7] = [
+    record!("Navigation", &[], Navigation),
+    record!("Sounder", &[b' '; REMARK], Echosounder),
+    record!("Channel", &[b' '; REMARK], Channel),
+    record!("Ek500Sounder", &[b' '; REMARK], Ek500Sounder),
+    record!("Ek500Channel", &[b' '; REMARK], Ek500Channel),
+    record!("Threshold", &[], Threshold),
+    record!("Event", &TEXT, EventMarker),
 ];
 
 impl Record {

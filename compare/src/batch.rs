@@ -7,6 +7,7 @@ use crate::answers::COMPARED;
 use crate::exports::Export;
 use crate::runner::Runner;
 use crate::tally::Tally;
+use second::Maker;
 use std::io;
 use std::mem;
 use std::ops::Range;
@@ -307,6 +308,11 @@ impl Batch {
     /// A record of a type was read or written.
     pub fn met(&mut self, record: &'static str, written: bool) {
         self.tally.met(record, written);
+    }
+
+    /// Notes that a channel of this maker named a sounder of the other.
+    pub fn other_maker(&mut self, channel: Maker) {
+        self.tally.other_maker(channel);
     }
 
     /// The calls of a file begin.

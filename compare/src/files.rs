@@ -10,10 +10,10 @@ use crate::tally::Given;
 use second::gen::{Case, Rng};
 use second::layout::{CHANNEL_LIMIT, FILE_LIMIT, VALUE_LIMIT};
 use second::programs::normalise_tuple;
-use second::records::{Ping, PingKind};
+use second::records::{Channel, Echosounder, Ek500Channel, Ek500Sounder, Ping, PingKind};
 use second::samples::read_samples;
 use second::walk::{backward, forward, Step};
-use second::{check, normalise, parents, Answer, Order};
+use second::{check, normalise, parents, Answer, DocumentId, Maker, Order};
 use std::io;
 
 /// The most bytes of a file that is read at every place.
@@ -62,6 +62,9 @@ const DAMAGED: usize = 48;
 
 /// The code of a place where no ping starts.
 const OTHER_TYPE: u64 = 9;
+
+/// The code of a parent that wasn't declared.
+const NO_PARENT: u32 = 13;
 
 /// The refusals of a check.
 const CHECKED: [usize; 19] = [
@@ -228,8 +231,46 @@ fn check_file(batch: &mut Batch, file: &mut File, told: Option<(u32, u64)>) {
     if answer.compared > CHANNEL_LIMIT as u64 * answer.tuples {
         batch.differ("more identifiers are compared than 1,024 a tuple");
     }
+    if answer.code == NO_PARENT {
+        if let Some(channel) = names_a_sounder(file.bytes, answer.place) {
+            batch.other_maker(channel);
+        }
+    }
     let given = batch.file(file);
     batch.call(export("check"), &[given.into()], &five(answer));
+}
+
+/// Whose channel it is that stands at a place, where it names a sounder declared before
+/// it: if it has no parent, that one is of the other maker.
+fn names_a_sounder(file: &[u8], place: u64) -> Option<Maker> {
+    let (channel, named) = match (Channel::read(file, place), Ek500Channel::read(file, place)) {
+        (Ok((_, read)), _) => (Maker::Biosonics, read.echosounder_document_identifier),
+        (_, Ok((_, read))) => (Maker::Simrad, read.echosounder_document_identifier),
+        _ => return None,
+    };
+    let mut at = FIRST;
+    while let Step::Tuple { next, .. } = forward(file, at) {
+        if at >= place {
+            break;
+        }
+        if declared_at(file, at) == Some(named) {
+            return Some(channel);
+        }
+        at = next;
+    }
+    None
+}
+
+/// The document identifier of the sounder at a place, of either maker.
+fn declared_at(file: &[u8], place: u64) -> Option<DocumentId> {
+    match (
+        Echosounder::read(file, place),
+        Ek500Sounder::read(file, place),
+    ) {
+        (Ok((_, read)), _) => Some(read.echosounder_document_identifier),
+        (_, Ok((_, read))) => Some(read.echosounder_document_identifier),
+        _ => None,
+    }
 }
 
 /// Both walks all through. Gives the places of the tuples found forward.

@@ -165,7 +165,7 @@ fn cut_like<R, T: Field>(_: impl Fn(&R) -> T, number: u32) -> u32 {
     T::of(number).number()
 }
 
-pub static KINDS: [Kind; 11] = [
+pub static KINDS: [Kind; 13] = [
     kind!(Signature, Text::None, [
         hac_version acquisition_software_version acquisition_software_identifier
     ]),
@@ -187,6 +187,27 @@ pub static KINDS: [Kind; 11] = [
             beamwidth_3_db_of_the_transducer_beam beam_pattern wide_beam_drop_off
             calibration_receiving_sensitivity receiver_gain bottom_detection_minimum_level
             bottom_window_min bottom_window_max
+        ], part remarks),
+    kind!(Ek500Sounder, Text::Remarks, [
+            number_of_software_channels echosounder_document_identifier sound_speed ping_mode
+            ping_interval transmit_power noise_margin sample_range super_layer_type
+            super_layer_number super_layer_range super_layer_start super_layer_margin
+            super_layer_sv_threshold ek_500_version
+        ], part remarks),
+    kind!(Ek500Channel, Text::Remarks, [
+            software_channel_identifier echosounder_document_identifier sampling_rate
+            type_of_data_sample transceiver_channel_number acoustic_frequency
+            installation_depth_of_transducer
+            alongship_angle_offset_of_the_transducer_face
+            athwartship_angle_offset_of_the_transducer_face
+            alongship_angle_offset_of_the_main_axis_of_the_acoustic_beam
+            athwartship_angle_offset_of_the_main_axis_of_the_acoustic_beam
+            absorption_of_sound pulse_length_mode bandwidth_mode max_power
+            alongship_angle_sensitivity athwartship_angle_sensitivity
+            alongship_3_db_beamwidth_of_the_transducer
+            athwartship_3_db_beamwidth_of_the_transducer two_way_beam_angle
+            calibration_transducer_gain bottom_detection_minimum_level
+            bottom_window_min_depth bottom_window_max_depth
         ], part remarks),
     kind!(Threshold, Text::None, [
         time_fraction time_cpu_ansi_c_standard_time software_channel_identifier

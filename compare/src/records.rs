@@ -19,8 +19,9 @@ pub const GIVEN: [Given; 2] = [
     Given::new("write_record", &[9, 11, 19]),
 ];
 
-/// Types that are no record's: the pings, the index class, and what isn't listed.
-const NO_RECORDS: [u16; 6] = [PING_U32, PING_C32, 0, 65406, 65515, 12345];
+/// Types that are no record's: the pings, the index class, and what isn't listed, the
+/// neighbours of the EK-500's among it.
+const NO_RECORDS: [u16; 8] = [PING_U32, PING_C32, 0, 65406, 65515, 12345, 201, 2001];
 
 /// More numbers than any record has, and some more.
 const MANY: u64 = 30;

@@ -4,7 +4,7 @@
 use crate::exports::{Export, EXPORTS};
 use crate::kinds::KINDS;
 use second::layout::{CHANNEL_LIMIT, FILE_LIMIT};
-use second::Order;
+use second::{Maker, Order};
 use std::collections::BTreeMap;
 
 /// The codes of 01 and 02, and 0 for acceptance.
@@ -17,6 +17,9 @@ const FEW_COMPARED: u64 = CHANNEL_LIMIT as u64;
 /// The most bytes of stack that a call may take: the stack of the small machine on the
 /// quay.
 const MOST_STACK: u64 = 96 << 10;
+
+/// In the order in which they are counted.
+const MAKERS: [Maker; 2] = [Maker::Biosonics, Maker::Simrad];
 
 /// What an export can give, and so must: said by the module that compares it.
 #[derive(Clone, Copy)]
@@ -111,6 +114,8 @@ pub struct Tally {
     stack: Vec<[u64; 2]>,
     /// In the order of `Order::BOTH`.
     marked: [Marked; 2],
+    /// The channels of each maker that were refused for naming a sounder of the other.
+    other_maker: [u64; 2],
     pub cases: u64,
     files: u64,
     bytes: u64,
@@ -123,6 +128,7 @@ impl Default for Tally {
             records: BTreeMap::new(),
             stack: vec![[0; 2]; EXPORTS.len()],
             marked: Default::default(),
+            other_maker: [0; 2],
             cases: 0,
             files: 0,
             bytes: 0,
@@ -150,6 +156,13 @@ impl Tally {
     /// Counts a record that was read or written.
     pub fn met(&mut self, record: &'static str, written: bool) {
         self.records.entry(record).or_default()[usize::from(written)] += 1;
+    }
+
+    /// Counts a channel of this maker that names a sounder of the other.
+    pub fn other_maker(&mut self, channel: Maker) {
+        for (maker, times) in MAKERS.iter().zip(&mut self.other_maker) {
+            *times += u64::from(*maker == channel);
+        }
     }
 
     /// Takes in what a runner measured: two numbers an export, or none.
@@ -194,10 +207,14 @@ impl Tally {
             sum.at_limit += marked.at_limit;
             sum.past_limit += marked.past_limit;
         }
+        for (sum, times) in self.other_maker.iter_mut().zip(other.other_maker) {
+            *sum += times;
+        }
     }
 
     /// In words, a line each: cases and files; each export's calls with the codes
-    /// that they gave and the identifiers compared; the records.
+    /// that they gave and the identifiers compared; the records; the channels that
+    /// named a sounder of the other maker.
     pub fn tell(&self) -> Vec<String> {
         let [lsb, msb] = &self.marked;
         let calls: u64 = self.exports.iter().map(Count::calls).sum();
@@ -226,6 +243,11 @@ impl Tally {
         let told = records.map(|(name, [read, written])| format!("{name} {read}, {written}"));
         let told: Vec<String> = told.collect();
         lines.push(format!("records read, written: {}", told.join("; ")));
+        let [biosonics, simrad] = self.other_maker;
+        lines.push(format!(
+            "files refused for a sounder of the other maker: {biosonics} for Biosonics's channel, \
+             {simrad} for Simrad's"
+        ));
         lines
     }
 
@@ -269,7 +291,8 @@ impl Tally {
     }
 
     /// What was not compared: codes that no call gave; what an export or a record
-    /// never did; files at the limit and past it in either order.
+    /// never did; files at the limit and past it in either order; a sounder of the
+    /// other maker named by a channel of either.
     pub fn missing(&self, given: &[Given]) -> Vec<String> {
         let mut missing = Vec::new();
         for (export, count) in EXPORTS.iter().zip(&self.exports) {
@@ -289,6 +312,13 @@ impl Tally {
                 if files == 0 {
                     missing.push(format!("no file {what} 16 MiB in order {order:?}"));
                 }
+            }
+        }
+        for (maker, times) in MAKERS.iter().zip(self.other_maker) {
+            if times == 0 {
+                missing.push(format!(
+                    "no channel of {maker:?} was refused for a sounder of the other maker"
+                ));
             }
         }
         missing

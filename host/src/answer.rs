@@ -47,7 +47,7 @@ codes! {
     9 Unfit "length unfit for a listed type"
     11 Overfull "ping over 32,764 values, or writer's tuple over 262,144"
     12 DeclaredTwice "identifier declared twice"
-    13 NoParent "parent not declared earlier"
+    13 NoParent "parent not declared earlier, or of the other maker"
     14 TooMany "65th sounder or 1,025th channel"
     15 BehindEnd "bytes after end of file"
     16 ClassAbsent "a required class is absent"
@@ -115,7 +115,7 @@ mod tests {
             code: Code::NoParent,
             place: 4711,
         };
-        let words = "13: parent not declared earlier, at 4711";
+        let words = "13: parent not declared earlier, or of the other maker, at 4711";
         assert_eq!(refusal.to_string(), words);
     }
 }

@@ -1,12 +1,12 @@
 //! Fields as they stand in records, in the entries of an answer and among the numbers
 //! of a record.
 
-/// Names an echosounder tuple.
+/// Names an echosounder tuple: no other of a file has it, whoever made the two.
 #[derive(Clone, Copy, Debug, Default, PartialEq, Eq, Hash)]
 #[repr(transparent)]
 pub struct DocumentId(pub u32);
 
-/// Names a channel tuple.
+/// Names a channel tuple: no other of a file has it, whoever made the two.
 #[derive(Clone, Copy, Debug, Default, PartialEq, Eq, Hash)]
 #[repr(transparent)]
 pub struct SoftwareChannel(pub u16);

@@ -1,8 +1,11 @@
-//! A whole file: its limits, its byte order, its check, and a ping's parents.
+//! A whole file: its limits, its byte order, its check, a ping's parents, and their
+//! maker.
 
 use crate::answer::Refusal;
 use crate::call::{self, HAC_COMPARED, HAC_TUPLES};
 use crate::field::{told, DocumentId, SoftwareChannel};
+use crate::types::{self, Maker};
+use crate::walk::{Step, Walk};
 
 /// The most bytes of a file, and of a normal form.
 pub const FILE_LIMIT: usize = 16_777_216;
@@ -13,10 +16,10 @@ pub const TUPLE_LIMIT: usize = 262_144;
 /// The most values of a ping.
 pub const VALUE_LIMIT: usize = 32_764;
 
-/// The most sounders of a file.
+/// The most sounders of a file, of both makers together.
 pub const SOUNDER_LIMIT: usize = 64;
 
-/// The most channels of a file.
+/// The most channels of a file, of both makers together.
 pub const CHANNEL_LIMIT: usize = 1024;
 
 /// The place of a file's first tuple, behind the mark.
@@ -69,9 +72,9 @@ pub struct Counts {
     pub tuples: usize,
     /// How many identifiers are compared while it is linked: while a channel's
     /// sounder is looked for among the sounders, and the channel of a ping, a
-    /// threshold or an attitude among the channels. Each search goes in declaration
-    /// order and stops at its match; an attitude for all channels compares none. At
-    /// most [`CHANNEL_LIMIT`] times the tuples.
+    /// threshold or an attitude among the channels, both makers' alike. Each search
+    /// goes in declaration order and stops at its match; an attitude for all channels
+    /// compares none. At most [`CHANNEL_LIMIT`] times the tuples.
     pub compared: usize,
 }
 
@@ -86,7 +89,8 @@ pub fn check(file: &[u8]) -> Result<Counts, Refusal> {
     })
 }
 
-/// The channel and the sounder of a ping.
+/// The channel and the sounder of a ping. Both are of one maker, whom [`maker_at`] tells
+/// of either place.
 #[derive(Clone, Copy, Debug, PartialEq, Eq)]
 pub struct Parents {
     /// The channel that the ping names.
@@ -95,7 +99,8 @@ pub struct Parents {
     pub channel_place: usize,
     /// The channel's sampling rate.
     pub sampling_rate: u32,
-    /// The channel's type of data sample.
+    /// The channel's type of data sample. What a number stands for is the maker's: TR
+    /// Table 4 has it for Biosonics, Table 5 for the EK-500.
     pub type_of_data_sample: u16,
     /// The sounder that the channel names.
     pub sounder: DocumentId,
@@ -122,4 +127,13 @@ pub fn ask(file: &[u8], place: usize) -> Result<Parents, Refusal> {
         tuples: told(&answer, HAC_TUPLES),
         compared: told(&answer, HAC_COMPARED),
     })
+}
+
+/// Whose the sounder or the channel is that starts at a place of a file, told by the
+/// type of the tuple there; none where no listed one starts.
+pub fn maker_at(file: &[u8], place: usize) -> Option<Maker> {
+    match (Walk { at: place }).forward(file) {
+        Step::Tuple { tuple, .. } => types::maker(tuple.kind),
+        Step::End | Step::Refused(_) => None,
+    }
 }

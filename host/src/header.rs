@@ -53,7 +53,7 @@ macro_rules! rows {
 fn records() {
     let rows: Vec<Row> = records!(rows);
     let header = header();
-    assert_eq!(rows.len(), 11);
+    assert_eq!(rows.len(), 13);
     for row in &rows {
         holds(&header, &format!("TYPE_{}", row.kind), row.code.into());
         holds(&header, &format!("{}_NUMBERS", row.kind), row.numbers);

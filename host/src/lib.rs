@@ -58,5 +58,6 @@ pub use file::*;
 pub use normal::*;
 pub use ping::*;
 pub use record::*;
+pub use types::Maker;
 pub use walk::*;
 pub use wrong::*;

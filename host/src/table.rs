@@ -1,4 +1,4 @@
-//! The eleven records. Made from views/records.txt by views/make.
+//! The records. Made from views/records.txt by views/make.
 
 /// Hands the table of records to a macro. A row: the record and its type; behind
 /// `=>` the characters that stand beside what is read; behind `<=` those that the
@@ -15,8 +15,8 @@ macro_rules! records {
                 acquisition_software_identifier: u32,
                 tuple_attribute: i32,
             }
-            /// Sounder, type 100: TR Table 2. An echosounder. Its remarks, 30 characters, stand
-            /// beside it; to write others is refused by 9 at 0.
+            /// Sounder, type 100: TR Table 2. An echosounder, of Biosonics. Its remarks, 30
+            /// characters, stand beside it; to write others is refused by 9 at 0.
             Sounder = SOUNDER => (remarks) <= (remarks) {
                 number_of_software_channels: u16,
                 echosounder_document_identifier: DocumentId,
@@ -32,8 +32,31 @@ macro_rules! records {
                 calibrator_separator: u16,
                 tuple_attribute: i32,
             }
-            /// Channel, type 1000: TR Table 4. Its remarks, 30 characters, stand beside it; to
+            /// Ek500Sounder, type 200: TR Table 3. An echosounder of the other maker, the
+            /// EK-500 of Simrad. The start of its super layer is one signed number of four
+            /// bytes at 30: nothing is aligned. Its remarks, 30 characters, stand beside it; to
             /// write others is refused by 9 at 0.
+            Ek500Sounder = EK500_SOUNDER => (remarks) <= (remarks) {
+                number_of_software_channels: u16,
+                echosounder_document_identifier: DocumentId,
+                sound_speed: u16,
+                ping_mode: u16,
+                ping_interval: u16,
+                transmit_power: u16,
+                noise_margin: u16,
+                sample_range: u16,
+                super_layer_type: u16,
+                super_layer_number: u16,
+                super_layer_range: u16,
+                super_layer_start: i32,
+                super_layer_margin: u16,
+                super_layer_sv_threshold: i16,
+                ek_500_version: u32,
+                tuple_attribute: i32,
+            }
+            /// Channel, type 1000: TR Table 4. A channel of a Biosonics echosounder, which
+            /// names one of that maker. Its remarks, 30 characters, stand beside it; to write
+            /// others is refused by 9 at 0.
             Channel = CHANNEL => (remarks) <= (remarks) {
                 software_channel_identifier: SoftwareChannel,
                 echosounder_document_identifier: DocumentId,
@@ -59,6 +82,36 @@ macro_rules! records {
                 bottom_detection_minimum_level: i16,
                 bottom_window_min: u32,
                 bottom_window_max: u32,
+                tuple_attribute: i32,
+            }
+            /// Ek500Channel, type 2000: TR Table 5. A channel of an EK-500, which names an
+            /// echosounder of that maker. Its remarks, 30 characters, stand beside it; to write
+            /// others is refused by 9 at 0.
+            Ek500Channel = EK500_CHANNEL => (remarks) <= (remarks) {
+                software_channel_identifier: SoftwareChannel,
+                echosounder_document_identifier: DocumentId,
+                sampling_rate: u32,
+                type_of_data_sample: u16,
+                transceiver_channel_number: Transceiver,
+                acoustic_frequency: u32,
+                installation_depth_of_transducer: u32,
+                alongship_angle_offset_of_the_transducer_face: i16,
+                athwartship_angle_offset_of_the_transducer_face: i16,
+                alongship_angle_offset_of_the_main_axis_of_the_acoustic_beam: i16,
+                athwartship_angle_offset_of_the_main_axis_of_the_acoustic_beam: i16,
+                absorption_of_sound: u16,
+                pulse_length_mode: u16,
+                bandwidth_mode: u16,
+                max_power: u16,
+                alongship_angle_sensitivity: u16,
+                athwartship_angle_sensitivity: u16,
+                alongship_3_db_beamwidth_of_the_transducer: u16,
+                athwartship_3_db_beamwidth_of_the_transducer: u16,
+                two_way_beam_angle: i16,
+                calibration_transducer_gain: u16,
+                bottom_detection_minimum_level: i16,
+                bottom_window_min_depth: u32,
+                bottom_window_max_depth: u32,
                 tuple_attribute: i32,
             }
             /// Threshold, type 10100: TR Table 8.

@@ -1,5 +1,6 @@
-//! The type codes of the listed types, and their names.
+//! The type codes of the listed types, their names, and whose sounders and channels are.
 
+use std::fmt;
 use std::ops::RangeInclusive;
 
 /// The type codes of the index class, whose tuples are no content.
@@ -25,8 +26,10 @@ listed! {
     20 POSITION "position"
     30 NAVIGATION "navigation"
     40 ATTITUDE "attitude"
-    100 SOUNDER "echosounder"
-    1000 CHANNEL "channel"
+    100 SOUNDER "echosounder Biosonics"
+    200 EK500_SOUNDER "echosounder EK-500"
+    1000 CHANNEL "channel Biosonics"
+    2000 EK500_CHANNEL "channel EK-500"
     10000 PING_U "ping U-32"
     10010 PING_C "ping C-32"
     10100 THRESHOLD "threshold"
@@ -35,4 +38,75 @@ listed! {
     65517 RUN_END "end of run"
     65534 FILE_END "end of file"
     65535 SIGNATURE "signature"
+}
+
+/// Who made a sounder, and so its channels: a channel names a sounder of its own maker.
+#[derive(Clone, Copy, Debug, PartialEq, Eq, Hash)]
+pub enum Maker {
+    /// Of the Model 102: TR Tables 2 and 4.
+    Biosonics,
+    /// Of the EK-500: TR Tables 3 and 5.
+    Simrad,
+}
+
+impl Maker {
+    /// The maker's name.
+    pub const fn name(self) -> &'static str {
+        match self {
+            Maker::Biosonics => "Biosonics",
+            Maker::Simrad => "Simrad",
+        }
+    }
+}
+
+impl fmt::Display for Maker {
+    fn fmt(&self, to: &mut fmt::Formatter<'_>) -> fmt::Result {
+        to.write_str(self.name())
+    }
+}
+
+/// Whose a listed sounder or channel is, by its type; none of all other types. TR keeps
+/// ranges of codes for each maker, but what isn't listed is never interpreted.
+pub const fn maker(code: u16) -> Option<Maker> {
+    match code {
+        SOUNDER | CHANNEL => Some(Maker::Biosonics),
+        EK500_SOUNDER | EK500_CHANNEL => Some(Maker::Simrad),
+        _ => None,
+    }
+}
+
+#[cfg(test)]
+mod tests {
+    use super::*;
+
+    /// The code, name and maker of each sounder and channel that TR lists, and of their
+    /// neighbours.
+    #[test]
+    fn makers() {
+        for (code, named, made) in [
+            (100, "echosounder Biosonics", Some("Biosonics")),
+            (1000, "channel Biosonics", Some("Biosonics")),
+            (200, "echosounder EK-500", Some("Simrad")),
+            (2000, "channel EK-500", Some("Simrad")),
+            (101, "unlisted", None),
+            (201, "unlisted", None),
+            (300, "unlisted", None),
+            (1001, "unlisted", None),
+            (2001, "unlisted", None),
+            (3000, "unlisted", None),
+            (10000, "ping U-32", None),
+            (65535, "signature", None),
+        ] {
+            assert_eq!(name(code), named);
+            assert_eq!(maker(code).map(Maker::name), made, "{code}");
+        }
+        assert_eq!(Maker::Simrad.to_string(), "Simrad");
+    }
+
+    /// No other type is anybody's.
+    #[test]
+    fn four_types_have_makers() {
+        let made: Vec<u16> = (0..=u16::MAX).filter(|c| maker(*c).is_some()).collect();
+        assert_eq!(made, [100, 200, 1000, 2000]);
+    }
 }

@@ -5,10 +5,12 @@
 mod arguments;
 mod check;
 mod damage;
+mod deposit;
 mod face;
 mod json;
 mod known;
 mod links;
+mod makers;
 mod many;
 mod names;
 mod normal;

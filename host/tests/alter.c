@@ -1,6 +1,6 @@
-/* Records by the names of their fields. First a navigation whose fields are named where they are handed over; then each
-   navigation, sounder, event and end of file of a file is read, a field or two altered, and written again in the file's byte
-   order. Prints what was written, a line each, in hexadecimal. */
+/* Records by the names of their fields. First a navigation and an EK-500's sounder whose fields are named where they are handed
+   over; then each navigation, sounder, event and end of file of a file is read, a field or two altered, and written again in the
+   file's byte order. Prints what was written, a line each, in hexadecimal. */
 #include "hac.h"
 
 #include <stdio.h>
@@ -42,11 +42,24 @@ static void print_named(void) {
     print_written(HAC_TYPE_NAVIGATION, named, HAC_NAVIGATION_NUMBERS, file, 0, true);
 }
 
+/* A sounder of the EK-500 whose super layer starts below its reference, by a number that takes four bytes. */
+static void print_ek500(void) {
+    const uint8_t remarks[HAC_REMARK] = {0};
+    const uint32_t named[HAC_EK500_SOUNDER_NUMBERS] = {
+        [HAC_EK500_SOUNDER_ECHOSOUNDER_DOCUMENT_IDENTIFIER] = 50021,
+        [HAC_EK500_SOUNDER_SUPER_LAYER_RANGE] = 500,
+        [HAC_EK500_SOUNDER_SUPER_LAYER_START] = -65636,
+        [HAC_EK500_SOUNDER_SUPER_LAYER_MARGIN] = 5,
+    };
+    print_written(HAC_TYPE_EK500_SOUNDER, named, HAC_EK500_SOUNDER_NUMBERS, remarks, HAC_REMARK, true);
+}
+
 /* Alters the numbers of a type; false for types that stay as they are. */
 static bool alter(uint64_t type) {
     switch (type) {
     case HAC_TYPE_NAVIGATION: numbers[HAC_NAVIGATION_HEADING] = -905; return true;
     case HAC_TYPE_SOUNDER: numbers[HAC_SOUNDER_SOUND_SPEED] = 15000; return true;
+    case HAC_TYPE_EK500_SOUNDER: numbers[HAC_EK500_SOUNDER_SOUND_SPEED] = 15000; return true;
     case HAC_TYPE_EVENT: numbers[HAC_EVENT_TIME_FRACTION]++; numbers[HAC_EVENT_TIME_CPU]++; return true;
     case HAC_TYPE_FILE_END: numbers[HAC_FILE_END_TIME_FRACTION]++; numbers[HAC_FILE_END_TIME_CPU]++; return true;
     }
@@ -74,6 +87,7 @@ int main(int count, char **arguments) {
     length = fread(file, 1, sizeof file, from);
     fclose(from);
     print_named();
+    print_ek500();
     uint64_t step[HAC_FORWARD_ENTRIES];
     for (size_t place = HAC_FIRST_PLACE;; place = (size_t)step[HAC_STEP_NEXT]) {
         accept(hac_forward(file, length, place, step, HAC_FORWARD_ENTRIES));

@@ -219,12 +219,12 @@ fn links(known: &Known) -> Vec<Damaged> {
     let mut sounders = draft();
     let more = declarations(&known.tuples[sounder].bytes, 8, SOUNDERS);
     sounders.tuples.splice(end..end, more);
-    let one_too_many = SOUNDERS - known.of(SOUNDER).count();
+    let one_too_many = SOUNDERS - known.sounders().count();
     let sounder_over = sounders.place(end + one_too_many);
     let mut channels = draft();
     let more = declarations(&known.tuples[channel].bytes, 6, CHANNELS);
     channels.tuples.splice(end..end, more);
-    let one_too_many = CHANNELS - known.of(CHANNEL).count();
+    let one_too_many = CHANNELS - known.channels().count();
     let channel_over = channels.place(end + one_too_many);
     let mut silent = draft();
     silent

@@ -46,13 +46,21 @@ static void print_event(size_t place) {
     printf("event %.*s\n", (int)answer[HAC_RECORD_TEXT_LENGTH], (const char *)file + answer[HAC_RECORD_TEXT_PLACE]);
 }
 
-/* A ping's parents, what its channel says of its samples, and the sum of these. */
+/* Whose the channel at a place is, and so its sounder: told by the type of the tuple there. */
+static const char *maker(size_t place) {
+    uint64_t step[HAC_FORWARD_ENTRIES];
+    accept(hac_forward(file, length, place, step, HAC_FORWARD_ENTRIES));
+    return step[HAC_STEP_TYPE] == HAC_TYPE_EK500_CHANNEL ? "Simrad" : "Biosonics";
+}
+
+/* A ping's parents, their maker, what its channel says of its samples, and the sum of these. */
 static void print_ping(size_t place) {
     static uint32_t places[HAC_VALUE_LIMIT];
     static int32_t values[HAC_VALUE_LIMIT];
     accept(hac_ask(file, length, place, answer, HAC_ASK_ENTRIES));
-    printf("ping of %llu of %llu, rate %llu, type %llu", (number)answer[HAC_ASK_CHANNEL], (number)answer[HAC_ASK_SOUNDER],
-        (number)answer[HAC_ASK_SAMPLING_RATE], (number)answer[HAC_ASK_TYPE_OF_DATA_SAMPLE]);
+    printf("ping of %llu of %llu, %s, rate %llu, type %llu", (number)answer[HAC_ASK_CHANNEL], (number)answer[HAC_ASK_SOUNDER],
+        maker((size_t)answer[HAC_ASK_CHANNEL_PLACE]), (number)answer[HAC_ASK_SAMPLING_RATE],
+        (number)answer[HAC_ASK_TYPE_OF_DATA_SAMPLE]);
     accept(hac_read_samples(file, length, place, places, HAC_VALUE_LIMIT, values, HAC_VALUE_LIMIT, answer,
         HAC_READ_SAMPLES_ENTRIES));
     long long sum = 0;

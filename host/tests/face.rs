@@ -6,7 +6,7 @@ mod calls;
 
 use crate::damage;
 use crate::known::{
-    e3, four_bytes, repository, two_bytes, Known, Tuple, COMPARED, NORMAL, SPELLINGS,
+    decode, e3, four_bytes, repository, two_bytes, Known, Tuple, COMPARED, NORMAL, SPELLINGS,
 };
 use crate::records::plain;
 use crate::room::{run, Ran, Room};
@@ -109,12 +109,15 @@ fn printed(known: &Known, tuple: &Tuple, normal: &mut dyn Iterator<Item = &Tuple
         }
         10000 | 10010 => {
             let normal = normal.next().expect("a ping");
-            let channel = known
-                .of(1000)
-                .find(|channel| channel.two(6) == tuple.two(12));
+            let mut channels = known.channels();
+            let channel = channels.find(|channel| channel.two(6) == tuple.two(12));
             let channel = channel.expect("a channel");
             let (number, sounder) = (channel.two(6), channel.four(8));
             let (rate, kind) = (channel.four(12), channel.two(16));
+            let maker = match channel.kind() {
+                1000 => "Biosonics",
+                _ => "Simrad",
+            };
             let pairs = match normal.kind() {
                 10000 => (normal.bytes.len() - 32) / 8,
                 _ => 0,
@@ -122,7 +125,7 @@ fn printed(known: &Known, tuple: &Tuple, normal: &mut dyn Iterator<Item = &Tuple
             let values = (0..pairs).map(|nth| i64::from(normal.four(28 + 8 * nth) as i32));
             let sum: i64 = values.sum();
             format!(
-                "ping of {number} of {sounder}, rate {rate}, type {kind}: \
+                "ping of {number} of {sounder}, {maker}, rate {rate}, type {kind}: \
                  {pairs} samples, sum {sum}\n"
             )
         }
@@ -170,7 +173,7 @@ fn altered(tuple: &Tuple) -> Option<Vec<u8>> {
     let (at, bytes) = match tuple.kind() {
         // the heading; the sound speed; both times
         30 => (14, two_bytes(tuple.order, -905_i16 as u16).to_vec()),
-        100 => (12, two_bytes(tuple.order, 15_000).to_vec()),
+        100 | 200 => (12, two_bytes(tuple.order, 15_000).to_vec()),
         10110 | 65534 => (6, later()),
         _ => return None,
     };
@@ -179,7 +182,14 @@ fn altered(tuple: &Tuple) -> Option<Vec<u8>> {
     Some(written)
 }
 
-/// Records read in C, a field altered by its name, and written back; and one whose
+/// What alter.c writes of an EK-500's sounder, by TR's Table 3: the document identifier
+/// at 8; the super layer's range at 28, its start in the four bytes from 30 on, its
+/// margin at 34.
+const EK500: &str = "00000046 00c8 0000 0000c365 0000 0000 0000 0000 0000 0000 0000 0000 01f4 \
+     fffeff9c 0005 0000 00000000 000000000000000000000000000000000000000000000000000000000000 \
+     00000000 00000050";
+
+/// Records read in C, a field altered by its name, and written back; and two whose
 /// fields are named where they are handed over.
 #[test]
 fn alter() {
@@ -187,7 +197,8 @@ fn alter() {
     let program = built(&room, "alter");
     for name in SPELLINGS {
         let known = Known::sample(name);
-        let mut expected = format!("{}\n", hexadecimal(&e3()[hac::FIRST_PLACE..]));
+        let named = [&e3()[hac::FIRST_PLACE..], &decode(EK500)];
+        let mut expected = named.map(|tuple| hexadecimal(tuple) + "\n").concat();
         for written in known.tuples.iter().filter_map(altered) {
             writeln!(expected, "{}", hexadecimal(&written)).expect("a string");
         }

@@ -140,6 +140,19 @@ impl Known {
         self.tuples.iter().filter(move |tuple| tuple.kind() == kind)
     }
 
+    /// The sounders of both makers, and the channels of both.
+    pub fn sounders(&self) -> impl Iterator<Item = &Tuple> {
+        self.tuples
+            .iter()
+            .filter(|tuple| [100, 200].contains(&tuple.kind()))
+    }
+
+    pub fn channels(&self) -> impl Iterator<Item = &Tuple> {
+        self.tuples
+            .iter()
+            .filter(|tuple| [1000, 2000].contains(&tuple.kind()))
+    }
+
     /// The first tuple of a type.
     pub fn first(&self, kind: u16) -> &Tuple {
         self.of(kind).next().expect("a tuple of this type")

@@ -165,16 +165,23 @@ fn the_most_values() {
     assert_eq!(samples(&alone(VALUE_LIMIT + 1), FIRST_PLACE), Err(refusal));
 }
 
-/// The parents of a ping, found by its identifiers among the tuples before it; the
-/// channel's rate and type stand at 12 and 16 of its tuple.
-fn parents_of(known: &Known, ping: &Tuple) -> Parents {
+/// The channel of a ping, which both makers number at 6 of their tuples.
+fn channel_of<'a>(known: &'a Known, ping: &Tuple) -> &'a Tuple {
     let id = ping.two(12);
-    let channel = known.of(1000).find(|channel| channel.two(6) == id);
-    let channel = channel.expect("a channel");
+    let channel = known.channels().find(|channel| channel.two(6) == id);
+    channel.expect("a channel")
+}
+
+/// The parents of a ping, found by its identifiers among the tuples before it; the
+/// channel's rate and type stand at 12 and 16 of its tuple, and a sounder's identifier
+/// at 8, for both makers.
+fn parents_of(known: &Known, ping: &Tuple) -> Parents {
+    let channel = channel_of(known, ping);
     let document = channel.four(8);
-    let sounder = known.of(100).find(|sounder| sounder.four(8) == document);
+    let mut sounders = known.sounders();
+    let sounder = sounders.find(|sounder| sounder.four(8) == document);
     Parents {
-        channel: SoftwareChannel(id),
+        channel: SoftwareChannel(ping.two(12)),
         channel_place: channel.place,
         sampling_rate: channel.four(12),
         type_of_data_sample: channel.two(16),
@@ -207,10 +214,15 @@ fn printed_parents() {
     let known = Known::sample("cruise-msb-cut");
     for ping in known.pings() {
         let parents = parents_of(&known, ping);
+        let maker = match channel_of(&known, ping).kind() {
+            1000 => "Biosonics",
+            _ => "Simrad",
+        };
         let place = ping.place.to_string();
         let ran = run(hac(["parents"]).arg(&known.path).arg(&place));
         let line = format!(
-            "channel {} at {}, sampling rate {}, type of data sample {}, echosounder {} at {}\n",
+            "channel {} at {}, sampling rate {}, type of data sample {}, echosounder {} at {}, \
+             maker {maker}\n",
             parents.channel.0,
             parents.channel_place,
             parents.sampling_rate,
@@ -221,8 +233,9 @@ fn printed_parents() {
         assert_eq!((ran.status, ran.out, ran.err), (0, line, String::new()));
         let ran = run(hac(["parents", "--json"]).arg(&known.path).arg(&place));
         let object = &json::objects(&ran.out)[0];
-        let told = object.keys().into_iter();
-        let told: Vec<_> = told.map(|key| (key, object.number(key))).collect();
+        let mut keys = object.keys();
+        assert_eq!((keys.pop(), object.text("maker")), (Some("maker"), maker));
+        let told: Vec<_> = keys.iter().map(|key| (*key, object.number(key))).collect();
         let expected: [(&str, i128); 6] = [
             ("channel", parents.channel.0.into()),
             ("channel_place", parents.channel_place as i128),

@@ -1,17 +1,23 @@
-//! The eleven records, read and written, held to document 01's rows.
+//! The thirteen records, read and written, held to document 01's rows and, where 02
+//! lists their types, to TR's tables.
 
-use crate::known::{decode, e3, two_bytes, Known, Tuple, SPELLINGS};
+use crate::known::{decode, e3, four_bytes, two_bytes, Known, Tuple, SPELLINGS};
 use hac::*;
 
-/// 01's rows: the widths behind the type, `s` signed, `c` characters, `z` a space,
-/// `i` the signature's identifier, `n` what the length leaves. Attribute and
-/// backlink end every row.
-const ROWS: [(u16, &str); 11] = [
+/// 01's rows, and those of TR's Tables 3 and 5: the widths behind the type, `s` signed,
+/// `c` characters, `z` a space, `i` the signature's identifier, `n` what the length
+/// leaves. Attribute and backlink end every row.
+const ROWS: [(u16, &str); 13] = [
     (65535, "i2 2 2 4"),
     (100, "2 4 2 2 s2 2 s2 2 2 s2 2 2 c30 z2"),
     (
         1000,
         "2 4 4 2 2 2 z2 4 4 s2 s2 s2 s2 2 2 2 2 2 2 2 s2 s2 s2 4 4 c30 z2",
+    ),
+    (200, "2 4 2 2 2 2 2 2 2 2 2 s4 2 s2 4 c30"),
+    (
+        2000,
+        "2 4 4 2 2 4 4 s2 s2 s2 s2 2 2 2 2 2 2 2 2 s2 2 s2 z2 4 4 c30 z2",
     ),
     (20, "s2 4 4 2 z2 s4 s4"),
     (30, "2 4 2 s2 2 z2"),
@@ -23,11 +29,19 @@ const ROWS: [(u16, &str); 11] = [
     (65534, "2 4 2 n"),
 ];
 
-/// A tuple by its row: its numbers, its characters, and the tuple with its spaces 0.
+/// A tuple by its row: its numbers, its characters, the tuple with its spaces 0, and
+/// this in the other byte order.
 struct ByRow {
     numbers: Vec<i64>,
     characters: Vec<u8>,
     plain: Vec<u8>,
+    turned: Vec<u8>,
+}
+
+/// The bytes of a width that names them.
+fn bytes_of(width: &str) -> usize {
+    let digits = width.trim_start_matches(|c: char| !c.is_ascii_digit());
+    digits.parse().expect("a width")
 }
 
 fn by_row(tuple: &Tuple, row: &str) -> ByRow {
@@ -35,15 +49,15 @@ fn by_row(tuple: &Tuple, row: &str) -> ByRow {
         numbers: Vec::new(),
         characters: Vec::new(),
         plain: tuple.bytes.clone(),
+        turned: Vec::new(),
     };
-    let attribute = tuple.bytes.len() - 8;
+    let (attribute, backlink) = (tuple.bytes.len() - 8, tuple.bytes.len() - 4);
+    let mut numbers = vec![0..4, 4..6, attribute..backlink, backlink..backlink + 4];
     let mut at = 6;
     for width in row.split(' ') {
-        let digits = width.trim_start_matches(|c: char| !c.is_ascii_digit());
-        let end = if width == "n" {
-            attribute
-        } else {
-            at + digits.parse::<usize>().expect("a width")
+        let end = match width {
+            "n" => attribute,
+            _ => at + bytes_of(width),
         };
         match width {
             "2" => told.numbers.push(tuple.two(at).into()),
@@ -55,10 +69,17 @@ fn by_row(tuple: &Tuple, row: &str) -> ByRow {
             "i2" => assert_eq!(tuple.two(at), 44204),
             _ => panic!("no width: {width}"),
         }
+        if !["c30", "n"].contains(&width) {
+            numbers.push(at..end);
+        }
         at = end;
     }
     assert_eq!(at, attribute);
     told.numbers.push((tuple.four(attribute) as i32).into());
+    told.turned = told.plain.clone();
+    for number in numbers {
+        told.turned[number].reverse();
+    }
     told
 }
 
@@ -127,6 +148,8 @@ fn again(file: &[u8], tuple: &Tuple) -> Again {
         65535 => again!(Signature, file, tuple),
         100 => again!(Sounder beside written, file, tuple),
         1000 => again!(Channel beside written, file, tuple),
+        200 => again!(Ek500Sounder beside written, file, tuple),
+        2000 => again!(Ek500Channel beside written, file, tuple),
         20 => again!(Position, file, tuple),
         30 => again!(Navigation, file, tuple),
         40 => again!(Attitude, file, tuple),
@@ -139,26 +162,273 @@ fn again(file: &[u8], tuple: &Tuple) -> Again {
     }
 }
 
-/// Each record of each spelling has the numbers and the characters of its row, and
-/// is written again as it stands there but for its spaces.
+/// A record has the numbers and the characters of its row, and is written again as it
+/// stands there but for its spaces.
+fn holds_row(file: &[u8], tuple: &Tuple) {
+    let kind = tuple.kind();
+    let mut told = by_row(tuple, row_of(kind));
+    let again = again(file, tuple);
+    assert_eq!(again.numbers, told.numbers, "{kind}");
+    assert_eq!(again.characters, told.characters, "{kind}");
+    if kind == FileEnd::CODE {
+        // its data are written as 0
+        let data = tuple.bytes.len() - 10;
+        told.plain[data..data + 2].fill(0);
+    }
+    assert_eq!(again.written, told.plain, "{kind}");
+}
+
+/// The types of the EK-500, which a cruise may lack.
+const EK500: [u16; 2] = [200, 2000];
+
 #[test]
 fn all_records_of_all_spellings() {
     for name in SPELLINGS {
         let known = Known::sample(name);
-        for (kind, row) in ROWS {
-            assert!(known.of(kind).count() > 0, "{kind}");
+        for (kind, _) in ROWS {
+            assert!(
+                known.of(kind).count() > 0 || EK500.contains(&kind),
+                "{kind}"
+            );
             for tuple in known.of(kind) {
-                let mut told = by_row(tuple, row);
-                let again = again(&known.bytes, tuple);
-                assert_eq!(again.numbers, told.numbers, "{kind}");
-                assert_eq!(again.characters, told.characters, "{kind}");
-                if kind == FileEnd::CODE {
-                    // its data are written as 0
-                    let data = tuple.bytes.len() - 10;
-                    told.plain[data..data + 2].fill(0);
-                }
-                assert_eq!(again.written, told.plain, "{kind}");
+                holds_row(&known.bytes, tuple);
             }
+        }
+    }
+}
+
+/// A tuple of a row, alone behind the mark. Each of its bytes behind the type tells its
+/// place, spaces too, and has its highest bit set: so every signed number is negative,
+/// in either order, and no two bytes can be taken for each other.
+fn counted(order: Order, kind: u16, row: &str) -> Tuple {
+    let widths = row.split(' ').map(|width| match width {
+        // the least that makes the length a multiple of 4
+        "n" if kind == FileEnd::CODE => 2,
+        "n" => 4,
+        _ => bytes_of(width),
+    });
+    // behind data size and type the fields, then attribute and backlink
+    let length = 6 + widths.sum::<usize>() + 8;
+    let mut bytes: Vec<u8> = (0..length).map(|at| 0x80 | at as u8).collect();
+    bytes[..4].copy_from_slice(&four_bytes(order, length as u32 - 10));
+    bytes[4..6].copy_from_slice(&two_bytes(order, kind));
+    bytes[length - 4..].copy_from_slice(&four_bytes(order, length as u32));
+    if kind == Signature::CODE {
+        bytes[6..8].copy_from_slice(&two_bytes(order, 44204));
+    }
+    Tuple {
+        order,
+        place: FIRST_PLACE,
+        bytes,
+    }
+}
+
+#[test]
+fn every_byte_of_all_records() {
+    for order in [Order::Lsb, Order::Msb] {
+        for (kind, row) in ROWS {
+            let tuple = counted(order, kind, row);
+            let file = [&order.mark()[..], &tuple.bytes].concat();
+            holds_row(&file, &tuple);
+            // alone it has a normal form: LSB order, its spaces 0
+            let told = by_row(&tuple, row);
+            let normal = match order {
+                Order::Lsb => told.plain,
+                Order::Msb => told.turned,
+            };
+            let mut out = vec![7; file.len()];
+            let written = normalise_tuple(&file, &mut out).expect("a normal form");
+            assert_eq!(written.length, file.len());
+            assert_eq!(out, [Order::Lsb.mark().to_vec(), normal].concat(), "{kind}");
+        }
+    }
+}
+
+const EK500_REMARKS: [u8; REMARK] = *b"Remarks of exactly 30 letters.";
+
+/// TR's Table 3 by hand, a field or two a line: size, type and number of channels; the
+/// document identifier; sound speed 1490.0 m/s, ping mode, interval, power; noise margin,
+/// sample range; the super layer's type, number and range; at 30 its start, four bytes;
+/// its margin and its threshold; the version. Behind the remarks attribute and backlink.
+const SOUNDER_MSB: [&str; 2] = [
+    "00000046 00c8 0003
+     0000c365
+     3a34 0001 0064 0001
+     000a 00fa
+     0003 0007 01f4
+     fffeff9c
+     0005 ffba
+     00000208",
+    "fffffffe 00000050",
+];
+const SOUNDER_LSB: [&str; 2] = [
+    "46000000 c800 0300
+     65c30000
+     343a 0100 6400 0100
+     0a00 fa00
+     0300 0700 f401
+     9cfffeff
+     0500 baff
+     08020000",
+    "feffffff 50000000",
+];
+
+fn ek500_sounder() -> Ek500Sounder {
+    Ek500Sounder {
+        number_of_software_channels: 3,
+        echosounder_document_identifier: DocumentId(50021),
+        sound_speed: 14900,
+        ping_mode: 1,
+        ping_interval: 100,
+        transmit_power: 1,
+        noise_margin: 10,
+        sample_range: 250,
+        super_layer_type: 3,
+        super_layer_number: 7,
+        super_layer_range: 500,
+        super_layer_start: -65636,
+        super_layer_margin: 5,
+        super_layer_sv_threshold: -70,
+        ek_500_version: 520,
+        tuple_attribute: -2,
+    }
+}
+
+/// TR's Table 5 by hand: size, type and software channel; the document identifier; the
+/// sampling rate; type of data sample and transceiver; frequency and depth; four angles;
+/// absorption, pulse length, bandwidth, power; sensitivities and beamwidths; the two way
+/// beam angle, the gain, the minimum level, a space; the bottom window. Behind the
+/// remarks a space, attribute and backlink.
+const CHANNEL_MSB: [&str; 2] = [
+    "00000062 07d0 000c
+     0000c365
+     00004e20
+     0002 0003
+     00009470 000001c2
+     fffb 0007 fff4 0009
+     03e8 0002 0001 07d0
+     00db 00dc 0047 0046
+     f7f4 0a5a ec78 0000
+     000001f4 0000c350",
+    "0000 00000001 0000006c",
+];
+const CHANNEL_LSB: [&str; 2] = [
+    "62000000 d007 0c00
+     65c30000
+     204e0000
+     0200 0300
+     70940000 c2010000
+     fbff 0700 f4ff 0900
+     e803 0200 0100 d007
+     db00 dc00 4700 4600
+     f4f7 5a0a 78ec 0000
+     f4010000 50c30000",
+    "0000 01000000 6c000000",
+];
+
+fn ek500_channel() -> Ek500Channel {
+    Ek500Channel {
+        software_channel_identifier: SoftwareChannel(12),
+        echosounder_document_identifier: DocumentId(50021),
+        sampling_rate: 20000,
+        type_of_data_sample: 2,
+        transceiver_channel_number: Transceiver(3),
+        acoustic_frequency: 38000,
+        installation_depth_of_transducer: 450,
+        alongship_angle_offset_of_the_transducer_face: -5,
+        athwartship_angle_offset_of_the_transducer_face: 7,
+        alongship_angle_offset_of_the_main_axis_of_the_acoustic_beam: -12,
+        athwartship_angle_offset_of_the_main_axis_of_the_acoustic_beam: 9,
+        absorption_of_sound: 1000,
+        pulse_length_mode: 2,
+        bandwidth_mode: 1,
+        max_power: 2000,
+        alongship_angle_sensitivity: 219,
+        athwartship_angle_sensitivity: 220,
+        alongship_3_db_beamwidth_of_the_transducer: 71,
+        athwartship_3_db_beamwidth_of_the_transducer: 70,
+        two_way_beam_angle: -2060,
+        calibration_transducer_gain: 2650,
+        bottom_detection_minimum_level: -5000,
+        bottom_window_min_depth: 500,
+        bottom_window_max_depth: 50000,
+        tuple_attribute: 1,
+    }
+}
+
+/// The mark, and the tuple of the EK-500 between whose parts its remarks stand.
+fn by_hand(order: Order, [before, behind]: [&str; 2]) -> Vec<u8> {
+    let tuple = [decode(before), EK500_REMARKS.to_vec(), decode(behind)];
+    [order.mark().to_vec(), tuple.concat()].concat()
+}
+
+/// The two records of the EK-500 are read from bytes written by hand, and written as
+/// they stand there; the readers of the other maker's refuse them by 9.
+#[test]
+fn ek500_by_hand() {
+    let unfit = Refusal {
+        code: Code::Unfit,
+        place: FIRST_PLACE,
+    };
+    for (order, sounder, channel) in [
+        (Order::Lsb, SOUNDER_LSB, CHANNEL_LSB),
+        (Order::Msb, SOUNDER_MSB, CHANNEL_MSB),
+    ] {
+        let file = by_hand(order, sounder);
+        let read = Ek500Sounder::read(&file, FIRST_PLACE);
+        assert_eq!(read, Ok((ek500_sounder(), &EK500_REMARKS[..])));
+        let mut out = [7; 81];
+        let written = ek500_sounder().write(&EK500_REMARKS, order, &mut out);
+        assert_eq!(written, Ok(80));
+        assert_eq!((&out[..80], out[80]), (&file[FIRST_PLACE..], 7));
+        assert_eq!(Sounder::read(&file, FIRST_PLACE), Err(unfit));
+
+        let file = by_hand(order, channel);
+        let read = Ek500Channel::read(&file, FIRST_PLACE);
+        assert_eq!(read, Ok((ek500_channel(), &EK500_REMARKS[..])));
+        let mut out = [7; 109];
+        let written = ek500_channel().write(&EK500_REMARKS, order, &mut out);
+        assert_eq!(written, Ok(108));
+        assert_eq!((&out[..108], out[108]), (&file[FIRST_PLACE..], 7));
+        assert_eq!(Channel::read(&file, FIRST_PLACE), Err(unfit));
+    }
+    for (kind, row) in ROWS.iter().filter(|(kind, _)| [100, 1000].contains(kind)) {
+        let tuple = counted(Order::Msb, *kind, row);
+        let file = [&Order::Msb.mark()[..], &tuple.bytes].concat();
+        assert_eq!(Ek500Sounder::read(&file, FIRST_PLACE), Err(unfit));
+        assert_eq!(Ek500Channel::read(&file, FIRST_PLACE), Err(unfit));
+    }
+}
+
+/// 'Super layer: Start' is the four bytes from 30 on, whatever stands around it.
+#[test]
+fn super_layer_start() {
+    for (number, msb) in [
+        (-1, [0xFF, 0xFF, 0xFF, 0xFF]),
+        (-100, [0xFF, 0xFF, 0xFF, 0x9C]),
+        (-65536, [0xFF, 0xFF, 0x00, 0x00]),
+        (i32::MIN, [0x80, 0x00, 0x00, 0x00]),
+        (i32::MAX, [0x7F, 0xFF, 0xFF, 0xFF]),
+        (0x0102_0304, [0x01, 0x02, 0x03, 0x04]),
+    ] {
+        let sounder = Ek500Sounder {
+            super_layer_start: number,
+            ..Ek500Sounder::default()
+        };
+        for order in [Order::Lsb, Order::Msb] {
+            let mut start = msb;
+            if order == Order::Lsb {
+                start.reverse();
+            }
+            let mut file = order.mark().to_vec();
+            file.resize(FIRST_PLACE + 80, 0);
+            let out = &mut file[FIRST_PLACE..];
+            assert_eq!(sounder.write(&[0; REMARK], order, out), Ok(80));
+            assert_eq!(out[30..34], start);
+            // between the type and the backlink nothing else was handed over
+            assert!(out[6..30].iter().chain(&out[34..76]).all(|byte| *byte == 0));
+            let (read, _) = Ek500Sounder::read(&file, FIRST_PLACE).expect("a sounder");
+            assert_eq!(read, sounder);
         }
     }
 }
@@ -304,6 +574,8 @@ fn refused_numbers_to_write() {
     for (code, own, fits, others) in [
         (Navigation::CODE, 6, 0, &[1, 2, 4, TUPLE_LIMIT][..]),
         (Channel::CODE, 25, 30, &[0, 29, 31, 34, TUPLE_LIMIT]),
+        (Ek500Sounder::CODE, 16, 30, &[0, 29, 31, 34, TUPLE_LIMIT]),
+        (Ek500Channel::CODE, 25, 30, &[0, 29, 31, 34, TUPLE_LIMIT]),
         (Event::CODE, 3, 8, &[0, 1, 3, 5, TUPLE_LIMIT - 19]),
         (FileEnd::CODE, 4, 6, &[0, 1, 3, 4, 5, 8, TUPLE_LIMIT]),
     ] {
@@ -451,6 +723,10 @@ fn refused_remarks() {
         let written = sounder.write(&remarks, Order::Lsb, &mut out);
         assert_eq!(written, refused(code), "{length}");
         let written = channel.write(&remarks, Order::Msb, &mut out);
+        assert_eq!(written, refused(code), "{length}");
+        let written = ek500_sounder().write(&remarks, Order::Msb, &mut out);
+        assert_eq!(written, refused(code), "{length}");
+        let written = ek500_channel().write(&remarks, Order::Lsb, &mut out);
         assert_eq!(written, refused(code), "{length}");
     }
     let written = e3_record().write(Order::Lsb, &mut out);

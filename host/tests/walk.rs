@@ -5,12 +5,15 @@ use crate::known::{e1, Known, Tuple, NORMAL, SPELLINGS};
 use crate::room::{hac, run, Room};
 use hac::{Code, Refusal, Step, Walk};
 
-/// 01's names of the listed types, and what the others are called.
+/// The names of the listed types, 01's but for the maker or model of sounders and
+/// channels, and what the others are called.
 fn name(kind: u16) -> &'static str {
     match kind {
         65535 => "signature",
-        100 => "echosounder",
-        1000 => "channel",
+        100 => "echosounder Biosonics",
+        200 => "echosounder EK-500",
+        1000 => "channel Biosonics",
+        2000 => "channel EK-500",
         20 => "position",
         30 => "navigation",
         40 => "attitude",
@@ -104,7 +107,7 @@ fn line(tuple: &Tuple) -> String {
     let kind = tuple.kind();
     let length = tuple.bytes.len();
     format!(
-        "{:>8}  {kind:>5}  {:<12}  {length:>6}",
+        "{:>8}  {kind:>5}  {:<21}  {length:>6}",
         tuple.place,
         name(kind)
     )

@@ -2,7 +2,7 @@
 
 use crate::answer::{Answer, Fault};
 use crate::layout::{self, class, Class};
-use crate::links::{ChannelLink, DocumentId, Links, SoftwareChannel};
+use crate::links::{ChannelLink, DocumentId, Links, Maker, SoftwareChannel, SounderLink};
 use crate::order::{four_at, two_at, Order};
 use crate::records::judge_fields;
 use crate::samples::{judge_ping, SILENT_LENGTH};
@@ -48,15 +48,26 @@ impl Seen {
 fn judge_links(links: &mut Links, tuple: &Tuple, bytes: &[u8], order: Order) -> Result<(), u32> {
     let two = |at| two_at(order, bytes, at);
     let four = |at| four_at(order, bytes, at);
+    // What declares stands at the same offsets whoever is the maker.
+    let sounder = |maker| SounderLink {
+        id: DocumentId(four(8)),
+        maker,
+        stated: two(6),
+        place: tuple.place,
+    };
+    let channel = |maker| ChannelLink {
+        id: SoftwareChannel(two(6)),
+        maker,
+        parent: DocumentId(four(8)),
+        sampling_rate: four(12),
+        type_of_data_sample: two(16),
+        place: tuple.place,
+    };
     match tuple.code {
-        layout::SOUNDER => links.declare_sounder(DocumentId(four(8)), two(6), tuple.place),
-        layout::CHANNEL => links.declare_channel(ChannelLink {
-            id: SoftwareChannel(two(6)),
-            parent: DocumentId(four(8)),
-            sampling_rate: four(12),
-            type_of_data_sample: two(16),
-            place: tuple.place,
-        }),
+        layout::SOUNDER => links.declare_sounder(sounder(Maker::Biosonics)),
+        layout::EK500_SOUNDER => links.declare_sounder(sounder(Maker::Simrad)),
+        layout::CHANNEL => links.declare_channel(channel(Maker::Biosonics)),
+        layout::EK500_CHANNEL => links.declare_channel(channel(Maker::Simrad)),
         layout::ATTITUDE if SoftwareChannel(two(12)) == SoftwareChannel::ALL => Ok(()),
         layout::PING_U32 | layout::PING_C32 | layout::THRESHOLD | layout::ATTITUDE => {
             links.name_channel(SoftwareChannel(two(12)))

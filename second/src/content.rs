@@ -110,6 +110,25 @@ fn entry(file: &[u8], tuple: Tuple) -> Result<Entry, Answer> {
             beamwidth_3_db_of_the_transducer_beam beam_pattern wide_beam_drop_off
             calibration_receiving_sensitivity receiver_gain bottom_detection_minimum_level
             bottom_window_min bottom_window_max; remarks),
+        layout::EK500_SOUNDER => fields!(file, tuple, Ek500Sounder:
+            number_of_software_channels echosounder_document_identifier sound_speed ping_mode
+            ping_interval transmit_power noise_margin sample_range super_layer_type
+            super_layer_number super_layer_range super_layer_start super_layer_margin
+            super_layer_sv_threshold ek_500_version; remarks),
+        layout::EK500_CHANNEL => fields!(file, tuple, Ek500Channel:
+            software_channel_identifier echosounder_document_identifier sampling_rate
+            type_of_data_sample transceiver_channel_number acoustic_frequency
+            installation_depth_of_transducer
+            alongship_angle_offset_of_the_transducer_face
+            athwartship_angle_offset_of_the_transducer_face
+            alongship_angle_offset_of_the_main_axis_of_the_acoustic_beam
+            athwartship_angle_offset_of_the_main_axis_of_the_acoustic_beam
+            absorption_of_sound pulse_length_mode bandwidth_mode max_power
+            alongship_angle_sensitivity athwartship_angle_sensitivity
+            alongship_3_db_beamwidth_of_the_transducer
+            athwartship_3_db_beamwidth_of_the_transducer two_way_beam_angle
+            calibration_transducer_gain bottom_detection_minimum_level
+            bottom_window_min_depth bottom_window_max_depth; remarks),
         layout::POSITION => fields!(file, tuple, Position:
             time_fraction time_cpu_ansi_c_standard_time gps_time positioning_system latitude
             longitude),

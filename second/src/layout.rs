@@ -4,7 +4,9 @@ use self::Field::*;
 
 pub const SIGNATURE: u16 = 65535;
 pub const SOUNDER: u16 = 100;
+pub const EK500_SOUNDER: u16 = 200;
 pub const CHANNEL: u16 = 1000;
+pub const EK500_CHANNEL: u16 = 2000;
 pub const POSITION: u16 = 20;
 pub const NAVIGATION: u16 = 30;
 pub const ATTITUDE: u16 = 40;
@@ -29,6 +31,7 @@ pub const TUPLE_LEAST: u64 = 16;
 pub const TUPLE_LIMIT: u64 = 262_144;
 /// Values in one ping, of either kind.
 pub const VALUE_LIMIT: u64 = 32_764;
+/// Sounders and channels in one file, those of both makers together.
 pub const SOUNDER_LIMIT: usize = 64;
 pub const CHANNEL_LIMIT: usize = 1024;
 
@@ -113,9 +116,9 @@ const fn open(
     }
 }
 
-/// The thirteen listed types, one row each.
+/// The fifteen listed types, one row each.
 #[rustfmt::skip]
-pub static LAYOUTS: [Layout; 13] = [
+pub static LAYOUTS: [Layout; 15] = [
     fixed(SIGNATURE, "signature", 24, &[Identifier, Two, Two, Four]),
     fixed(SOUNDER, "echosounder", 72, &[
         Two, Four, Two, Two, SignedTwo, Two, SignedTwo, Two, Two, SignedTwo, Two, Two,
@@ -126,6 +129,17 @@ pub static LAYOUTS: [Layout; 13] = [
         SignedTwo, SignedTwo, SignedTwo, SignedTwo,
         Two, Two, Two, Two, Two, Two, Two,
         SignedTwo, SignedTwo, SignedTwo, Four, Four, Chars(30), Space(2),
+    ]),
+    // Nothing is aligned: the SignedFour, "Super layer: Start", is at 30.
+    fixed(EK500_SOUNDER, "EK-500 echosounder", 80, &[
+        Two, Four, Two, Two, Two, Two, Two, Two, Two, Two, Two, SignedFour, Two, SignedTwo, Four,
+        Chars(30),
+    ]),
+    fixed(EK500_CHANNEL, "EK-500 channel", 108, &[
+        Two, Four, Four, Two, Two, Four, Four,
+        SignedTwo, SignedTwo, SignedTwo, SignedTwo,
+        Two, Two, Two, Two, Two, Two, Two, Two,
+        SignedTwo, Two, SignedTwo, Space(2), Four, Four, Chars(30), Space(2),
     ]),
     fixed(POSITION, "position", 36, &[
         SignedTwo, Four, Four, Two, Space(2), SignedFour, SignedFour,
@@ -151,16 +165,18 @@ pub fn layout(code: u16) -> Option<&'static Layout> {
         SIGNATURE => 0,
         SOUNDER => 1,
         CHANNEL => 2,
-        POSITION => 3,
-        NAVIGATION => 4,
-        ATTITUDE => 5,
-        THRESHOLD => 6,
-        EVENT_MARKER => 7,
-        PING_U32 => 8,
-        PING_C32 => 9,
-        START_OF_RUN => 10,
-        END_OF_RUN => 11,
-        END_OF_FILE => 12,
+        EK500_SOUNDER => 3,
+        EK500_CHANNEL => 4,
+        POSITION => 5,
+        NAVIGATION => 6,
+        ATTITUDE => 7,
+        THRESHOLD => 8,
+        EVENT_MARKER => 9,
+        PING_U32 => 10,
+        PING_C32 => 11,
+        START_OF_RUN => 12,
+        END_OF_RUN => 13,
+        END_OF_FILE => 14,
         _ => return None,
     };
     Some(&LAYOUTS[row])
@@ -245,7 +261,7 @@ mod tests {
             assert_eq!(layout(row.code).map(|l| l.code), Some(row.code));
         }
         let listed = (0..=u16::MAX).filter(|code| is_listed(*code)).count();
-        assert_eq!(listed, 13);
+        assert_eq!(listed, 15);
     }
 
     #[test]

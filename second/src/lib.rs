@@ -24,7 +24,7 @@ pub mod walk;
 pub use answer::{Answer, Reply};
 pub use check::check;
 pub use content::{content, Entry};
-pub use links::{DocumentId, SoftwareChannel, TransceiverNumber};
+pub use links::{DocumentId, Maker, SoftwareChannel, TransceiverNumber};
 pub use normal::normalise;
 pub use order::Order;
 pub use parents::{parents, Parents};

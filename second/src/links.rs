@@ -23,18 +23,27 @@ impl SoftwareChannel {
     pub const ALL: SoftwareChannel = SoftwareChannel(65535);
 }
 
+/// Whose sounder or channel it is: 100 and 1000 are Biosonics's, 200 and 2000
+/// Simrad's.
+#[derive(Clone, Copy, PartialEq, Eq, Debug)]
+pub enum Maker {
+    Biosonics,
+    Simrad,
+}
+
+/// What a sounder tuple declares.
 pub(crate) struct SounderLink {
     pub id: DocumentId,
-    pub place: u64,
+    pub maker: Maker,
     /// The channel count that the sounder states.
-    stated: u16,
-    /// The channel tuples that have named it.
-    named: u16,
+    pub stated: u16,
+    pub place: u64,
 }
 
 /// What a channel tuple says to those who ask, so that nobody reads it again.
 pub(crate) struct ChannelLink {
     pub id: SoftwareChannel,
+    pub maker: Maker,
     /// The document identifier that it names.
     pub parent: DocumentId,
     pub sampling_rate: u32,
@@ -42,13 +51,15 @@ pub(crate) struct ChannelLink {
     pub place: u64,
 }
 
-/// What has been declared so far, in file order.
+/// What has been declared so far, in file order, of both makers together.
 ///
 /// An identifier is declared once, so a map leads to the line that a search in
 /// declaration order would stop at.
 #[derive(Default)]
 pub(crate) struct Links {
     sounders: Vec<SounderLink>,
+    /// The channel tuples that have named each sounder.
+    named: Vec<u16>,
     channels: Vec<ChannelLink>,
     sounder_lines: HashMap<DocumentId, usize>,
     channel_lines: HashMap<SoftwareChannel, usize>,
@@ -61,20 +72,16 @@ pub(crate) struct Links {
 
 impl Links {
     /// 12, then 14.
-    pub fn declare_sounder(&mut self, id: DocumentId, stated: u16, place: u64) -> Result<(), u32> {
-        if self.sounder_lines.contains_key(&id) {
+    pub fn declare_sounder(&mut self, sounder: SounderLink) -> Result<(), u32> {
+        if self.sounder_lines.contains_key(&sounder.id) {
             return Err(12);
         }
         if self.sounders.len() == SOUNDER_LIMIT {
             return Err(14);
         }
-        self.sounder_lines.insert(id, self.sounders.len());
-        self.sounders.push(SounderLink {
-            id,
-            place,
-            stated,
-            named: 0,
-        });
+        self.sounder_lines.insert(sounder.id, self.sounders.len());
+        self.sounders.push(sounder);
+        self.named.push(0);
         Ok(())
     }
 
@@ -86,12 +93,19 @@ impl Links {
         if self.channels.len() == CHANNEL_LIMIT {
             return Err(14);
         }
-        let parent = self.sounder_lines.get(&channel.parent).copied();
+        let parent = self.parent(&channel);
         let parent = self.link(parent)?;
-        self.sounders[parent].named += 1; // at most 1,024
+        self.named[parent] += 1; // at most 1,024
         self.channel_lines.insert(channel.id, self.channels.len());
         self.channels.push(channel);
         Ok(())
+    }
+
+    /// The line of the sounder that a channel names. A sounder of the other maker
+    /// is no parent: the search stops at it, for no other has its identifier.
+    fn parent(&self, channel: &ChannelLink) -> Option<usize> {
+        let line = *self.sounder_lines.get(&channel.parent)?;
+        (self.sounders[line].maker == channel.maker).then_some(line)
     }
 
     /// The channel that a ping, a threshold or an attitude names: 13.
@@ -132,7 +146,8 @@ impl Links {
     pub fn wrong_count(&self) -> Option<u64> {
         self.sounders
             .iter()
-            .find(|sounder| sounder.stated != sounder.named)
-            .map(|sounder| sounder.place)
+            .zip(&self.named)
+            .find(|(sounder, named)| sounder.stated != **named)
+            .map(|(sounder, _)| sounder.place)
     }
 }

@@ -10,7 +10,7 @@ use crate::order::{four_at, put_four, put_two, two_at, Order};
 use crate::samples::judge_ping;
 use crate::walk::{forward, mark, Step};
 
-/// Width of the remarks of sounder and channel.
+/// Width of the remarks of sounders and channels.
 pub const REMARKS: usize = 30;
 
 /// A number as it stands in a tuple.
@@ -261,6 +261,57 @@ record! {
     @ remarks: |_| 68..98,
 }
 
+record! {
+    /// Table 3. "Super layer: Start" is LONG at 30, a multiple of 2 alone.
+    Ek500Sounder<'a> = layout::EK500_SOUNDER;
+    number_of_software_channels: u16 = 6,
+    echosounder_document_identifier: DocumentId = 8,
+    sound_speed: u16 = 12,
+    ping_mode: u16 = 14,
+    ping_interval: u16 = 16,
+    transmit_power: u16 = 18,
+    noise_margin: u16 = 20,
+    sample_range: u16 = 22,
+    super_layer_type: u16 = 24,
+    super_layer_number: u16 = 26,
+    super_layer_range: u16 = 28,
+    super_layer_start: i32 = 30,
+    super_layer_margin: u16 = 34,
+    super_layer_sv_threshold: i16 = 36,
+    ek_500_version: u32 = 38,
+    @ remarks: |_| 42..72,
+}
+
+record! {
+    /// Table 5.
+    Ek500Channel<'a> = layout::EK500_CHANNEL;
+    software_channel_identifier: SoftwareChannel = 6,
+    echosounder_document_identifier: DocumentId = 8,
+    sampling_rate: u32 = 12,
+    type_of_data_sample: u16 = 16,
+    transceiver_channel_number: TransceiverNumber = 18,
+    acoustic_frequency: u32 = 20,
+    installation_depth_of_transducer: u32 = 24,
+    alongship_angle_offset_of_the_transducer_face: i16 = 28,
+    athwartship_angle_offset_of_the_transducer_face: i16 = 30,
+    alongship_angle_offset_of_the_main_axis_of_the_acoustic_beam: i16 = 32,
+    athwartship_angle_offset_of_the_main_axis_of_the_acoustic_beam: i16 = 34,
+    absorption_of_sound: u16 = 36,
+    pulse_length_mode: u16 = 38,
+    bandwidth_mode: u16 = 40,
+    max_power: u16 = 42,
+    alongship_angle_sensitivity: u16 = 44,
+    athwartship_angle_sensitivity: u16 = 46,
+    alongship_3_db_beamwidth_of_the_transducer: u16 = 48,
+    athwartship_3_db_beamwidth_of_the_transducer: u16 = 50,
+    two_way_beam_angle: i16 = 52,
+    calibration_transducer_gain: u16 = 54,
+    bottom_detection_minimum_level: i16 = 56,
+    bottom_window_min_depth: u32 = 60,
+    bottom_window_max_depth: u32 = 64,
+    @ remarks: |_| 68..98,
+}
+
 /// The writer of a record with remarks: 9 at 0 where these haven't their
 /// field's width, then 19.
 macro_rules! remarks_writer {
@@ -288,6 +339,8 @@ macro_rules! remarks_writer {
 
 remarks_writer!(Echosounder, 72, 32..62);
 remarks_writer!(Channel, 108, 68..98);
+remarks_writer!(Ek500Sounder, 80, 42..72);
+remarks_writer!(Ek500Channel, 108, 68..98);
 
 record! {
     /// Table 7; its time fraction is SHORT there, so signed.
@@ -514,6 +567,8 @@ mod tests {
             (Signature::CODE, Signature::FIELDS),
             (Echosounder::CODE, Echosounder::FIELDS),
             (Channel::CODE, Channel::FIELDS),
+            (Ek500Sounder::CODE, Ek500Sounder::FIELDS),
+            (Ek500Channel::CODE, Ek500Channel::FIELDS),
             (Position::CODE, Position::FIELDS),
             (Navigation::CODE, Navigation::FIELDS),
             (Attitude::CODE, Attitude::FIELDS),

@@ -22,8 +22,8 @@ const ORDER: [&str; 15] = [
 #[derive(Default)]
 struct Known {
     tuples: u64,
-    /// Identifier, stated count and place of each sounder.
-    sounders: Vec<(u64, u64, usize)>,
+    /// Type, identifier, stated count and place of each sounder.
+    sounders: Vec<(u64, u64, u64, usize)>,
     /// Identifier and parent of each channel.
     channels: Vec<(u64, u64)>,
     codes: Vec<u64>,
@@ -31,12 +31,13 @@ struct Known {
     compared: u64,
 }
 
-/// Lengths by 01's table and the readings.
+/// Lengths by 01's table and the readings, and by TR's Tables 3 and 5.
 fn suits(code: u64, length: u64) -> bool {
     match code {
         65535 => length == 24,
         100 => length == 72,
-        1000 => length == 108,
+        200 => length == 80,
+        1000 | 2000 => length == 108,
         20 | 40 => length == 36,
         30 => length == 28,
         10100 => length == 44,
@@ -72,9 +73,14 @@ fn frame_faults(file: &File, at: usize) -> Faults {
 fn link_faults(file: &File, at: usize, code: u64, known: &Known) -> Faults {
     let mut faults = Faults::new();
     let has_channel = |id| known.channels.iter().any(|channel| channel.0 == id);
-    let has_sounder = |id| known.sounders.iter().any(|sounder| sounder.0 == id);
+    let has_sounder = |id| known.sounders.iter().any(|sounder| sounder.1 == id);
+    // 1000 names a sounder of 100, 2000 one of 200
+    let has_parent = |id| {
+        let mut sounders = known.sounders.iter();
+        sounders.any(|sounder| (sounder.0 * 10, sounder.1) == (code, id))
+    };
     match code {
-        100 => {
+        100 | 200 => {
             if has_sounder(file.number(at + 8, 4)) {
                 faults.insert("12", at);
             }
@@ -82,14 +88,14 @@ fn link_faults(file: &File, at: usize, code: u64, known: &Known) -> Faults {
                 faults.insert("14", at);
             }
         }
-        1000 => {
+        1000 | 2000 => {
             if has_channel(file.number(at + 6, 2)) {
                 faults.insert("12", at);
             }
             if known.channels.len() >= 1024 {
                 faults.insert("14", at);
             }
-            if !has_sounder(file.number(at + 8, 4)) {
+            if !has_parent(file.number(at + 8, 4)) {
                 faults.insert("13", at);
             }
         }
@@ -142,10 +148,10 @@ fn searched(declared: impl Iterator<Item = u64>, wanted: u64) -> u64 {
 
 /// The identifiers compared to link the tuple at a place: request m of 02.
 fn comparisons(file: &File, at: usize, code: u64, known: &Known) -> u64 {
-    let sounders = known.sounders.iter().map(|sounder| sounder.0);
+    let sounders = known.sounders.iter().map(|sounder| sounder.1);
     let channels = known.channels.iter().map(|channel| channel.0);
     match code {
-        1000 => searched(sounders, file.number(at + 8, 4)),
+        1000 | 2000 => searched(sounders, file.number(at + 8, 4)),
         40 if file.number(at + 12, 2) == 65535 => 0,
         40 | 10000 | 10010 | 10100 => searched(channels, file.number(at + 12, 2)),
         _ => 0,
@@ -159,8 +165,8 @@ impl Known {
         self.compared += comparisons(file, at, code, self);
         let (two, four) = (file.number(at + 6, 2), file.number(at + 8, 4));
         match code {
-            100 => self.sounders.push((four, two, at)),
-            1000 => self.channels.push((two, four)),
+            100 | 200 => self.sounders.push((code, four, two, at)),
+            1000 | 2000 => self.channels.push((two, four)),
             _ => {}
         }
         self.tuples += 1;
@@ -178,11 +184,11 @@ impl Known {
                 return Some((16, end as u64));
             }
         }
-        let wrong = self.sounders.iter().find(|(id, stated, _)| {
+        let wrong = self.sounders.iter().find(|(_, id, stated, _)| {
             let named = self.channels.iter().filter(|channel| channel.1 == *id);
             named.count() as u64 != *stated
         });
-        wrong.map(|(_, _, place)| (17, *place as u64))
+        wrong.map(|(.., place)| (17, *place as u64))
     }
 }
 

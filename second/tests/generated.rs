@@ -12,6 +12,7 @@ use second::records::*;
 use second::samples::read_samples;
 use second::walk::{backward, forward, Step};
 use second::{check, content, normalise, parents, Answer, Entry, Order};
+use second::{DocumentId, Maker, SoftwareChannel};
 
 /// Runs over the generated file cases.
 fn each_case(cases: u64, mut judge: impl FnMut(&Case, &str)) {
@@ -312,6 +313,8 @@ fn reader_codes(file: &[u8], place: u64) -> Vec<(u16, u32)> {
         (Signature::CODE, code(Signature::read(file, place))),
         (Echosounder::CODE, code(Echosounder::read(file, place))),
         (Channel::CODE, code(Channel::read(file, place))),
+        (Ek500Sounder::CODE, code(Ek500Sounder::read(file, place))),
+        (Ek500Channel::CODE, code(Ek500Channel::read(file, place))),
         (Position::CODE, code(Position::read(file, place))),
         (Navigation::CODE, code(Navigation::read(file, place))),
         (Attitude::CODE, code(Attitude::read(file, place))),
@@ -346,11 +349,43 @@ fn readers_take_their_own_type() {
     });
 }
 
-/// Parents are declared where they are said to be, and every other place in
-/// the file is refused.
+/// What the channel tuple at a place declares, and whose it is: its identifier, its
+/// sounder's, its sampling rate and its type of data sample.
+type Declared = (Maker, SoftwareChannel, DocumentId, u32, u16);
+
+fn channel_at(file: &[u8], place: u64) -> Declared {
+    macro_rules! declared {
+        ($maker:ident, $record:ident) => {
+            if let Ok((_, channel)) = $record::read(file, place) {
+                return (
+                    Maker::$maker,
+                    channel.software_channel_identifier,
+                    channel.echosounder_document_identifier,
+                    channel.sampling_rate,
+                    channel.type_of_data_sample,
+                );
+            }
+        };
+    }
+    declared!(Biosonics, Channel);
+    declared!(Simrad, Ek500Channel);
+    panic!("no channel at {place}")
+}
+
+/// What the sounder tuple at a place declares, and whose it is.
+fn sounder_at(file: &[u8], place: u64) -> (Maker, DocumentId) {
+    if let Ok((_, sounder)) = Echosounder::read(file, place) {
+        return (Maker::Biosonics, sounder.echosounder_document_identifier);
+    }
+    let (_, sounder) = Ek500Sounder::read(file, place).expect("a sounder");
+    (Maker::Simrad, sounder.echosounder_document_identifier)
+}
+
+/// Parents are declared where they are said to be, both by one maker, and every
+/// other place in the file is refused.
 #[test]
 fn parents_of_pings() {
-    let mut asked = 0;
+    let mut asked = [0, 0];
     each_case(2000, |case, name| {
         let file = &case.bytes;
         let checked = check(file);
@@ -379,35 +414,29 @@ fn parents_of_pings() {
                 }
             }
             let (_, ping) = Ping::read(file, tuple.place).unwrap();
-            let (_, channel) = Channel::read(file, linked.channel_place).unwrap();
-            let (_, sounder) = Echosounder::read(file, linked.sounder_place).unwrap();
+            let (maker, sounder) = sounder_at(file, linked.sounder_place);
             assert_eq!(
                 ping.header.software_channel_identifier, linked.channel,
                 "{name}"
             );
             assert_eq!(
-                channel.software_channel_identifier, linked.channel,
+                channel_at(file, linked.channel_place),
+                (
+                    maker,
+                    linked.channel,
+                    linked.sounder,
+                    linked.sampling_rate,
+                    linked.type_of_data_sample
+                ),
                 "{name}"
             );
-            assert_eq!(
-                channel.echosounder_document_identifier, linked.sounder,
-                "{name}"
-            );
-            assert_eq!(
-                sounder.echosounder_document_identifier, linked.sounder,
-                "{name}"
-            );
-            assert_eq!(channel.sampling_rate, linked.sampling_rate, "{name}");
-            assert_eq!(
-                channel.type_of_data_sample, linked.type_of_data_sample,
-                "{name}"
-            );
+            assert_eq!(sounder, linked.sounder, "{name}");
             assert!(linked.sounder_place < linked.channel_place, "{name}");
             assert!(linked.channel_place < tuple.place, "{name}");
-            asked += 1;
+            asked[usize::from(maker == Maker::Simrad)] += 1;
         }
     });
-    assert!(asked > 100);
+    assert!(asked.iter().all(|times| *times > 100), "{asked:?}");
 }
 
 /// A place inside a tuple is no start, even where bytes there look like a

@@ -3,7 +3,7 @@
 
 mod common;
 
-use common::{count, lent, seed, tuples};
+use common::{count, lent, limit_case, seed, tuples};
 use second::gen::{sample_list, sound_drafts, Rng, Style, Wish};
 use second::layout;
 use second::records::*;
@@ -122,6 +122,61 @@ fn records_in_both_orders() {
                 bottom_detection_minimum_level: tf as i16 ^ 17,
                 bottom_window_min: time ^ 4,
                 bottom_window_max: time ^ 5,
+                remarks: &remarks,
+                tuple_attribute: attribute,
+            }
+        );
+        round_trip!(
+            Ek500Sounder,
+            80,
+            Ek500Sounder {
+                number_of_software_channels: tf,
+                echosounder_document_identifier: DocumentId(time),
+                sound_speed: tf ^ 1,
+                ping_mode: tf ^ 2,
+                ping_interval: tf ^ 3,
+                transmit_power: tf ^ 4,
+                noise_margin: tf ^ 5,
+                sample_range: tf ^ 6,
+                super_layer_type: tf ^ 7,
+                super_layer_number: tf ^ 8,
+                super_layer_range: tf ^ 9,
+                super_layer_start: !time as i32,
+                super_layer_margin: tf ^ 10,
+                super_layer_sv_threshold: !tf as i16,
+                ek_500_version: time ^ 1,
+                remarks: &remarks,
+                tuple_attribute: attribute,
+            }
+        );
+        round_trip!(
+            Ek500Channel,
+            108,
+            Ek500Channel {
+                software_channel_identifier: SoftwareChannel(tf),
+                echosounder_document_identifier: DocumentId(time),
+                sampling_rate: time ^ 1,
+                type_of_data_sample: tf ^ 1,
+                transceiver_channel_number: TransceiverNumber(tf ^ 2),
+                acoustic_frequency: time ^ 2,
+                installation_depth_of_transducer: time ^ 3,
+                alongship_angle_offset_of_the_transducer_face: tf as i16 ^ 3,
+                athwartship_angle_offset_of_the_transducer_face: tf as i16 ^ 4,
+                alongship_angle_offset_of_the_main_axis_of_the_acoustic_beam: tf as i16 ^ 5,
+                athwartship_angle_offset_of_the_main_axis_of_the_acoustic_beam: tf as i16 ^ 6,
+                absorption_of_sound: tf ^ 7,
+                pulse_length_mode: tf ^ 8,
+                bandwidth_mode: tf ^ 9,
+                max_power: tf ^ 10,
+                alongship_angle_sensitivity: tf ^ 11,
+                athwartship_angle_sensitivity: tf ^ 12,
+                alongship_3_db_beamwidth_of_the_transducer: tf ^ 13,
+                athwartship_3_db_beamwidth_of_the_transducer: tf ^ 14,
+                two_way_beam_angle: tf as i16 ^ 15,
+                calibration_transducer_gain: tf ^ 16,
+                bottom_detection_minimum_level: tf as i16 ^ 17,
+                bottom_window_min_depth: time ^ 4,
+                bottom_window_max_depth: time ^ 5,
                 remarks: &remarks,
                 tuple_attribute: attribute,
             }
@@ -255,7 +310,7 @@ fn read_and_written_again() {
             seen.insert(tuple.code);
         }
     }
-    assert_eq!(seen.len(), 13);
+    assert_eq!(seen.len(), 15);
 }
 
 /// The listed tuple at a place, read and written; none for other types.
@@ -272,6 +327,14 @@ fn write_again(file: &[u8], place: u64, code: u16, order: Order) -> Option<Vec<u
             .1
             .write(order, out_slice),
         layout::CHANNEL => Channel::read(file, place)
+            .unwrap()
+            .1
+            .write(order, out_slice),
+        layout::EK500_SOUNDER => Ek500Sounder::read(file, place)
+            .unwrap()
+            .1
+            .write(order, out_slice),
+        layout::EK500_CHANNEL => Ek500Channel::read(file, place)
             .unwrap()
             .1
             .write(order, out_slice),
@@ -365,23 +428,26 @@ fn a_signature_always_has_44204() {
 
 #[test]
 fn remarks_not_of_their_width() {
-    let file = second::gen::sound_case(&mut Rng::new(3)).bytes;
+    // full tables of both makers
+    let file = limit_case("vessel-ends-named-lsb").bytes;
     let found = tuples(&file);
     let place = |code| found.iter().find(|tuple| tuple.code == code).unwrap().place;
-    let (_, sounder) = Echosounder::read(&file, place(100)).unwrap();
-    let (_, channel) = Channel::read(&file, place(1000)).unwrap();
+    macro_rules! refused_with {
+        ($record:ident, $remarks:ident, $order:ident) => {
+            let (_, record) = $record::read(&file, place($record::CODE)).unwrap();
+            let record = $record {
+                remarks: $remarks,
+                ..record
+            };
+            refused(9, 0, |out| record.write(Order::$order, out));
+        };
+    }
     for width in [0, 29, 31, 60] {
-        let remarks = vec![b'x'; width];
-        let sounder = Echosounder {
-            remarks: &remarks,
-            ..sounder
-        };
-        refused(9, 0, |out| sounder.write(Order::Msb, out));
-        let channel = Channel {
-            remarks: &remarks,
-            ..channel
-        };
-        refused(9, 0, |out| channel.write(Order::Lsb, out));
+        let remarks = &vec![b'x'; width];
+        refused_with!(Echosounder, remarks, Msb);
+        refused_with!(Channel, remarks, Lsb);
+        refused_with!(Ek500Sounder, remarks, Lsb);
+        refused_with!(Ek500Channel, remarks, Msb);
     }
 }
 

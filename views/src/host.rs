@@ -14,7 +14,7 @@ pub fn files(records: &[Record]) -> Vec<File> {
 }
 
 const TOP: &str = "\
-//! The eleven records. Made from views/records.txt by views/make.
+//! The records. Made from views/records.txt by views/make.
 
 /// Hands the table of records to a macro. A row: the record and its type; behind
 /// `=>` the characters that stand beside what is read; behind `<=` those that the

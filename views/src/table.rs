@@ -349,17 +349,17 @@ mod tests {
     }
 
     #[test]
-    fn eleven_records() {
+    fn records_of_the_table() {
         let records = parse(TEXT).unwrap();
         let names: Vec<&str> = records.iter().map(|record| record.name.as_str()).collect();
         let names = names.join(" ");
-        assert_eq!(names, "Signature Sounder Channel Threshold Position Navigation Attitude Event RunStart RunEnd FileEnd");
+        assert_eq!(names, "Signature Sounder Ek500Sounder Channel Ek500Channel Threshold Position Navigation Attitude Event RunStart RunEnd FileEnd");
         assert_eq!(
             records
                 .iter()
                 .map(|record| record.numbers().len())
                 .sum::<usize>(),
-            90
+            131
         );
     }
 

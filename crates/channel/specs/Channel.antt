@@ -1,6 +1,6 @@
 -- Made from views/records.txt by views/make.
--- Channel, type 1000: TR Table 4. Its remarks, 30 characters, stand beside it; to write others is refused by 9 at 0. Assumes
--- nothing.
+-- Channel, type 1000: TR Table 4. A channel of a Biosonics echosounder, which names one of that maker. Its remarks, 30
+-- characters, stand beside it; to write others is refused by 9 at 0. Assumes nothing.
 use mathlib.Core.Path.{_≡_, refl, sym, _∙_}
 use mathlib.Core.Bool.{Bool}
 use mathlib.Core.List.{List, [], _∷_}

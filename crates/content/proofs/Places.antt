@@ -124,8 +124,8 @@ fieldAt o f at w p = numOf o (take w (drop (at + p) f))
 -- ---- what a type says is told by the fields that it opens with
 abbrev opening : Says → List Field
 opening Nothing = []
-opening Sounder = u 2 ∷ u 4 ∷ []
-opening Channel = u 2 ∷ u 4 ∷ u 4 ∷ u 2 ∷ []
+opening (Sounder m) = u 2 ∷ u 4 ∷ []
+opening (Channel m) = u 2 ∷ u 4 ∷ u 4 ∷ u 2 ∷ []
 opening Names = u 2 ∷ u 4 ∷ u 2 ∷ []
 opening NamesOrAll = u 2 ∷ u 4 ∷ u 2 ∷ []
 
@@ -220,21 +220,22 @@ module _ (o : Bool) (f : List ℕ) (at n : ℕ) (w : Whole o f at n) where
   -- by what its type says
   abbrev pub linkAt : Says → Link
   linkAt Nothing = Links.none
-  linkAt Sounder = Links.sounder (record { doc = record { 0 = fieldAt o f at 4 8 }; says = fieldAt o f at 2 6 })
-  linkAt Channel =
+  linkAt (Sounder m) = Links.sounder (record { doc = record { 0 = fieldAt o f at 4 8 }; says = fieldAt o f at 2 6; maker = m })
+  linkAt (Channel m) =
       Links.channel (record {
         id = record { 0 = fieldAt o f at 2 6 };
         parent = record { 0 = fieldAt o f at 4 8 };
         rate = fieldAt o f at 4 12;
         samples = fieldAt o f at 2 16;
+        maker = m;
       })
   linkAt Names = Links.names (record { 0 = fieldAt o f at 2 12 })
   linkAt NamesOrAll = unless (eqb (fieldAt o f at 2 12) 65535) (Links.names (record { 0 = fieldAt o f at 2 12 }))
 
   opened : (a : Says) (gs : List Field) → linkBy a (valuesAt o (opening a ++ gs) f at 6) ≡ linkAt a
   opened Nothing gs = refl
-  opened Sounder gs = refl
-  opened Channel gs = refl
+  opened (Sounder m) gs = refl
+  opened (Channel m) gs = refl
   opened Names gs = refl
   opened NamesOrAll gs = refl
 
@@ -261,12 +262,14 @@ module _ (o : Bool) (f : List ℕ) (at n : ℕ) (w : Whole o f at n) where
       let k = kindAt o (drop at f) in
       by (shapeOf k) refl (saysOf k) refl (opens k) (sayable k) (ap (λ (l : Length). fitting l n) (sym (lengths-from k)) ∙ g)
     where
-      by : (q : Shape) → shapeOf (kindAt o (drop at f)) ≡ q → (a : Says) → saysOf (kindAt o (drop at f)) ≡ a → take (length (opening a)) (fieldsIn q) ≡ opening a → sayableBy q a ≡ a
+      by : (q : Shape) → shapeOf (kindAt o (drop at f)) ≡ q → (a : Says) → saysOf (kindAt o (drop at f)) ≡ a
+          → take (length (opening a)) (fieldsIn q) ≡ opening a → sayableBy q a ≡ a
           → fitting (lengthFrom q) n ≡ true → digestItem (itemBy q o t) .link ≡ linkAt a
       by indexed s a d e y g = ap linkAt y
       by (row fs x) s a d e y g =
           let m = length (t .body) in
-          let z : size (rowIn fs x m) ≡ m = row-size fs x m (ap (fitting (lengthFrom (row fs x))) (omega (arith, length-body, w .long)) ∙ g) in
+          let whole : m + 10 ≡ n = omega (arith, length-body, w .long) in
+          let z : size (rowIn fs x m) ≡ m = row-size fs x m (ap (fitting (lengthFrom (row fs x))) whole ∙ g) in
           ap (λ (b : Says). linkBy b (valuesOf o (rowIn fs x m) (t .body))) d ∙ texted a fs x m e (omega (arith, length-body, w .long))
       by pairs s a d e y g = ap (λ (c : ℕ). Links.names (record { 0 = c })) (header (upward-least 40 n _ g)) ∙ ap linkAt y
       by words s a d e y g = ap (λ (c : ℕ). Links.names (record { 0 = c })) (header (upward-least 40 n _ g)) ∙ ap linkAt y

@@ -82,17 +82,19 @@ abbrev pub unless : Bool → Link → Link
 unless true l = Links.none
 unless false l = l
 
--- by what its type says, of the values of its row: a sounder's number of channels and document identifier; a channel's software channel,
--- document identifier, sampling rate and type of data sample; the software channel that is named, behind time fraction and time
+-- by what its type says, of the values of its row: a maker's sounder, with its number of channels and document identifier; a maker's
+-- channel, with its software channel, document identifier, sampling rate and type of data sample; the software channel that is named,
+-- behind time fraction and time
 abbrev pub linkBy : Says → List Value → Link
 linkBy Nothing vs = Links.none
-linkBy Sounder vs = Links.sounder (record { doc = record { 0 = numberAt vs 1 }; says = numberAt vs 0 })
-linkBy Channel vs =
+linkBy (Sounder m) vs = Links.sounder (record { doc = record { 0 = numberAt vs 1 }; says = numberAt vs 0; maker = m })
+linkBy (Channel m) vs =
     Links.channel (record {
       id = record { 0 = numberAt vs 0 };
       parent = record { 0 = numberAt vs 1 };
       rate = numberAt vs 2;
       samples = numberAt vs 3;
+      maker = m;
     })
 linkBy Names vs = Links.names (record { 0 = numberAt vs 2 })
 linkBy NamesOrAll vs = unless (eqb (numberAt vs 2) 65535) (Links.names (record { 0 = numberAt vs 2 }))

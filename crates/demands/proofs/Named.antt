@@ -39,6 +39,7 @@ use Rattle.demands.specs.Families.{Among, Family, channelIn, Listed, pla
 use Rattle.demands.proofs.Declared.{earlier, declaredBy, spots, declared-at, spot-at}
 use Rattle.intake.proofs.Accepted.{AllSound, digests, whole-turn, Divided, divided}
 use Rattle.demands.proofs.Families.{linked-on, some-left, upto-sounders, upto-channels, channel-new, sounder-new, family-of}
+use Rattle.demands.proofs.Families.{even-channels, even-sounders}
 
 -- ---- a listed ping
 -- it has a ping's content
@@ -113,19 +114,6 @@ module _ (o : Bool) where
   after-channels w (x ∷ xs) =
       after-channels (past o w x (lengthOf x)) xs
       ∙ append-assoc (w .channels) (channelPlace (digest o x .link) (w .at)) (spots channelPlace o (w .at + lengthOf x) xs)
-
--- ---- each link that declares adds a place
-even-channels : (l : Link) (at : ℕ) → length (newChannels l) ≡ length (channelPlace l at)
-even-channels Link.none at = refl
-even-channels (Link.sounder s) at = refl
-even-channels (Link.channel c) at = refl
-even-channels (Link.names c) at = refl
-
-even-sounders : (l : Link) (at : ℕ) → length (newSounders l) ≡ length (sounderPlace l at)
-even-sounders Link.none at = refl
-even-sounders (Link.sounder s) at = refl
-even-sounders (Link.channel c) at = refl
-even-sounders (Link.names c) at = refl
 
 -- ---- what the course behind tuples gives
 -- the parents of a channel, looked up by a number in the lists of declarations and of their places

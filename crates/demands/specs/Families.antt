@@ -6,6 +6,8 @@ use mathlib.Core.Bool.{Bool}
 use mathlib.Core.List.{List, _∷_, _++_}
 use Prim.Native.Nat.{ℕ, _+_}
 use lib.ListN.{length}
+use Rattle.layout.specs.declared.Maker.{Maker}
+use Rattle.layout.specs.declared.Maker.the-variants.{Biosonics, Simrad}
 use Rattle.layout.specs.declared.SoftwareChannel.{SoftwareChannel}
 use Rattle.layout.specs.declared.Counts.{Counts}
 use Rattle.layout.specs.declared.DocumentId.{DocumentId}
@@ -45,11 +47,23 @@ pub record SounderTuple (o : Bool) (d : DocumentId) (t : Tup) : Type 0 where
   pub declares : digest o t .link ≡ Link.sounder it
   pub named : it .doc ≡ d
 
+-- a maker's echosounder and channel tuples have these types
+abbrev pub sounderType : Maker → ℕ
+sounderType Biosonics = 100
+sounderType Simrad = 200
+
+abbrev pub channelType : Maker → ℕ
+channelType Biosonics = 1000
+channelType Simrad = 2000
+
 -- the parents of what names a channel behind these tuples: the one tuple that declares it, and the one tuple before that which
--- declares the sounder it names
+-- declares the sounder it names; both are of one maker, and so of that maker's types
 pub record Family (o : Bool) (xs : List Tup) (c : SoftwareChannel) : Type 0 where
   pub channel : Sole (ChannelTuple o c) xs
   pub sounder : Sole (SounderTuple o (channel .is .it .parent)) (channel .one .before)
+  pub maker : Maker
+  pub made : (channel .is .it .maker ≡ maker) × (sounder .is .it .maker ≡ maker)
+  pub typed : (channel .one .it .kind ≡ channelType maker) × (sounder .one .it .kind ≡ sounderType maker)
 
 -- ---- a listed ping
 -- the channel that a ping's header names

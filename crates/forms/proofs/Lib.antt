@@ -1,3 +1,4 @@
+pub mod Arms
 pub mod Formed
 pub mod Placed
 pub mod Texts

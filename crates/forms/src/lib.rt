@@ -52,9 +52,10 @@ pub fn form_length(file: &[u8], at: usize, msb: bool, whole: usize, code: u16) -
 }
 
 // Writes the fields of a tuple of a listed type, by its listing. Each arm names its row by a constant, and how many fields it has before
-// its dots: so that the compiler makes plain loads and stores of the loop over it.
-fn turn_listed(file: &[u8], at: usize, msb: bool, listing: usize, out: &mut [u8], to: usize)
-    requires { ⌜ listing < listed ⌝ }
+// its dots: so that the compiler makes plain loads and stores of the loop over it, if it has fifteen fields at most. It does so where it
+// takes these functions into their one caller, and that only up to some size: so they are two. Of the signature and of what declares,
+fn turn_first(file: &[u8], at: usize, msb: bool, listing: usize, out: &mut [u8], to: usize)
+    requires { ⌜ listing < 5 ⌝ }
     requires { ⌜ at + size (listedFields listing) ≤ length (now file) ⌝ }
     requires { ⌜ to + size (listedFields listing) ≤ length (now out) ⌝ }
     ensures { λ _. ⌜ now (out .exit) ≡ sets (now (out .entry)) to (turned msb (listedFields listing) (drop at (now (file .entry)))) ⌝ }
@@ -64,7 +65,18 @@ fn turn_listed(file: &[u8], at: usize, msb: bool, listing: usize, out: &mut [u8]
         1 => turning::turn_row(file, at, msb, &layout::row(1)[0..FIELDS[1]], out, to),
         2 => turning::turn_row(file, at, msb, &layout::row(2)[0..FIELDS[2]], out, to),
         3 => turning::turn_row(file, at, msb, &layout::row(3)[0..FIELDS[3]], out, to),
-        4 => turning::turn_row(file, at, msb, &layout::row(4)[0..FIELDS[4]], out, to),
+        _ => turning::turn_row(file, at, msb, &layout::row(4)[0..FIELDS[4]], out, to),
+    }
+}
+
+// and of any listing.
+fn turn_listed(file: &[u8], at: usize, msb: bool, listing: usize, out: &mut [u8], to: usize)
+    requires { ⌜ listing < listed ⌝ }
+    requires { ⌜ at + size (listedFields listing) ≤ length (now file) ⌝ }
+    requires { ⌜ to + size (listedFields listing) ≤ length (now out) ⌝ }
+    ensures { λ _. ⌜ now (out .exit) ≡ sets (now (out .entry)) to (turned msb (listedFields listing) (drop at (now (file .entry)))) ⌝ }
+{
+    match listing {
         5 => turning::turn_row(file, at, msb, &layout::row(5)[0..FIELDS[5]], out, to),
         6 => turning::turn_row(file, at, msb, &layout::row(6)[0..FIELDS[6]], out, to),
         7 => turning::turn_row(file, at, msb, &layout::row(7)[0..FIELDS[7]], out, to),
@@ -72,7 +84,10 @@ fn turn_listed(file: &[u8], at: usize, msb: bool, listing: usize, out: &mut [u8]
         9 => turning::turn_row(file, at, msb, &layout::row(9)[0..FIELDS[9]], out, to),
         10 => turning::turn_row(file, at, msb, &layout::row(10)[0..FIELDS[10]], out, to),
         11 => turning::turn_row(file, at, msb, &layout::row(11)[0..FIELDS[11]], out, to),
-        _ => turning::turn_row(file, at, msb, &layout::row(12)[0..FIELDS[12]], out, to),
+        12 => turning::turn_row(file, at, msb, &layout::row(12)[0..FIELDS[12]], out, to),
+        13 => turning::turn_row(file, at, msb, &layout::row(13)[0..FIELDS[13]], out, to),
+        14 => turning::turn_row(file, at, msb, &layout::row(14)[0..FIELDS[14]], out, to),
+        _ => turn_first(file, at, msb, listing, out, to),
     }
 }
 

@@ -14,6 +14,7 @@ use Rattle.layout.specs.declared.Verdict.{Verdict}
 use Rattle.layout.specs.declared.Verdict.the-variants.{Fine, Fault}
 use Rattle.layout.specs.Answers.{both, judged, Breach, _byte_}
 use Rattle.layout.specs.Fields.{known}
+use Rattle.layout.specs.declared.Maker.{Maker}
 use Rattle.layout.specs.declared.Says.{Says}
 use Rattle.layout.specs.declared.Says.the-variants as says
 use Rattle.layout.specs.Types.{listings, among, listingOf, shapeOf, lengthsOf, saysOf, Length, leastOf, exactly, upward, free, fitting}
@@ -63,8 +64,8 @@ least-fits free n e = omega arith
 
 abbrev roomyBy : Says → Length → Bool
 roomyBy says.Nothing l = true
-roomyBy says.Sounder l = true
-roomyBy says.Channel l = leb 18 (leastOf l)
+roomyBy (says.Sounder m) l = true
+roomyBy (says.Channel m) l = leb 18 (leastOf l)
 roomyBy says.Names l = true
 roomyBy says.NamesOrAll l = true
 
@@ -75,8 +76,8 @@ roomy = alike (λ k l. roomyBy (l .says) (l .length)) (λ k l. true) (unfold lis
     others k true e = refl
     others k false e = refl
 
-roomy-for : (k n : ℕ) → saysOf k ≡ says.Channel → Fits n k → 18 ≤ n
-roomy-for k n e g =
+roomy-for : (k n : ℕ) (m : Maker) → saysOf k ≡ says.Channel m → Fits n k → 18 ≤ n
+roomy-for k n m e g =
     omega (
       arith,
       leb-true 18 (leastOf (lengthsOf k)) (ap (λ (a : Says). roomyBy a (lengthsOf k)) (sym e) ∙ roomy k),
@@ -177,8 +178,8 @@ module _ {o : Bool} {f : List ℕ} {at n k : ℕ} (h : Here o f at n k) where
         link-place o f at n whole (subst (Fits n) (sym (h .kind)) g) ∙ ap (λ (j : ℕ). linkAt o f at n whole (saysOf j)) (h .kind)
         ∙ ap (linkAt o f at n whole) e
 
-    pub channel-whole : saysOf k ≡ says.Channel → at + 18 ≤ length f
-    channel-whole e = omega (arith, roomy-for k n e g, whole .fits)
+    pub channel-whole : {m : Maker} → saysOf k ≡ says.Channel m → at + 18 ≤ length f
+    channel-whole {m} e = omega (arith, roomy-for k n m e g, whole .fits)
 
     -- an attitude of all channels, and of one
     attitude : {b : Bool} → saysOf k ≡ says.NamesOrAll → eqb (namedAt o f at .0) 65535 ≡ b
@@ -214,12 +215,13 @@ module _ {o : Bool} {f : List ℕ} (w : Tally) (c : Tables) {n k : ℕ} (h : Her
     pub no-link : saysOf k ≡ says.Nothing → Linked 0 ≡ linkTold o f w c
     no-link e = alone (link-by h g e)
 
-    pub sounder-told : saysOf k ≡ says.Sounder → linking (soundersBy w c) [] (Links.sounder (sounderAt o f (w .at))) ≡ linkTold o f w c
+    pub sounder-told : {m : Maker} → saysOf k ≡ says.Sounder m
+        → linking (soundersBy w c) [] (Links.sounder (sounderAt o f (w .at) m)) ≡ linkTold o f w c
     unfolding linking
     sounder-told e = sym (told (link-by h g e))
 
-    pub channel-told : saysOf k ≡ says.Channel
-        → linking (soundersBy w c) (channelsBy w c) (Links.channel (channelAt o f (w .at))) ≡ linkTold o f w c
+    pub channel-told : {m : Maker} → saysOf k ≡ says.Channel m
+        → linking (soundersBy w c) (channelsBy w c) (Links.channel (channelAt o f (w .at) m)) ≡ linkTold o f w c
     channel-told e = sym (told (link-by h g e))
 
     pub attitude-all : saysOf k ≡ says.NamesOrAll → namedAt o f (w .at) .0 ≡ 65535 → Linked 0 ≡ linkTold o f w c

@@ -1,21 +1,22 @@
 -- What the code says of the tuple at a place: how far behind its first byte a fault is, and that a fine verdict tells that there is
 -- room for what it declares. Assumes nothing.
-use mathlib.Core.Path.{_≡_}
+use mathlib.Core.Path.{_≡_, refl, sym, ap, _∙_}
 use mathlib.Core.List.{List, [], _∷_, _++_}
-use mathlib.Core.Bool.{Bool, true, false, _&&_}
+use mathlib.Core.Bool.{Bool, true, false, cond, _&&_, _||_, true≢false}
 use Prim.Native.Nat.{ℕ, _+_, _-_, _*_, _%_, _≤_, _<_}
 use native.Mathlib.Omega.{arith}
 use borrow.Author.Tests.{eqb-true, leb-true, leb-false, not-false}
 use lib.Dec.{eqb, leb, lit≤}
 use lib.ListN.{length, take, drop, length-take, length-drop}
 use Rattle.rules.specs.Rules.{_⇒_}
-use Rattle.rules.proofs.Laws.{_⊳_, by-rules}
 use Rattle.rules.proofs.Bools.{both-true}
 use Rattle.layout.specs.declared.Verdict.the-variants.{Fine, Fault}
 use Rattle.layout.specs.Answers.{both, judged, _byte_}
 use Rattle.layout.specs.declared.Says.{Says}
 use Rattle.layout.specs.declared.Says.the-variants as says
-use Rattle.layout.specs.Types.{Shape, indexed, row, pairs, words, unlisted, shapeOf, saysOf}
+use Rattle.layout.specs.Types
+use Rattle.layout.specs.Types.{Shape, indexed, row, pairs, words, unlisted, classes, inClass, listings, notListed, shapeOf, saysOf}
+use Rattle.layout.proofs.Tables.{alike}
 use Rattle.layout.proofs.Verdicts.{both-left, both-right, passes, Near, AllNear, near-rules, near-append, near-both, near-fault}
 use Rattle.turning.specs.Rows.{Value, valuesOf}
 use Rattle.frame.specs.Frames.{Tup, allowed, sizeAt, lenAt, tupAt, frameRules, framing}
@@ -31,6 +32,7 @@ use Rattle.links.specs.declared.Channel.{Channel}
 use Rattle.links.specs.Links.{Link, mostSounders, mostChannels, signRules, rulesAmong}
 use Rattle.content.specs.Items.{rowIn, itemBy, itemOf, unless, linkBy, numberAt, digestOf, digestItem, digest, headRules, innerBy}
 use Rattle.content.specs.Items.{innerRules}
+use Rattle.content.proofs.Places.{same-arms}
 use Rattle.content.specs.Pings.{headU, headC, wordsIn, contentU}
 use Rattle.intake.specs.inner.Tallies.{headVerdict, linkVerdict, innerVerdict, ownVerdict, turnVerdict}
 use Rattle.intake.proofs.Turns.{emptied}
@@ -155,15 +157,50 @@ quiet-unless false l q = q
 -- a type that declares nothing
 abbrev pub QuietBy : Says → Type 0
 QuietBy says.Nothing = Unit {0}
-QuietBy says.Sounder = ⊥
-QuietBy says.Channel = ⊥
+QuietBy (says.Sounder m) = ⊥
+QuietBy (says.Channel m) = ⊥
 QuietBy says.Names = Unit {0}
 QuietBy says.NamesOrAll = Unit {0}
 
+-- none of another class than a sounder's or a channel's declares: one test over the listed types
+abbrev pub ofDeclaring : ℕ → Bool
+ofDeclaring k = inClass Types.sounder k || inClass Types.channel k
+
+isQuiet : Says → Bool
+isQuiet says.Nothing = true
+isQuiet (says.Sounder m) = false
+isQuiet (says.Channel m) = false
+isQuiet says.Names = true
+isQuiet says.NamesOrAll = true
+
+quiet-by : (a : Says) → isQuiet a ≡ true → QuietBy a
+unfolding isQuiet
+quiet-by says.Nothing e = tt
+quiet-by (says.Sounder m) e = true≢false (sym e)
+quiet-by (says.Channel m) e = true≢false (sym e)
+quiet-by says.Names e = tt
+quiet-by says.NamesOrAll e = tt
+
+pub quiet-class : (k : ℕ) → ofDeclaring k ≡ false → QuietBy (saysOf k)
+unfolding isQuiet
+quiet-class k e =
+    quiet-by (saysOf k)
+    (ap (λ (b : Bool). cond b true (isQuiet (saysOf k))) (sym e)
+    ∙ alike (λ j l. cond (ofDeclaring j) true (isQuiet (l .says))) (λ j l. true) (unfold listings inClass classes in refl) others k)
+  where
+    others : (j : ℕ) (b : Bool) → inClass Types.index j ≡ b → cond (ofDeclaring j) true (isQuiet (notListed b .says)) ≡ true
+    others j true e = same-arms (ofDeclaring j) true
+    others j false e = same-arms (ofDeclaring j) true
+
+-- nor is an end of file of these
+pub no-end-class : (k : ℕ) → ofDeclaring k ≡ true → k ≡ 65534 → ⊥
+unfolding inClass classes
+no-end-class k e q = true≢false (sym e ∙ ap ofDeclaring q)
+
 quiet-row : (a : Says) → QuietBy a → (vs : List Value) → Quiet (linkBy a vs)
 quiet-row says.Nothing q vs = tt
-quiet-row says.Sounder q vs = absurd q
-quiet-row says.Channel q vs = absurd q
+quiet-row (says.Sounder m) q vs = absurd q
+quiet-row (says.Channel m) q vs = absurd q
 quiet-row says.Names q vs = tt
 quiet-row says.NamesOrAll q vs = quiet-unless (eqb (numberAt vs 2) 65535) (Links.names (record { 0 = numberAt vs 2 })) tt
 

@@ -2,6 +2,7 @@
 use layout::Answer;
 use layout::Counts;
 use layout::DocumentId;
+use layout::Maker;
 use layout::Says;
 use layout::SoftwareChannel;
 use layout::Verdict;
@@ -18,6 +19,8 @@ ghost use Prim.Native.Nat.{_+_, _^_, _<_, _≤_};
 ghost use lib.Dec.{eqb};
 ghost use lib.ListN.{length, drop};
 ghost use mathlib.Core.Bool.{_&&_, _||_};
+ghost use Rattle.layout.specs.Types;
+ghost use Rattle.layout.specs.Types.{inClass};
 ghost use Rattle.frame.specs.Frames.{tupAt};
 ghost use Rattle.frame.specs.Files.{limit};
 ghost use Rattle.links.specs.Links.{mostChannels, Steady};
@@ -105,27 +108,29 @@ fn judge_head(file: &[u8], at: usize, msb: bool, whole: usize, code: u16, first:
     Verdict::Fine
 }
 
-// What the sounder tuple at a place declares.
-fn sounder_at(file: &[u8], at: usize, msb: bool) -> Sounder
+// What the sounder tuple of a maker at a place declares.
+fn sounder_at(file: &[u8], at: usize, msb: bool, maker: Maker) -> Sounder
     requires { ⌜ at + 16 ≤ length (now file) ⌝ }
-    ensures { λ r. ⌜ r ≡ sounderAt msb (now (file .entry)) at ⌝ }
+    ensures { λ r. ⌜ r ≡ sounderAt msb (now (file .entry)) at maker ⌝ }
 {
     Sounder {
         doc: DocumentId(order::read4(file, at + DOCUMENT, msb)),
         says: order::read2(file, at + NUMBER_OF_CHANNELS, msb),
+        maker,
     }
 }
 
-// What the channel tuple at a place declares.
-fn channel_at(file: &[u8], at: usize, msb: bool) -> Channel
+// What the channel tuple of a maker at a place declares.
+fn channel_at(file: &[u8], at: usize, msb: bool, maker: Maker) -> Channel
     requires { ⌜ at + 18 ≤ length (now file) ⌝ }
-    ensures { λ r. ⌜ r ≡ channelAt msb (now (file .entry)) at ⌝ }
+    ensures { λ r. ⌜ r ≡ channelAt msb (now (file .entry)) at maker ⌝ }
 {
     Channel {
         id: SoftwareChannel(order::read2(file, at + OWN_CHANNEL, msb)),
         parent: DocumentId(order::read4(file, at + DOCUMENT, msb)),
         rate: order::read4(file, at + SAMPLING_RATE, msb),
         samples: order::read2(file, at + SAMPLE_TYPE, msb),
+        maker,
     }
 }
 
@@ -157,9 +162,12 @@ fn judge_links(
     let at = w.at;
     match layout::says_of(code) {
         Says::Nothing => LinkVerdict::Linked { compared: 0 },
-        Says::Sounder => { links::judge_sounder(sounders, w.sounders, sounder_at(file, at, msb)) }
-        Says::Channel => {
-            let it = channel_at(file, at, msb);
+        Says::Sounder(maker) => {
+            let it = sounder_at(file, at, msb, maker);
+            links::judge_sounder(sounders, w.sounders, it)
+        }
+        Says::Channel(maker) => {
+            let it = channel_at(file, at, msb, maker);
             links::judge_channel(sounders, w.sounders, channels, w.channels, it)
         }
         Says::NamesOrAll => {
@@ -339,6 +347,17 @@ fn end(file: &[u8], w: Tally, sounders: &[Row], channels: &[Row]) -> Answer
     })
 }
 
+// Whether a tuple of a type code may declare: it is of the sounders' or of the channels' class. It spares all others a look at what
+// their type says.
+fn may_declare(code: u16) -> bool
+    ensures { λ r. ⌜ r ≡ inClass Types.sounder code || inClass Types.channel code ⌝ }
+{
+    either(
+        layout::in_class(layout::SOUNDER, code),
+        layout::in_class(layout::CHANNEL, code),
+    )
+}
+
 // One turn: the tuple where the tally stands is judged, its declaration is kept, and the tally passes it.
 fn turn(
     file: &[u8],
@@ -364,23 +383,24 @@ fn turn(
             let whole = frame::length_at(file, at, msb);
             let code = frame::kind_at(file, at, msb);
             let mut next = w.past(whole, code, compared);
+            if !may_declare(code) {
+                if code == types::FILE_END {
+                    return Turned::Done(end(file, next, sounders, channels));
+                }
+                return Turned::On(next);
+            }
             match layout::says_of(code) {
+                Says::Nothing => Turned::On(next),
                 Says::Names => Turned::On(next),
                 Says::NamesOrAll => Turned::On(next),
-                Says::Nothing => {
-                    if code == types::FILE_END {
-                        return Turned::Done(end(file, next, sounders, channels));
-                    }
-                    Turned::On(next)
-                }
-                Says::Sounder => {
-                    let it = sounder_at(file, at, msb);
+                Says::Sounder(maker) => {
+                    let it = sounder_at(file, at, msb, maker);
                     links::put_sounder(sounders, w.sounders, it, at);
                     next.sounders = w.sounders + 1;
                     Turned::On(next)
                 }
-                Says::Channel => {
-                    let it = channel_at(file, at, msb);
+                Says::Channel(maker) => {
+                    let it = channel_at(file, at, msb, maker);
                     links::put_channel(channels, w.channels, it, at);
                     links::note_row(notes, it.id, w.channels);
                     next.channels = w.channels + 1;

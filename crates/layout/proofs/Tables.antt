@@ -12,9 +12,11 @@ use Rattle.rules.proofs.Bools.{both-true}
 use Rattle.layout.specs.declared.Says.{Says}
 use Rattle.layout.specs.declared.Says.the-variants.{Nothing, Sounder, Channel, Names, NamesOrAll}
 use Rattle.layout.specs.Fields.{Field, size}
-use Rattle.layout.specs.Types.{Shape, indexed, row, pairs, words, unlisted, classes, Length, free, exactly, upward, fitting, lengthFrom, leastOf, stepOf, inClass, index}
+use Rattle.layout.specs.Types.{Shape, indexed, row, pairs, words, unlisted, classes, inClass, index}
+use Rattle.layout.specs.Types.{Length, free, exactly, upward, fitting, lengthFrom, leastOf, stepOf}
 use Rattle.layout.specs.Types.{Listing, Listed, type, listings, listed, notListed, among, listingOf, shapeOf, lengthsOf, saysOf}
-use Rattle.layout.specs.inner.Codes.{placeAmong, placeIn, fieldsIn, codesIn, rowCodes, fieldOf, fieldsOf, measuredBy, measures, lengthBy}
+use Rattle.layout.specs.inner.Codes.{placeAmong, placeIn, fieldsIn, codesIn, rowCodes, fieldOf, fieldsOf}
+use Rattle.layout.specs.inner.Codes.{measuredBy, measures, lengthBy}
 
 -- ---- by the list
 -- what holds of each of some types
@@ -61,7 +63,8 @@ stands-at : (k : ℕ) (l : Listed) (ls : List Listed) (x y : Listing) (p : ℕ) 
 stands-at k l ls x y p d r true h = refl
 stands-at k l ls x y p d r false h = r (omega arith)
 
-stands : (k : ℕ) (ls : List Listed) (x : Listing) (d : Listed) → placeAmong k ls < length ls → getD ls (placeAmong k ls) d .listing ≡ among k ls x
+stands : (k : ℕ) (ls : List Listed) (x : Listing) (d : Listed) → placeAmong k ls < length ls
+    → getD ls (placeAmong k ls) d .listing ≡ among k ls x
 unfolding placeAmong among
 stands k [] x d h = absurd (omega arith)
 stands k (l ∷ ls) x d h =
@@ -130,7 +133,8 @@ module _ (k : ℕ) (h : placeIn k < listed) where
   pub fields-there : fieldsOf (getD rowCodes (placeIn k) []) ≡ fieldsIn (shapeOf k)
   unfolding rowCodes
   fields-there =
-      ap fieldsOf (getD-in (λ (l : Listed). codesIn (l .listing)) listings (placeIn k) other [] (omega (arith, how-many)) ∙ ap codesIn there)
+      let j : placeIn k < length listings = omega (arith, how-many) in
+      ap fieldsOf (getD-in (λ (l : Listed). codesIn (l .listing)) listings (placeIn k) other [] j ∙ ap codesIn there)
       ∙ each-there [] (λ l. fieldsOf (codesIn l)) (λ l. fieldsIn (l .shape)) (unfold listings fieldOf fieldsOf in refl)
 
   -- its row is little
@@ -247,8 +251,8 @@ missed k n = missed-by k listedCodes n listings refl
 -- the codes of the types that say something to others, and that no other does
 abbrev saying : Says → ℕ → List ℕ → List ℕ
 saying Nothing k cs = cs
-saying Sounder k cs = k ∷ cs
-saying Channel k cs = k ∷ cs
+saying (Sounder m) k cs = k ∷ cs
+saying (Channel m) k cs = k ∷ cs
 saying Names k cs = k ∷ cs
 saying NamesOrAll k cs = k ∷ cs
 

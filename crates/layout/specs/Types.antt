@@ -6,6 +6,8 @@ use mathlib.Core.Option.{Option, some, none}
 use lib.Dec.{leb, eqb}
 use lib.ListN.{getD}
 use Rattle.layout.specs.Fields.{Field, u, s, c, z, ident, size}
+use Rattle.layout.specs.declared.Maker.{Maker}
+use Rattle.layout.specs.declared.Maker.the-variants.{Biosonics, Simrad}
 use Rattle.layout.specs.declared.Says.{Says}
 use Rattle.layout.specs.declared.Says.the-variants.{Nothing, Sounder, Channel, Names, NamesOrAll}
 
@@ -58,6 +60,13 @@ pub data Shape : Type 0 where
 abbrev pub pingRow : List Field
 pingRow = u 2 ∷ u 4 ∷ u 2 ∷ u 2 ∷ u 4 ∷ s 4 ∷ []
 
+-- ---- makers: of echosounder 100 and channel 1000 Biosonics, of 200 and 2000 Simrad
+abbrev pub sameMaker : Maker → Maker → Bool
+sameMaker Biosonics Biosonics = true
+sameMaker Biosonics Simrad = false
+sameMaker Simrad Biosonics = false
+sameMaker Simrad Simrad = true
+
 -- ---- listed types
 -- what is listed of a type: its lengths, its shape, and what its tuples say to the others
 pub record Listing : Type 0 where
@@ -76,18 +85,25 @@ pub record Listed : Type 0 where
 abbrev pub type : ℕ → Length → Shape → Says → Listed
 type k n h a = record { code = k; listing = listing n h a }
 
--- the one list: signature, echosounder, channel, position, navigation, attitude, threshold, event marker, both pings, start and end of
--- run, end of file. One row for each type, each row the widths in order
+-- the one list: signature, both makers' echosounders and channels, position, navigation, attitude, threshold, event marker, both pings,
+-- start and end of run, end of file. One row for each type, each row the widths in order
 unfoldable pub listings : List Listed
 listings =
     type 65535 (exactly 24) (row (ident ∷ u 2 ∷ u 2 ∷ u 4 ∷ []) none) Nothing
     ∷ type 100 (exactly 72)
-    (row (u 2 ∷ u 4 ∷ u 2 ∷ u 2 ∷ s 2 ∷ u 2 ∷ s 2 ∷ u 2 ∷ u 2 ∷ s 2 ∷ u 2 ∷ u 2 ∷ c 30 ∷ z 2 ∷ []) none) Sounder
+    (row (u 2 ∷ u 4 ∷ u 2 ∷ u 2 ∷ s 2 ∷ u 2 ∷ s 2 ∷ u 2 ∷ u 2 ∷ s 2 ∷ u 2 ∷ u 2 ∷ c 30 ∷ z 2 ∷ []) none) (Sounder Biosonics)
+    ∷ type 200 (exactly 80)
+    (row (u 2 ∷ u 4 ∷ u 2 ∷ u 2 ∷ u 2 ∷ u 2 ∷ u 2 ∷ u 2 ∷ u 2 ∷ u 2 ∷ u 2 ∷ s 4 ∷ u 2 ∷ s 2 ∷ u 4 ∷ c 30 ∷ []) none) (Sounder Simrad)
     ∷ type 1000 (exactly 108)
     (row
     (u 2 ∷ u 4 ∷ u 4 ∷ u 2 ∷ u 2 ∷ u 2 ∷ z 2 ∷ u 4 ∷ u 4 ∷ s 2 ∷ s 2 ∷ s 2 ∷ s 2 ∷ u 2 ∷ u 2 ∷ u 2 ∷ u 2 ∷ u 2 ∷ u 2 ∷ u 2 ∷ s 2 ∷ s 2 ∷ s 2
     ∷ u 4 ∷ u 4 ∷ c 30 ∷ z 2 ∷ [])
-    none) Channel
+    none) (Channel Biosonics)
+    ∷ type 2000 (exactly 108)
+    (row
+    (u 2 ∷ u 4 ∷ u 4 ∷ u 2 ∷ u 2 ∷ u 4 ∷ u 4 ∷ s 2 ∷ s 2 ∷ s 2 ∷ s 2 ∷ u 2 ∷ u 2 ∷ u 2 ∷ u 2 ∷ u 2 ∷ u 2 ∷ u 2 ∷ u 2 ∷ s 2 ∷ u 2 ∷ s 2 ∷ z 2
+    ∷ u 4 ∷ u 4 ∷ c 30 ∷ z 2 ∷ [])
+    none) (Channel Simrad)
     ∷ type 20 (exactly 36) (row (s 2 ∷ u 4 ∷ u 4 ∷ u 2 ∷ z 2 ∷ s 4 ∷ s 4 ∷ []) none) Nothing
     ∷ type 30 (exactly 28) (row (u 2 ∷ u 4 ∷ u 2 ∷ s 2 ∷ u 2 ∷ z 2 ∷ []) none) Nothing
     ∷ type 40 (exactly 36) (row (u 2 ∷ u 4 ∷ u 2 ∷ u 2 ∷ s 2 ∷ s 2 ∷ s 2 ∷ s 2 ∷ s 2 ∷ z 2 ∷ []) none) NamesOrAll
@@ -102,7 +118,7 @@ listings =
 
 -- how many they are
 abbrev pub listed : ℕ
-listed = 13
+listed = 15
 
 -- the others, of the index class and not
 abbrev pub notListed : Bool → Listing

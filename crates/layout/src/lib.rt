@@ -9,8 +9,8 @@ ghost use mathlib.Core.List.{[]};
 ghost use lib.ListN.{getD};
 ghost use Rattle.layout.specs.Answers.{accepting};
 ghost use Rattle.layout.specs.Fields.{known};
-ghost use Rattle.layout.specs.Types.{inClass, listed, lengthsOf, saysOf, fitting};
-ghost use Rattle.layout.specs.inner.Codes.{placeIn, rowCodes, measures};
+ghost use Rattle.layout.specs.Types.{inClass, listed, lengthsOf, saysOf, fitting, sameMaker};
+ghost use Rattle.layout.specs.inner.Codes.{placeIn, rowCodes, measures, makerNumber, makerOf};
 
 // What an acceptance counts: the tuples of what was handed in, the bytes or samples written, the identifiers compared while linking
 // the tuples of a file.
@@ -41,12 +41,18 @@ pub struct SoftwareChannel(pub u16);
 // The hardware channel of an echosounder. It names no tuple.
 pub struct Transceiver(pub u16);
 
-// What the tuples of a type say to the others: nothing; they declare a sounder or a channel; they name a channel; or they name one, or
-// all.
+// Who made an echosounder: Biosonics, or Simrad, whose is the EK-500.
+pub enum Maker {
+    Biosonics,
+    Simrad,
+}
+
+// What the tuples of a type say to the others: nothing; they declare a maker's sounder or channel; they name a channel; or they name
+// one, or all.
 pub enum Says {
     Nothing,
-    Sounder,
-    Channel,
+    Sounder(Maker),
+    Channel(Maker),
     Names,
     NamesOrAll,
 }
@@ -57,7 +63,7 @@ pub const IDENTIFIER: u16 = 44204;
 pub const PRINTED_IDENTIFIER: u16 = 44201;
 
 // The listed types, and the longest of their rows.
-pub const LISTED: usize = 13;
+pub const LISTED: usize = 15;
 
 pub const ROW: usize = 27;
 
@@ -86,7 +92,9 @@ const CLASSES: [[u16; 2]; 5] = [
 const ROWS: [[u8; ROW]; LISTED] = [
     *b"i224.......................",
     *b"2422s2s22s22cz.............",
+    *b"24222222222S2s4c...........",
     *b"244222z44ssss2222222sss44cz",
+    *b"2442244ssss22222222s2sz44cz",
     *b"s442zSS....................",
     *b"242s2z.....................",
     *b"2422sssssz.................",
@@ -100,13 +108,15 @@ const ROWS: [[u8; ROW]; LISTED] = [
 ];
 
 // How many fields each row has: its codes before the dots.
-pub const FIELDS: [usize; LISTED] = [4, 14, 27, 7, 6, 10, 11, 2, 6, 7, 2, 2, 3];
+pub const FIELDS: [usize; LISTED] = [4, 14, 16, 27, 27, 7, 6, 10, 11, 2, 6, 7, 2, 2, 3];
 
 // What each listed type measures: of its row the numbers, the bytes before its characters, the bytes but for these and all bytes; its
 // least length, and by what step it may be longer: a step of 0 allows the one length alone.
 const MEASURES: [[usize; 6]; LISTED] = [
     [3, 10, 10, 10, 24, 0],
     [12, 26, 28, 58, 72, 0],
+    [15, 36, 36, 66, 80, 0],
+    [24, 62, 64, 94, 108, 0],
     [24, 62, 64, 94, 108, 0],
     [6, 22, 22, 22, 36, 0],
     [5, 14, 14, 14, 28, 0],
@@ -194,17 +204,19 @@ pub fn listing_of(code: u16) -> usize
     match code {
         types::SIGNATURE => 0,
         types::SOUNDER => 1,
-        types::CHANNEL => 2,
-        types::POSITION => 3,
-        types::NAVIGATION => 4,
-        types::ATTITUDE => 5,
-        types::THRESHOLD => 6,
-        types::EVENT => 7,
-        types::PING_U => 8,
-        types::PING_C => 9,
-        types::RUN_START => 10,
-        types::RUN_END => 11,
-        types::FILE_END => 12,
+        types::EK500_SOUNDER => 2,
+        types::CHANNEL => 3,
+        types::EK500_CHANNEL => 4,
+        types::POSITION => 5,
+        types::NAVIGATION => 6,
+        types::ATTITUDE => 7,
+        types::THRESHOLD => 8,
+        types::EVENT => 9,
+        types::PING_U => 10,
+        types::PING_C => 11,
+        types::RUN_START => 12,
+        types::RUN_END => 13,
+        types::FILE_END => 14,
         _ => LISTED,
     }
 }
@@ -228,7 +240,9 @@ pub fn row(listing: usize) -> [u8; ROW]
         9 => ROWS[9],
         10 => ROWS[10],
         11 => ROWS[11],
-        _ => ROWS[12],
+        12 => ROWS[12],
+        13 => ROWS[13],
+        _ => ROWS[14],
     }
 }
 
@@ -250,7 +264,9 @@ pub fn measure(listing: usize) -> [usize; 6]
         9 => MEASURES[9],
         10 => MEASURES[10],
         11 => MEASURES[11],
-        _ => MEASURES[12],
+        12 => MEASURES[12],
+        13 => MEASURES[13],
+        _ => MEASURES[14],
     }
 }
 
@@ -259,14 +275,47 @@ pub fn says_of(code: u16) -> Says
     ensures { λ r. ⌜ r ≡ saysOf code ⌝ }
 {
     match code {
-        types::SOUNDER => Says::Sounder,
-        types::CHANNEL => Says::Channel,
+        types::SOUNDER => Says::Sounder(Maker::Biosonics),
+        types::EK500_SOUNDER => Says::Sounder(Maker::Simrad),
+        types::CHANNEL => Says::Channel(Maker::Biosonics),
+        types::EK500_CHANNEL => Says::Channel(Maker::Simrad),
         types::ATTITUDE => Says::NamesOrAll,
         types::THRESHOLD => Says::Names,
         types::PING_U => Says::Names,
         types::PING_C => Says::Names,
         _ => Says::Nothing,
     }
+}
+
+// A maker as the number that a table keeps, and the maker of such a number.
+pub const BIOSONICS: u32 = 0;
+
+pub const SIMRAD: u32 = 1;
+
+pub fn number_of(maker: Maker) -> u32
+    ensures { λ r. ⌜ r ≡ makerNumber maker ⌝ }
+    ensures { λ _. ⌜ makerOf (makerNumber maker) ≡ maker ⌝ }
+{
+    match maker {
+        Maker::Biosonics => BIOSONICS,
+        Maker::Simrad => SIMRAD,
+    }
+}
+
+pub fn maker_of(number: u32) -> Maker
+    ensures { λ r. ⌜ r ≡ makerOf number ⌝ }
+{
+    if number == BIOSONICS {
+        return Maker::Biosonics;
+    }
+    Maker::Simrad
+}
+
+// Whether a number stands for a maker.
+pub fn is_maker(number: u32, maker: Maker) -> bool
+    ensures { λ r. ⌜ r ≡ sameMaker (makerOf number) maker ⌝ }
+{
+    number_of(maker_of(number)) == number_of(maker)
 }
 
 // Whether a tuple of a type code may be so long: any length will do for a type that isn't listed.

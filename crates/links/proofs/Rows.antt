@@ -10,12 +10,13 @@ use lib.Dec.{ltb, eqb, leb·suc-suc}
 use lib.ListN.{length, getD, take, set, length-map, List·getD-map}
 use lib.Seq.{take-suc-set, length-take-le, getD-take}
 use Rattle.rules.proofs.Bools.{or-true}
+use Rattle.layout.specs.Types.{sameMaker}
 use Rattle.layout.specs.declared.Verdict.{Verdict}
 use Rattle.layout.specs.declared.Verdict.the-variants.{Fine, Fault}
 use Rattle.links.specs.declared.Sounder.{Sounder}
 use Rattle.links.specs.declared.Channel.{Channel}
 use Rattle.links.specs.Links
-use Rattle.links.specs.Links.{Link, has, placeOf, comparedIn, comparesAmong, docOf, idOf, Apart}
+use Rattle.links.specs.Links.{Link, has, placeOf, comparedIn, comparesAmong, docOf, idOf, declaredOwn, Apart}
 use Rattle.links.specs.declared.LinkVerdict.the-variants.{Faulty, Linked}
 use Rattle.links.specs.inner.Tables.{keyOf, channelOf, channelsIn, comparing}
 use Rattle.links.proofs.Parents.{In, first, later, One, has-in}
@@ -133,6 +134,36 @@ module _ {A : Type 0} {key : A → ℕ} {x : ℕ} {l : List A} (o : One key x l)
 
   pub one-below : placeOf key x l < length l
   one-below = ltb-true _ _ (sym (has-place key x l) ∙ one-has)
+
+-- ---- a channel's own sounder, by the place that the search for it finds
+module _ (c : Channel) (d : Sounder) where
+  abbrev own-place : List Sounder → ℕ
+  own-place ss = placeOf docOf (c .parent .0) ss
+
+  -- none is its own where none is found
+  pub own-none : (ss : List Sounder) → has docOf (c .parent .0) ss ≡ false → declaredOwn c ss ≡ false
+  unfolding has declaredOwn
+  own-none [] h = refl
+  own-none (s ∷ ss) h = by (eqb (c .parent .0) (docOf s)) h (own-none ss)
+    where
+      by : (b : Bool) → b || has docOf (c .parent .0) ss ≡ false → (has docOf (c .parent .0) ss ≡ false → declaredOwn c ss ≡ false)
+          → cond b (sameMaker (s .maker) (c .maker)) (declaredOwn c ss) ≡ false
+      by true q r = absurd (true≢false q)
+      by false q r = r q
+
+  -- the one found is, where it is of the channel's maker
+  pub own-found : (ss : List Sounder) → has docOf (c .parent .0) ss ≡ true
+      → declaredOwn c ss ≡ sameMaker (getD ss (placeOf docOf (c .parent .0) ss) d .maker) (c .maker)
+  unfolding has declaredOwn placeOf
+  own-found [] h = absurd (true≢false (sym h))
+  own-found (s ∷ ss) h = by (eqb (c .parent .0) (docOf s)) h (own-found ss)
+    where
+      by : (b : Bool) → b || has docOf (c .parent .0) ss ≡ true
+          → (has docOf (c .parent .0) ss ≡ true → declaredOwn c ss ≡ sameMaker (getD ss (own-place ss) d .maker) (c .maker))
+          → cond b (sameMaker (s .maker) (c .maker)) (declaredOwn c ss)
+          ≡ sameMaker (getD (s ∷ ss) (cond b 0 (suc (own-place ss))) d .maker) (c .maker)
+      by true q r = refl
+      by false q r = r q
 
 -- ---- where no two have the same key, what stands at a place is the first with its key
 module _ {A : Type 0} (key : A → ℕ) (d : A) where

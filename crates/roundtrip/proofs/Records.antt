@@ -27,12 +27,24 @@ use Rattle.sounder.specs.declared.SounderRead.the-variants as sounder
 use Rattle.sounder.specs.Sounder.{sounderOf, sounderIntegers, sounder-inverse}
 use Rattle.sounder.specs.Sounder.{SounderTyped, SounderAt, SounderWritten}
 use Rattle.sounder.specs.Sounder as sounders
+use Rattle.ek500_sounder.specs.declared.Ek500Sounder.{Ek500Sounder}
+use Rattle.ek500_sounder.specs.declared.Ek500SounderRead.{Ek500SounderRead}
+use Rattle.ek500_sounder.specs.declared.Ek500SounderRead.the-variants as ek500Sounder
+use Rattle.ek500_sounder.specs.Ek500Sounder.{ek500SounderOf, ek500SounderIntegers, ek500-sounder-inverse}
+use Rattle.ek500_sounder.specs.Ek500Sounder.{Ek500SounderTyped, Ek500SounderAt, Ek500SounderWritten}
+use Rattle.ek500_sounder.specs.Ek500Sounder as ek500Sounders
 use Rattle.channel.specs.declared.Channel.{Channel}
 use Rattle.channel.specs.declared.ChannelRead.{ChannelRead}
 use Rattle.channel.specs.declared.ChannelRead.the-variants as channel
 use Rattle.channel.specs.Channel.{channelOf, channelIntegers, channel-inverse}
 use Rattle.channel.specs.Channel.{ChannelTyped, ChannelAt, ChannelWritten}
 use Rattle.channel.specs.Channel as channels
+use Rattle.ek500_channel.specs.declared.Ek500Channel.{Ek500Channel}
+use Rattle.ek500_channel.specs.declared.Ek500ChannelRead.{Ek500ChannelRead}
+use Rattle.ek500_channel.specs.declared.Ek500ChannelRead.the-variants as ek500Channel
+use Rattle.ek500_channel.specs.Ek500Channel.{ek500ChannelOf, ek500ChannelIntegers, ek500-channel-inverse}
+use Rattle.ek500_channel.specs.Ek500Channel.{Ek500ChannelTyped, Ek500ChannelAt, Ek500ChannelWritten}
+use Rattle.ek500_channel.specs.Ek500Channel as ek500Channels
 use Rattle.threshold.specs.declared.Threshold.{Threshold}
 use Rattle.threshold.specs.declared.ThresholdRead.{ThresholdRead}
 use Rattle.threshold.specs.declared.ThresholdRead.the-variants as threshold
@@ -99,6 +111,16 @@ sounder-again r t g b {o = o} {f = f} {p = p} w h a =
     let read = ap₂ (λ (y : Answer) (z : Sounder). sounders.answered y z (rowText 100 f p)) (v .answer) fields in
     (a .outcome ∙ read, v .characters)
 
+pub ek500-sounder-again : (r : Ek500Sounder) (t : List ℕ) → Ek500SounderTyped r → Bytes t
+    → {o : Bool} {out left f : List ℕ} {p : ℕ} {n : Counts} {x : Ek500SounderRead}
+    → Ek500SounderWritten o r t out (Accepted n) left → Holds f p o (take (n .written) left) → Ek500SounderAt f p x
+    → (x ≡ ek500Sounder.Read r (rowText 200 f p)) × (charactersAt f (rowText 200 f p) ≡ t)
+ek500-sounder-again r t g b {o = o} {f = f} {p = p} w h a =
+    let v = again-row 200 (ek500SounderIntegers r) t (lit< tt) g b o w h in
+    let fields = ap ek500SounderOf (v .integers) ∙ ek500-sounder-inverse r in
+    let read = ap₂ (λ (y : Answer) (z : Ek500Sounder). ek500Sounders.answered y z (rowText 200 f p)) (v .answer) fields in
+    (a .outcome ∙ read, v .characters)
+
 pub channel-again : (r : Channel) (t : List ℕ) → ChannelTyped r → Bytes t
     → {o : Bool} {out left f : List ℕ} {p : ℕ} {n : Counts} {x : ChannelRead}
     → ChannelWritten o r t out (Accepted n) left → Holds f p o (take (n .written) left) → ChannelAt f p x
@@ -107,6 +129,16 @@ channel-again r t g b {o = o} {f = f} {p = p} w h a =
     let v = again-row 1000 (channelIntegers r) t (lit< tt) g b o w h in
     let fields = ap channelOf (v .integers) ∙ channel-inverse r in
     let read = ap₂ (λ (y : Answer) (z : Channel). channels.answered y z (rowText 1000 f p)) (v .answer) fields in
+    (a .outcome ∙ read, v .characters)
+
+pub ek500-channel-again : (r : Ek500Channel) (t : List ℕ) → Ek500ChannelTyped r → Bytes t
+    → {o : Bool} {out left f : List ℕ} {p : ℕ} {n : Counts} {x : Ek500ChannelRead}
+    → Ek500ChannelWritten o r t out (Accepted n) left → Holds f p o (take (n .written) left) → Ek500ChannelAt f p x
+    → (x ≡ ek500Channel.Read r (rowText 2000 f p)) × (charactersAt f (rowText 2000 f p) ≡ t)
+ek500-channel-again r t g b {o = o} {f = f} {p = p} w h a =
+    let v = again-row 2000 (ek500ChannelIntegers r) t (lit< tt) g b o w h in
+    let fields = ap ek500ChannelOf (v .integers) ∙ ek500-channel-inverse r in
+    let read = ap₂ (λ (y : Answer) (z : Ek500Channel). ek500Channels.answered y z (rowText 2000 f p)) (v .answer) fields in
     (a .outcome ∙ read, v .characters)
 
 pub threshold-again : (r : Threshold) → ThresholdTyped r → {o : Bool} {out left f : List ℕ} {p : ℕ} {n : Counts} {x : ThresholdRead}

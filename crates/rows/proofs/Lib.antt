@@ -2,3 +2,4 @@ pub mod Shapes
 pub mod Reading
 pub mod Writing
 pub mod Views
+pub mod Parts

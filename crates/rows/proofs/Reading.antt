@@ -47,6 +47,19 @@ numbers-append o (f ∷ fs) gs bs =
     ∙ sym (append-assoc (fieldNumbers o f bs) (numbersIn (valuesOf o fs rest)) (numbersIn (valuesOf o gs (drop (widthOf f + size fs) bs))))
     ∙ ap (λ (l : List ℕ). l ++ numbersIn (valuesOf o gs (drop (widthOf f + size fs) bs))) (sym (numbers-cons o f fs bs))
 
+-- the numbers of two parts, stored one behind the other
+pub numbers-parted : (o : Bool) (fs gs : List Field) (src lent : List ℕ) (at : ℕ)
+    → sets (sets lent 0 (numbersIn (valuesOf o fs (drop at src)))) (many fs) (numbersIn (valuesOf o gs (drop (at + size fs) src)))
+    ≡ sets lent 0 (numbersIn (valuesOf o (fs ++ gs) (drop at src)))
+numbers-parted o fs gs src lent at =
+    let xs = numbersIn (valuesOf o fs (drop at src)) in
+    let ys = numbersIn (valuesOf o gs (drop (at + size fs) src)) in
+    let l : many fs ≡ 0 + length (numbersIn (valuesOf o fs (drop at src))) = omega (arith, length-numbers o fs (drop at src)) in
+    ap (λ (i : ℕ). sets (sets lent 0 xs) i ys) l
+    ∙ sym (sets-append xs ys lent 0)
+    ∙ ap (sets lent 0)
+    (sym (numbers-append o fs gs (drop at src) ∙ ap (λ (bs : List ℕ). xs ++ numbersIn (valuesOf o gs bs)) (drop-drop (size fs) at src)))
+
 -- the fields' numbers, then the attribute, which stands before the backlink
 numbers-row : (o : Bool) (f : List ℕ) (p n : ℕ) (q : Shape) → IsRow q → fitting (lengthFrom q) n ≡ true
     → numbersIn (valuesOf o (rowBy q (n - 10)) (drop (p + 6) f))

@@ -27,8 +27,82 @@ pub enum RowRead {
     Refused { code: u8, place: usize },
 }
 
+// Where a channel's row is parted, and an EK-500 sounder's: so many fields, of so many bytes and with so many numbers, stand before that
+// place. Both makers' channels have as many fields and bytes there.
+const CHANNEL_FIELDS: usize = 14;
+
+const CHANNEL_BYTES: usize = 36;
+
+const CHANNEL_NUMBERS: usize = 13;
+
+const EK500_CHANNEL_NUMBERS: usize = 14;
+
+const EK500_FIELDS: usize = 8;
+
+const EK500_BYTES: usize = 18;
+
+const EK500_NUMBERS: usize = 8;
+
+// Reads the numbers of a row of more than fifteen fields, one part behind the other: the compiler makes plain loads of a loop over fifteen
+// at most. Of a channel,
+fn read_channel(file: &[u8], at: usize, msb: bool, numbers: &mut [u32])
+    requires { ⌜ at + size (listedFields 3) ≤ length (now file) ⌝ }
+    requires { ⌜ many (listedFields 3) ≤ length (now numbers) ⌝ }
+    ensures { λ _. ⌜ now (numbers .exit)
+        ≡ sets (now (numbers .entry)) 0 (numbersIn (valuesOf msb (listedFields 3) (drop at (now (file .entry))))) ⌝ }
+{
+    let row = layout::row(3);
+    turning::read_row(file, at, msb, &row[0..CHANNEL_FIELDS], numbers, 0);
+    turning::read_row(
+        file,
+        at + CHANNEL_BYTES,
+        msb,
+        &row[CHANNEL_FIELDS..FIELDS[3]],
+        numbers,
+        CHANNEL_NUMBERS,
+    );
+}
+
+// of an EK-500's channel,
+fn read_ek500_channel(file: &[u8], at: usize, msb: bool, numbers: &mut [u32])
+    requires { ⌜ at + size (listedFields 4) ≤ length (now file) ⌝ }
+    requires { ⌜ many (listedFields 4) ≤ length (now numbers) ⌝ }
+    ensures { λ _. ⌜ now (numbers .exit)
+        ≡ sets (now (numbers .entry)) 0 (numbersIn (valuesOf msb (listedFields 4) (drop at (now (file .entry))))) ⌝ }
+{
+    let row = layout::row(4);
+    turning::read_row(file, at, msb, &row[0..CHANNEL_FIELDS], numbers, 0);
+    turning::read_row(
+        file,
+        at + CHANNEL_BYTES,
+        msb,
+        &row[CHANNEL_FIELDS..FIELDS[4]],
+        numbers,
+        EK500_CHANNEL_NUMBERS,
+    );
+}
+
+// and of an EK-500.
+fn read_ek500_sounder(file: &[u8], at: usize, msb: bool, numbers: &mut [u32])
+    requires { ⌜ at + size (listedFields 2) ≤ length (now file) ⌝ }
+    requires { ⌜ many (listedFields 2) ≤ length (now numbers) ⌝ }
+    ensures { λ _. ⌜ now (numbers .exit)
+        ≡ sets (now (numbers .entry)) 0 (numbersIn (valuesOf msb (listedFields 2) (drop at (now (file .entry))))) ⌝ }
+{
+    let row = layout::row(2);
+    turning::read_row(file, at, msb, &row[0..EK500_FIELDS], numbers, 0);
+    turning::read_row(
+        file,
+        at + EK500_BYTES,
+        msb,
+        &row[EK500_FIELDS..FIELDS[2]],
+        numbers,
+        EK500_NUMBERS,
+    );
+}
+
 // Reads the numbers of a row, by its listing. Each arm names its row by a constant, and how many fields it has before its dots: so that
-// the compiler makes plain loads of the loop over it.
+// the compiler, which takes `turning::read_row` into each arm for it is short, makes plain loads of the loop over it.
 fn read_listed(file: &[u8], at: usize, msb: bool, listing: usize, numbers: &mut [u32])
     requires { ⌜ listing < listed ⌝ }
     requires { ⌜ at + size (listedFields listing) ≤ length (now file) ⌝ }
@@ -37,19 +111,21 @@ fn read_listed(file: &[u8], at: usize, msb: bool, listing: usize, numbers: &mut 
         ≡ sets (now (numbers .entry)) 0 (numbersIn (valuesOf msb (listedFields listing) (drop at (now (file .entry))))) ⌝ }
 {
     match listing {
-        0 => turning::read_row(file, at, msb, &layout::row(0)[0..FIELDS[0]], numbers),
-        1 => turning::read_row(file, at, msb, &layout::row(1)[0..FIELDS[1]], numbers),
-        2 => turning::read_row(file, at, msb, &layout::row(2)[0..FIELDS[2]], numbers),
-        3 => turning::read_row(file, at, msb, &layout::row(3)[0..FIELDS[3]], numbers),
-        4 => turning::read_row(file, at, msb, &layout::row(4)[0..FIELDS[4]], numbers),
-        5 => turning::read_row(file, at, msb, &layout::row(5)[0..FIELDS[5]], numbers),
-        6 => turning::read_row(file, at, msb, &layout::row(6)[0..FIELDS[6]], numbers),
-        7 => turning::read_row(file, at, msb, &layout::row(7)[0..FIELDS[7]], numbers),
-        8 => turning::read_row(file, at, msb, &layout::row(8)[0..FIELDS[8]], numbers),
-        9 => turning::read_row(file, at, msb, &layout::row(9)[0..FIELDS[9]], numbers),
-        10 => turning::read_row(file, at, msb, &layout::row(10)[0..FIELDS[10]], numbers),
-        11 => turning::read_row(file, at, msb, &layout::row(11)[0..FIELDS[11]], numbers),
-        _ => turning::read_row(file, at, msb, &layout::row(12)[0..FIELDS[12]], numbers),
+        0 => turning::read_row(file, at, msb, &layout::row(0)[0..FIELDS[0]], numbers, 0),
+        1 => turning::read_row(file, at, msb, &layout::row(1)[0..FIELDS[1]], numbers, 0),
+        2 => read_ek500_sounder(file, at, msb, numbers),
+        3 => read_channel(file, at, msb, numbers),
+        4 => read_ek500_channel(file, at, msb, numbers),
+        5 => turning::read_row(file, at, msb, &layout::row(5)[0..FIELDS[5]], numbers, 0),
+        6 => turning::read_row(file, at, msb, &layout::row(6)[0..FIELDS[6]], numbers, 0),
+        7 => turning::read_row(file, at, msb, &layout::row(7)[0..FIELDS[7]], numbers, 0),
+        8 => turning::read_row(file, at, msb, &layout::row(8)[0..FIELDS[8]], numbers, 0),
+        9 => turning::read_row(file, at, msb, &layout::row(9)[0..FIELDS[9]], numbers, 0),
+        10 => turning::read_row(file, at, msb, &layout::row(10)[0..FIELDS[10]], numbers, 0),
+        11 => turning::read_row(file, at, msb, &layout::row(11)[0..FIELDS[11]], numbers, 0),
+        12 => turning::read_row(file, at, msb, &layout::row(12)[0..FIELDS[12]], numbers, 0),
+        13 => turning::read_row(file, at, msb, &layout::row(13)[0..FIELDS[13]], numbers, 0),
+        _ => turning::read_row(file, at, msb, &layout::row(14)[0..FIELDS[14]], numbers, 0),
     }
 }
 

@@ -1,6 +1,6 @@
 -- Made from views/records.txt by views/make.
--- Sounder, type 100: TR Table 2. An echosounder. Its remarks, 30 characters, stand beside it; to write others is refused by 9 at
--- 0. Assumes nothing.
+-- Sounder, type 100: TR Table 2. An echosounder, of Biosonics. Its remarks, 30 characters, stand beside it; to write others is
+-- refused by 9 at 0. Assumes nothing.
 use mathlib.Core.Path.{_≡_, refl, sym, _∙_}
 use mathlib.Core.Bool.{Bool}
 use mathlib.Core.List.{List, [], _∷_}

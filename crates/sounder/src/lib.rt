@@ -1,6 +1,6 @@
 // Made from views/records.txt by views/make.
-// Sounder, type 100: TR Table 2. An echosounder. Its remarks, 30 characters, stand beside it; to write others is refused by 9 at
-// 0.
+// Sounder, type 100: TR Table 2. An echosounder, of Biosonics. Its remarks, 30 characters, stand beside it; to write others is
+// refused by 9 at 0.
 use layout::Answer;
 use layout::DocumentId;
 use layout::types;

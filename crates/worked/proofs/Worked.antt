@@ -14,7 +14,7 @@ use Rattle.frame.specs.Tuples.{tuplesFrom, tuplesOf}
 use Rattle.samples.specs.Words.{words, allWords, unwords, pairUp, unpair}
 use Rattle.samples.specs.Runs.{isRun, runLength, decodeFrom, isBad, values, firstBad}
 use Rattle.samples.specs.Judging.{firstDrop}
-use Rattle.links.specs.Links.{has, comparedIn, naming, firstWrong}
+use Rattle.links.specs.Links.{has, declaredOwn, comparedIn, naming, firstWrong}
 use Rattle.content.specs.Pings.{wordsIn, attributeIn, countIn, contentU, contentC, dataU, dataC}
 use Rattle.content.specs.Items.{itemOf, digestOf}
 use Rattle.content.specs.Forms.{formOf}
@@ -35,7 +35,7 @@ unfolding table allHold holds readAnswer sampleAnswer normalFile normalTuple lin
     singleForm singleAnswer firstUnlisted items contentOf normalTuples formed normalOf ending turn checkFrom checkFile formOf itemOf
     digestOf wordsIn attributeIn countIn contentU contentC dataU dataC has naming firstWrong words allWords unwords pairUp unpair isRun
     runLength decodeFrom isBad values firstBad firstDrop allowed frame sizeAt kindAt backAt framing mark isMsb marked stepForward tuplesFrom
-    tuplesOf classes inClass listings among listingOf
+    tuplesOf classes inClass listings among listingOf declaredOwn
 worked = refl
 
 -- ---- the small whole file
@@ -48,7 +48,7 @@ unfolding lsb lsbOtherCut msb msbOtherCut normalFile normalTuple linesOf allDigi
     singleAnswer firstUnlisted items contentOf normalTuples formed normalOf ending turn checkFrom checkFile formOf itemOf digestOf wordsIn
     attributeIn countIn contentU contentC dataU dataC has comparedIn naming firstWrong words allWords unwords pairUp unpair isRun runLength
     decodeFrom isBad values firstBad firstDrop allowed frame sizeAt kindAt backAt framing mark isMsb marked stepForward tuplesFrom tuplesOf
-    classes inClass listings among listingOf
+    classes inClass listings among listingOf declaredOwn
 accepted = refl
 
 -- and printed as the one normal form, which is printed as itself
@@ -58,5 +58,5 @@ unfolding normal lsb lsbOtherCut msb msbOtherCut normalFile normalTuple linesOf 
     singleForm singleAnswer firstUnlisted items contentOf normalTuples formed normalOf ending turn checkFrom checkFile formOf itemOf
     digestOf wordsIn attributeIn countIn contentU contentC dataU dataC has naming firstWrong words allWords unwords pairUp unpair isRun
     runLength decodeFrom isBad values firstBad firstDrop allowed frame sizeAt kindAt backAt framing mark isMsb marked stepForward tuplesFrom
-    tuplesOf classes inClass listings among listingOf
+    tuplesOf classes inClass listings among listingOf declaredOwn
 one-form = refl

@@ -1,6 +1,7 @@
-//! Writes the sample cruise into a folder: `cruise DIR`. It is one made-up survey
-//! in four spellings, with its one normal form; each as lines and as bytes. The
-//! same bytes come at every run.
+//! Writes the samples into a folder: `cruise DIR`. They are two made-up surveys, a
+//! cruise in four spellings and the next day's split-beam survey in two, each with
+//! its one normal form; each file as lines and as bytes. The same bytes come at
+//! every run.
 
 use second::gen::{frames, render, Body, Draft, Piece, PingStyle, Rng, Style};
 use second::layout::*;
@@ -14,9 +15,13 @@ use Piece::{Chars, Four, Identifier, Space, Two};
 /// The cruise's first second, ANSI C time: 14 July 1998, 9 o'clock.
 const START: u32 = 900_406_800;
 
-/// Document identifiers of the two sounders.
+/// The split-beam survey is so much later.
+const NEXT_DAY: u32 = 86_400;
+
+/// Document identifiers of the cruise's two sounders, and of the EK-500.
 const HULL: u32 = 1201;
 const TOWED: u32 = 1202;
+const SPLIT_BEAM: u32 = 500;
 
 /// What a ping's bottom range holds where no bottom was found.
 const NO_BOTTOM: u32 = 0x7FFF_FFFF;
@@ -26,9 +31,10 @@ const ALL_CHANNELS: u16 = 65535;
 /// A type of the index class.
 const INDEX: u16 = 65406;
 
-/// The first spelling's stream of chance; from here on, several pings are U-32 in
-/// one spelling and C-32 in another.
+/// The stream of chance of each survey's first spelling; from here on, several
+/// pings are U-32 in one spelling and C-32 in another.
 const STREAM: u64 = 10;
+const SPLIT_BEAM_STREAM: u64 = 20;
 
 /// A signed field's bits.
 fn signed(number: i16) -> Piece {
@@ -80,10 +86,10 @@ fn navigation(seconds: u32, heading: i16) -> Draft {
 }
 
 /// Pitch and roll in tenths of a degree.
-fn attitude(channel: u16, platform: u16, pitch: i16, roll: i16) -> Draft {
+fn attitude(seconds: u32, channel: u16, platform: u16, pitch: i16, roll: i16) -> Draft {
     let mut rest = vec![Two(channel), Two(platform), signed(-250), signed(40)];
     rest.extend([signed(pitch), signed(roll), signed(-12), Space]);
-    timed(ATTITUDE, 7500, 2, rest)
+    timed(ATTITUDE, 7500, seconds, rest)
 }
 
 fn sounder(channels: u16, id: u32, text: &str) -> Draft {
@@ -107,10 +113,32 @@ fn channel(id: u16, parent: u32, kind: u16, transceiver: u16, hertz: u32) -> Dra
     draft(CHANNEL, Body::Fields(pieces))
 }
 
-fn threshold(channel: u16, constant: u32) -> Draft {
+/// An EK-500, whose super layer starts at so many tenths of a metre.
+fn ek500_sounder(channels: u16, id: u32, start: i32, text: &str) -> Draft {
+    let mut pieces = vec![Two(channels), Four(id), Two(14_905)];
+    pieces.extend([1, 100, 0, 10, 250, 2, 7, 120].map(Two));
+    pieces.extend([Four(start as u32), Two(5), signed(-80)]);
+    pieces.extend([Four(520), remark(text)]);
+    draft(EK500_SOUNDER, Body::Fields(pieces))
+}
+
+/// A channel of an EK-500: its identifier, its sounder, what its values are (0 phase
+/// angles, 1 power, 2 Sv, 3 TS), its transceiver number and its frequency.
+fn ek500_channel(id: u16, parent: u32, kind: u16, transceiver: u16, hertz: u32) -> Draft {
+    let mut pieces = vec![Two(id), Four(parent), Four(33_333)];
+    pieces.extend([Two(kind), Two(transceiver), Four(hertz), Four(520)]);
+    pieces.extend([signed(-900), signed(-900), signed(2), signed(-3)]);
+    pieces.extend([980, 1, 1, 2000, 219, 220, 71, 70].map(Two));
+    pieces.extend([signed(-2060), Two(2710), signed(-5000), Space]);
+    let text = format!("channel {id}, {} kHz", hertz / 1000);
+    pieces.extend([Four(1000), Four(90_000), remark(&text), Space]);
+    draft(EK500_CHANNEL, Body::Fields(pieces))
+}
+
+fn threshold(seconds: u32, channel: u16, constant: u32) -> Draft {
     let mut rest = vec![Two(channel), Two(5000), Two(25), Two(0), Two(0), Two(0)];
     rest.extend([Four(1), Four(constant), Four(0)]);
-    timed(THRESHOLD, 0, 3, rest)
+    timed(THRESHOLD, 0, seconds, rest)
 }
 
 /// An event marker; its text is filled up to a multiple of four.
@@ -179,7 +207,6 @@ fn pings(rng: &mut Rng) -> [Draft; 6] {
     ]
 }
 
-/// The cruise without index tuples, which are no content.
 fn cruise() -> Vec<Draft> {
     let [shoal, volts, deep, silent, bottom, last] = pings(&mut Rng::new(START.into()));
     vec![
@@ -192,10 +219,10 @@ fn cruise() -> Vec<Draft> {
         channel(2, HULL, 0, 2, 38_000),
         sounder(1, TOWED, "towed body, serial 0033"),
         channel(3, TOWED, 1, 1, 120_000),
-        attitude(ALL_CHANNELS, 0, 14, -22),
-        attitude(3, 1, -8, 3),
-        threshold(1, 75_000_000),
-        threshold(2, 20_000),
+        attitude(2, ALL_CHANNELS, 0, 14, -22),
+        attitude(2, 3, 1, -8, 3),
+        threshold(3, 1, 75_000_000),
+        threshold(3, 2, 20_000),
         marker(3, "transect 4 begins"),
         shoal,
         volts,
@@ -211,7 +238,88 @@ fn cruise() -> Vec<Draft> {
     ]
 }
 
-/// One way to write the cruise down.
+/// Seven pings: of the EK-500's Sv, power and TS, and of the towed sounder's Sv.
+/// Those of either have one that only U-32 can hold.
+fn split_beam_pings(rng: &mut Rng) -> [Draft; 7] {
+    let shoal = [
+        layer(rng, 0, 2, -9_000_000),
+        layer(rng, 615, 8, -52_000_000),
+    ]
+    .concat();
+    let power = layer(rng, 617, 5, -88_000_000);
+    let targets = [
+        layer(rng, 622, 1, -41_000_000),
+        layer(rng, 90_000, 2, -39_000_000),
+    ]
+    .concat();
+    let towed = [
+        layer(rng, 3, 1, -70_000_000),
+        layer(rng, 430, 4, -48_000_000),
+    ]
+    .concat();
+    // The last value has no word in C-32.
+    let bottom = [layer(rng, 611, 4, -55_000_000), vec![(1388, -28_400)]].concat();
+    let towed_bottom = [layer(rng, 433, 3, -51_000_000), vec![(981, -65_536)]].concat();
+    let at = |seconds| NEXT_DAY + seconds;
+    [
+        ping(at(4), 11, 1, 30_860, shoal),
+        ping(at(4), 13, 1, 30_860, power),
+        ping(at(4), 14, 1, 30_860, targets),
+        ping(at(5), 15, 1, 35_970, towed),
+        ping(at(6), 11, 2, 30_910, bottom),
+        ping(at(6), 14, 2, NO_BOTTOM, Vec::new()),
+        ping(at(7), 15, 2, 36_020, towed_bottom),
+    ]
+}
+
+/// The split-beam survey: an EK-500 with channels of every type of data sample, and
+/// another maker's sounder with one. No 32-bit ping holds the phase angles of
+/// channel 12.
+fn split_beam() -> Vec<Draft> {
+    let [shoal, power, targets, towed, bottom, silent, towed_bottom] =
+        split_beam_pings(&mut Rng::new(SPLIT_BEAM.into()));
+    let at = |seconds| NEXT_DAY + seconds;
+    vec![
+        signature(),
+        timed(START_OF_RUN, 0, at(0), Vec::new()),
+        position(at(1), 48_702_110, -64_201_300),
+        navigation(at(1), 1210),
+        ek500_sounder(4, SPLIT_BEAM, -85, "EK-500, serial 0417"),
+        ek500_channel(11, SPLIT_BEAM, 2, 1, 38_000),
+        ek500_channel(12, SPLIT_BEAM, 0, 1, 38_000),
+        sounder(1, TOWED, "towed body, serial 0033"),
+        ek500_channel(13, SPLIT_BEAM, 1, 2, 120_000),
+        channel(15, TOWED, 1, 1, 420_000),
+        ek500_channel(14, SPLIT_BEAM, 3, 3, 200_000),
+        attitude(at(2), ALL_CHANNELS, 0, -3, 17),
+        attitude(at(2), 15, 1, 9, -1),
+        threshold(at(3), 11, 80_000_000),
+        threshold(at(3), 15, 75_000_000),
+        marker(at(3), "split beam, transect 1 begins"),
+        shoal,
+        power,
+        targets,
+        towed,
+        position(at(6), 48_702_060, -64_200_880),
+        bottom,
+        silent,
+        towed_bottom,
+        marker(at(9), "split beam, transect 1 ends"),
+        timed(END_OF_RUN, 0, at(10), Vec::new()),
+        end_of_file(at(11)),
+    ]
+}
+
+/// A survey and the ways to write it down.
+struct Survey {
+    name: &'static str,
+    /// Without index tuples, which are no content.
+    drafts: Vec<Draft>,
+    stream: u64,
+    spellings: Vec<Spelling>,
+}
+
+/// One way to write a survey down.
 struct Spelling {
     name: &'static str,
     style: Style,
@@ -219,10 +327,16 @@ struct Spelling {
     index: Option<usize>,
 }
 
-/// Both byte orders, each with its silence in the fewest runs and cut in more,
-/// which then also go on behind a ping's last value.
-fn spellings() -> [Spelling; 4] {
-    let spelling = |name, order, pings, cut, index| Spelling {
+/// Silence in the fewest runs, or cut in more, which then also go on behind a ping's
+/// last value; the spaces of "lsb" alone are 0.
+fn spelling(
+    name: &'static str,
+    order: Order,
+    pings: PingStyle,
+    cut: bool,
+    index: Option<usize>,
+) -> Spelling {
+    Spelling {
         name,
         style: Style {
             rubbish: name != "lsb",
@@ -232,18 +346,39 @@ fn spellings() -> [Spelling; 4] {
             ..Style::plain(order)
         },
         index,
-    };
+    }
+}
+
+/// The cruise in both byte orders, each with its silence in the fewest runs and cut in
+/// more; the split-beam survey in both, once so and once so.
+fn surveys() -> [Survey; 2] {
     use PingStyle::{Mixed, C32};
     [
-        spelling("lsb", Order::Lsb, C32, false, Some(24)),
-        spelling("lsb-cut", Order::Lsb, Mixed, true, Some(9)),
-        spelling("msb", Order::Msb, Mixed, false, Some(24)),
-        spelling("msb-cut", Order::Msb, C32, true, None),
+        Survey {
+            name: "cruise",
+            drafts: cruise(),
+            stream: STREAM,
+            spellings: vec![
+                spelling("lsb", Order::Lsb, C32, false, Some(24)),
+                spelling("lsb-cut", Order::Lsb, Mixed, true, Some(9)),
+                spelling("msb", Order::Msb, Mixed, false, Some(24)),
+                spelling("msb-cut", Order::Msb, C32, true, None),
+            ],
+        },
+        Survey {
+            name: "splitbeam",
+            drafts: split_beam(),
+            stream: SPLIT_BEAM_STREAM,
+            spellings: vec![
+                spelling("lsb", Order::Lsb, C32, false, Some(26)),
+                spelling("msb", Order::Msb, Mixed, true, None),
+            ],
+        },
     ]
 }
 
-fn spell(spelling: &Spelling, stream: u64) -> Vec<u8> {
-    let mut drafts = cruise();
+fn spell(survey: &Survey, spelling: &Spelling, stream: u64) -> Vec<u8> {
+    let mut drafts = survey.drafts.clone();
     if let Some(at) = spelling.index {
         drafts.insert(at, index());
     }
@@ -275,28 +410,32 @@ fn ping_types(file: &[u8]) -> Vec<u16> {
     types
 }
 
-fn write_both(dir: &Path, name: &str, file: &[u8]) -> io::Result<()> {
+fn write_both(dir: &Path, survey: &Survey, name: &str, file: &[u8]) -> io::Result<()> {
     let lines = frames(file).join("\n") + "\n";
-    fs::write(dir.join(format!("cruise-{name}.hex")), lines)?;
-    fs::write(dir.join(format!("cruise-{name}.hac")), file)
+    fs::write(dir.join(format!("{}-{name}.hex", survey.name)), lines)?;
+    fs::write(dir.join(format!("{}-{name}.hac", survey.name)), file)
 }
 
-/// Writes all files; fails where the spellings don't show what they are for.
-fn write_cruise(dir: &Path) -> io::Result<()> {
-    fs::create_dir_all(dir)?;
-    let plain = render(&cruise(), &Style::plain(Order::Lsb), &mut Rng::new(STREAM));
-    let normal = normal_form(&plain.bytes)?;
-    write_both(dir, "normal", &normal)?;
+/// Writes a survey's files. Its plain spelling is its normal form, by the encoder of the
+/// drafts; fails where the normaliser makes another, of it or of any spelling, and
+/// where the spellings don't show what they are for.
+fn write_survey(dir: &Path, survey: &Survey) -> io::Result<()> {
+    let plain = Style::plain(Order::Lsb);
+    let normal = render(&survey.drafts, &plain, &mut Rng::new(survey.stream)).bytes;
+    if normal_form(&normal)? != normal {
+        return Err(io::Error::other(survey.name));
+    }
+    write_both(dir, survey, "normal", &normal)?;
     let mut types = Vec::new();
-    for (spelling, stream) in spellings().iter().zip(STREAM..) {
-        let file = spell(spelling, stream);
+    for (spelling, stream) in survey.spellings.iter().zip(survey.stream..) {
+        let file = spell(survey, spelling, stream);
         if normal_form(&file)? != normal {
             return Err(io::Error::other(spelling.name));
         }
         types.push(ping_types(&file));
-        write_both(dir, spelling.name, &file)?;
+        write_both(dir, survey, spelling.name, &file)?;
     }
-    if types[0] == types[1] || types[2] == types[3] {
+    if types.chunks(2).any(|pair| pair[0] == pair[1]) {
         return Err(io::Error::other("no ping changes its type"));
     }
     Ok(())
@@ -308,5 +447,9 @@ fn main() -> io::Result<()> {
         eprintln!("usage: cruise DIR");
         process::exit(2)
     };
-    write_cruise(Path::new(dir))
+    let dir = Path::new(dir);
+    fs::create_dir_all(dir)?;
+    surveys()
+        .iter()
+        .try_for_each(|survey| write_survey(dir, survey))
 }

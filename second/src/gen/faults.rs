@@ -5,6 +5,7 @@ use super::sound::*;
 use super::vessels::{MOST_CHANNELS, MOST_SOUNDERS};
 use super::{Case, Rng};
 use crate::layout::{class, Class, LAYOUTS};
+use crate::links::Maker;
 use crate::order::Order;
 
 /// Which sample of a ping is the first that offends: the earliest that can, one
@@ -30,6 +31,8 @@ pub enum Kind {
     Identifier,
     UnfitSignature,
     Unfit,
+    /// A sounder or channel of the EK-500 of another length.
+    UnfitEk500,
     /// Numbers of a U-32 ping that don't rise.
     Pairs(Spot),
     /// Words of a C-32 ping outside the limits.
@@ -40,9 +43,15 @@ pub enum Kind {
     TooMany,
     TwiceSounder,
     TwiceChannel,
+    /// A sounder with the identifier of one of the other maker.
+    SounderOfBoth,
+    /// A channel with the identifier of one of the other maker.
+    ChannelOfBoth,
     OrphanPing,
     OrphanOther,
     OrphanChannel,
+    /// A channel that names a sounder of the other maker.
+    OtherMaker,
     ManySounders,
     ManyChannels,
     Behind,
@@ -69,7 +78,7 @@ pub const LONG_KIND: Kind = Kind::ManyChannels;
 const LONG_SELDOM: u64 = 400;
 
 /// All kinds but the long one.
-pub const FAULT_KINDS: [Kind; 29] = [
+pub const FAULT_KINDS: [Kind; 33] = [
     Kind::Mark,
     Kind::Truncated,
     Kind::NoEnd,
@@ -81,6 +90,7 @@ pub const FAULT_KINDS: [Kind; 29] = [
     Kind::Identifier,
     Kind::UnfitSignature,
     Kind::Unfit,
+    Kind::UnfitEk500,
     Kind::Pairs(Spot::First),
     Kind::Pairs(Spot::Middle),
     Kind::Pairs(Spot::Last),
@@ -92,9 +102,12 @@ pub const FAULT_KINDS: [Kind; 29] = [
     Kind::TooMany,
     Kind::TwiceSounder,
     Kind::TwiceChannel,
+    Kind::SounderOfBoth,
+    Kind::ChannelOfBoth,
     Kind::OrphanPing,
     Kind::OrphanOther,
     Kind::OrphanChannel,
+    Kind::OtherMaker,
     Kind::ManySounders,
     Kind::Behind,
     Kind::NoClass,
@@ -103,12 +116,13 @@ pub const FAULT_KINDS: [Kind; 29] = [
 
 /// Of these, the kinds that one tuple carries, wherever it stands behind the
 /// signature. The long one is such a kind, too.
-const LOCAL: [Kind; 20] = [
+const LOCAL: [Kind; 24] = [
     Kind::PassesEnd,
     Kind::Size,
     Kind::Backlink,
     Kind::SecondSignature,
     Kind::Unfit,
+    Kind::UnfitEk500,
     Kind::Pairs(Spot::First),
     Kind::Pairs(Spot::Middle),
     Kind::Pairs(Spot::Last),
@@ -120,9 +134,12 @@ const LOCAL: [Kind; 20] = [
     Kind::TooMany,
     Kind::TwiceSounder,
     Kind::TwiceChannel,
+    Kind::SounderOfBoth,
+    Kind::ChannelOfBoth,
     Kind::OrphanPing,
     Kind::OrphanOther,
     Kind::OrphanChannel,
+    Kind::OtherMaker,
     Kind::ManySounders,
 ];
 
@@ -154,39 +171,46 @@ fn number(piece: &Piece) -> u32 {
     }
 }
 
+/// The identifier of a sounder, and whose it is.
+type Document = (u32, Maker);
+
+/// The same of a channel.
+type Software = (u16, Maker);
+
 /// Documents and channels declared by some drafts.
-fn declared(drafts: &[Draft]) -> (Vec<u32>, Vec<u16>) {
+fn declared(drafts: &[Draft]) -> (Vec<Document>, Vec<Software>) {
     let (mut documents, mut channels) = (Vec::new(), Vec::new());
     for draft in drafts {
         if let Body::Fields(pieces) = &draft.body {
-            match draft.code {
-                100 => documents.push(number(&pieces[1])),
-                1000 => channels.push(number(&pieces[0]) as u16),
-                _ => {}
+            if let Some(maker) = sounder_maker(draft.code) {
+                documents.push((number(&pieces[1]), maker));
+            }
+            if let Some(maker) = channel_maker(draft.code) {
+                channels.push((number(&pieces[0]) as u16, maker));
             }
         }
     }
     (documents, channels)
 }
 
-fn unused_document(rng: &mut Rng, used: &[u32]) -> u32 {
+fn unused_document(rng: &mut Rng, used: &[Document]) -> u32 {
     loop {
         let id = rng.four();
-        if !used.contains(&id) {
+        if !used.iter().any(|(used, _)| *used == id) {
             return id;
         }
     }
 }
 
 /// An undeclared channel; often one that is a transceiver number.
-fn unused_channel(rng: &mut Rng, used: &[u16]) -> u16 {
+fn unused_channel(rng: &mut Rng, used: &[Software]) -> u16 {
     loop {
         let id = if rng.chance(50) {
             rng.pick(&SMALL_IDS)
         } else {
             rng.two()
         };
-        if !used.contains(&id) {
+        if !used.iter().any(|(used, _)| *used == id) {
             return id;
         }
     }
@@ -211,6 +235,17 @@ fn unfit(rng: &mut Rng) -> Draft {
             return Draft::new(rng, layout.code, Body::Raw(data));
         }
     }
+}
+
+/// The EK-500's sounder or channel in a length beside its own, or in that of another
+/// sounder or channel.
+fn unfit_ek500(rng: &mut Rng) -> Draft {
+    let (code, length) = match rng.below(2) {
+        0 => (200, rng.pick(&[72, 76, 84, 88, 108])),
+        _ => (2000, rng.pick(&[72, 80, 100, 104, 112])),
+    };
+    let data = rng.bytes(length - 10);
+    Draft::new(rng, code, Body::Raw(data))
 }
 
 /// An identifier that is neither 44201 nor 44204: one beside them, one at an end,
@@ -421,35 +456,45 @@ fn too_many(rng: &mut Rng, channel: u16) -> Draft {
 }
 
 /// Sounders behind those declared, one more than there may be.
-fn many_sounders(documents: &[u32], rng: &mut Rng) -> Vec<Draft> {
+fn many_sounders(documents: &[Document], rng: &mut Rng) -> Vec<Draft> {
     let mut used = documents.to_vec();
     let mut more = Vec::new();
     while used.len() <= MOST_SOUNDERS as usize {
-        let id = unused_document(rng, &used);
-        used.push(id);
+        let (id, maker) = (unused_document(rng, &used), any_maker(rng));
+        used.push((id, maker));
         let count = rng.two();
-        more.push(sounder(rng, count, id));
+        more.push(sounder_of(rng, maker, count, id));
     }
     more
 }
 
 /// Channels behind those declared, one more than there may be; half the time
-/// that one names no sounder.
-fn many_channels(documents: &[u32], channels: &[u16], rng: &mut Rng) -> Vec<Draft> {
+/// that one names no sounder, or one of the other maker.
+fn many_channels(documents: &[Document], channels: &[Software], rng: &mut Rng) -> Vec<Draft> {
     let mut used = channels.to_vec();
     let mut more = Vec::new();
     while used.len() <= usize::from(MOST_CHANNELS) {
         let last = used.len() == usize::from(MOST_CHANNELS);
         let id = unused_channel(rng, &used);
-        used.push(id);
-        let parent = if last && rng.chance(50) {
-            unused_document(rng, documents)
-        } else {
-            rng.pick(documents)
-        };
-        more.push(channel(rng, id, parent));
+        let (mut parent, mut maker) = rng.pick(documents);
+        if last {
+            match rng.below(4) {
+                0 => parent = unused_document(rng, documents),
+                1 => maker = other_maker(maker),
+                _ => {}
+            }
+        }
+        used.push((id, maker));
+        more.push(channel_of(rng, maker, id, parent));
     }
     more
+}
+
+/// A sounder's identifier for a channel that is refused whichever it names: one
+/// declared, of either maker, the channel's own number, or another.
+fn any_parent(rng: &mut Rng, documents: &[Document], id: u16) -> u32 {
+    let (known, _) = rng.pick(documents);
+    rng.pick(&[known, u32::from(id), 77])
 }
 
 /// Sets some drafts in, and tells where the last of them stands.
@@ -464,7 +509,8 @@ fn set_in(drafts: &mut Vec<Draft>, at: usize, more: Vec<Draft>) -> usize {
 /// where the tuples before don't allow the kind.
 fn spoil(drafts: &mut Vec<Draft>, at: usize, kind: Kind, rng: &mut Rng) -> Option<(usize, Told)> {
     let (documents, channels) = declared(&drafts[..at]);
-    let channel_known = (!channels.is_empty()).then(|| channels[rng.index(channels.len())]);
+    let software_known = (!channels.is_empty()).then(|| channels[rng.index(channels.len())]);
+    let channel_known = software_known.map(|(id, _)| id);
     let mut insert = |(draft, told): (Draft, Told)| {
         drafts.insert(at, draft);
         Some((at, told))
@@ -493,6 +539,7 @@ fn spoil(drafts: &mut Vec<Draft>, at: usize, kind: Kind, rng: &mut Rng) -> Optio
             insert((second, at_tuple(7)))
         }
         Kind::Unfit => insert((unfit(rng), at_tuple(9))),
+        Kind::UnfitEk500 => insert((unfit_ek500(rng), at_tuple(9))),
         Kind::Pairs(spot) => insert(bad_pairs(rng, channel_known?, spot)),
         Kind::Word(spot) => insert(bad_word(rng, channel_known?, spot, true)),
         Kind::Count => insert(bad_count(rng, channel_known?)),
@@ -501,17 +548,28 @@ fn spoil(drafts: &mut Vec<Draft>, at: usize, kind: Kind, rng: &mut Rng) -> Optio
             insert(bad_word(rng, channel_known?, spot, false))
         }
         Kind::TooMany => insert((too_many(rng, channel_known?), at_tuple(11))),
-        Kind::TwiceSounder if documents.is_empty() => None,
+        Kind::TwiceSounder | Kind::SounderOfBoth if documents.is_empty() => None,
         Kind::TwiceSounder => {
-            let id = rng.pick(&documents);
+            let (id, maker) = rng.pick(&documents);
             let count = rng.two();
-            insert((sounder(rng, count, id), at_tuple(12)))
+            insert((sounder_of(rng, maker, count, id), at_tuple(12)))
+        }
+        Kind::SounderOfBoth => {
+            let (id, maker) = rng.pick(&documents);
+            let count = rng.two();
+            let second = sounder_of(rng, other_maker(maker), count, id);
+            insert((second, at_tuple(12)))
         }
         Kind::TwiceChannel => {
-            let id = channel_known?;
-            let known = rng.pick(&documents);
-            let parent = rng.pick(&[known, u32::from(id), 77]);
-            insert((channel(rng, id, parent), at_tuple(12)))
+            let (id, maker) = software_known?;
+            let parent = any_parent(rng, &documents, id);
+            insert((channel_of(rng, maker, id, parent), at_tuple(12)))
+        }
+        Kind::ChannelOfBoth => {
+            let (id, maker) = software_known?;
+            let parent = any_parent(rng, &documents, id);
+            let second = channel_of(rng, other_maker(maker), id, parent);
+            insert((second, at_tuple(12)))
         }
         Kind::OrphanPing => {
             let id = unused_channel(rng, &channels);
@@ -526,7 +584,7 @@ fn spoil(drafts: &mut Vec<Draft>, at: usize, kind: Kind, rng: &mut Rng) -> Optio
             let mut used = channels.clone();
             let all = rng.chance(50);
             if !all {
-                used.push(65535);
+                used.push((65535, Maker::Biosonics));
             }
             let id = unused_channel(rng, &used);
             // 65535 says "all" in an attitude alone
@@ -537,14 +595,24 @@ fn spoil(drafts: &mut Vec<Draft>, at: usize, kind: Kind, rng: &mut Rng) -> Optio
             };
             insert((orphan, at_tuple(13)))
         }
-        Kind::OrphanChannel if channels.len() >= usize::from(MOST_CHANNELS) => None,
+        Kind::OrphanChannel | Kind::OtherMaker if channels.len() >= usize::from(MOST_CHANNELS) => {
+            None
+        }
         Kind::OrphanChannel => {
             let id = unused_channel(rng, &channels);
             let mut parent = u32::from(id);
-            if documents.contains(&parent) {
+            if documents.iter().any(|(document, _)| *document == parent) {
                 parent = unused_document(rng, &documents);
             }
-            insert((channel(rng, id, parent), at_tuple(13)))
+            let maker = any_maker(rng);
+            insert((channel_of(rng, maker, id, parent), at_tuple(13)))
+        }
+        Kind::OtherMaker if documents.is_empty() => None,
+        Kind::OtherMaker => {
+            let id = unused_channel(rng, &channels);
+            let (parent, maker) = rng.pick(&documents);
+            let other = channel_of(rng, other_maker(maker), id, parent);
+            insert((other, at_tuple(13)))
         }
         Kind::ManySounders => {
             let more = many_sounders(&documents, rng);
@@ -585,16 +653,20 @@ fn drop_class(drafts: &mut Vec<Draft>, absent: Class) {
         let gone = class(draft.code) == Some(absent);
         let orphan = match absent {
             Class::Channel => names_channel(draft),
-            Class::Sounder => draft.code == 1000 || names_channel(draft),
+            Class::Sounder => channel_maker(draft.code).is_some() || names_channel(draft),
             _ => false,
         };
         !gone && !orphan
     });
     if absent == Class::Channel {
-        for draft in drafts.iter_mut().filter(|draft| draft.code == 100) {
+        for draft in drafts.iter_mut().filter(|draft| is_sounder(draft)) {
             draft.pieces()[0] = Piece::Two(0);
         }
     }
+}
+
+fn is_sounder(draft: &Draft) -> bool {
+    sounder_maker(draft.code).is_some()
 }
 
 fn any_class(rng: &mut Rng) -> Class {
@@ -603,12 +675,13 @@ fn any_class(rng: &mut Rng) -> Class {
 
 /// Spoils the stated channel count of some sounders; tells the first.
 fn wrong_counts(drafts: &mut Vec<Draft>, rng: &mut Rng) -> usize {
-    if !drafts.iter().any(|draft| draft.code == 100) {
-        drafts.insert(1, sounder(rng, 1, 5));
+    if !drafts.iter().any(is_sounder) {
+        let maker = any_maker(rng);
+        drafts.insert(1, sounder_of(rng, maker, 1, 5));
         return 1;
     }
     let sounders: Vec<usize> = (0..drafts.len())
-        .filter(|at| drafts[*at].code == 100)
+        .filter(|at| is_sounder(&drafts[*at]))
         .collect();
     let first = rng.index(sounders.len());
     for (nth, at) in sounders.iter().enumerate().skip(first) {

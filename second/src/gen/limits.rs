@@ -248,64 +248,73 @@ fn all_channels_case(nth: usize, style: &Style) -> Case {
     case(format!("65535-{name}"), &drafts, style, MORE, code)
 }
 
-type Maker = Box<dyn Fn(&Style) -> Case>;
+/// A channel of the EK-500 that names the base's sounder, which is Biosonics's.
+fn other_maker_case(style: &Style) -> Case {
+    let mut rng = Rng::new(10);
+    let more = vec![ek500_channel(&mut rng, 2, 1)];
+    let drafts = with(&mut rng, more);
+    case("other-maker".to_string(), &drafts, style, MORE, 13)
+}
 
-fn makers() -> Vec<Maker> {
-    let mut makers: Vec<Maker> = Vec::new();
+type Making = Box<dyn Fn(&Style) -> Case>;
+
+fn makings() -> Vec<Making> {
+    let mut makings: Vec<Making> = Vec::new();
     for nth in 0..LENGTHS.len() {
-        makers.push(Box::new(move |style| length_case(nth, style)));
+        makings.push(Box::new(move |style| length_case(nth, style)));
     }
     for count in MOST_SOUNDERS - 1..=MOST_SOUNDERS + 1 {
-        makers.push(Box::new(move |style| sounders_case(count, style)));
+        makings.push(Box::new(move |style| sounders_case(count, style)));
     }
     for count in MOST_CHANNELS - 1..=MOST_CHANNELS + 1 {
-        makers.push(Box::new(move |style| channels_case(count, style)));
+        makings.push(Box::new(move |style| channels_case(count, style)));
     }
-    for maker in vessels::MAKERS {
-        makers.push(Box::new(maker));
+    for making in vessels::CASES {
+        makings.push(Box::new(making));
     }
     for nth in 0..IDENTIFIERS.len() {
-        makers.push(Box::new(move |style| identifier_case(nth, style)));
+        makings.push(Box::new(move |style| identifier_case(nth, style)));
     }
     for (name, words, offender) in WORDS {
-        makers.push(Box::new(move |style| {
+        makings.push(Box::new(move |style| {
             words_case(name, words, offender, style)
         }));
     }
     for nth in 0..MANY.len() {
-        makers.push(Box::new(move |style| many_case(nth, style)));
+        makings.push(Box::new(move |style| many_case(nth, style)));
     }
     for count in [1, 32_764, 32_765] {
-        makers.push(Box::new(move |style| pairs_case(count, style)));
+        makings.push(Box::new(move |style| pairs_case(count, style)));
     }
     for text in [0, 4, 262_124, 262_128] {
-        makers.push(Box::new(move |style| text_case(text, style)));
+        makings.push(Box::new(move |style| text_case(text, style)));
     }
     for data in [2, 262_122, 262_126] {
-        makers.push(Box::new(move |style| data_case(data, style)));
+        makings.push(Box::new(move |style| data_case(data, style)));
     }
     for nth in 0..4 {
-        makers.push(Box::new(move |style| all_channels_case(nth, style)));
+        makings.push(Box::new(move |style| all_channels_case(nth, style)));
     }
-    makers
+    makings.push(Box::new(other_maker_case));
+    makings
 }
 
 /// How many limit cases there are that are soon made.
 pub fn limit_count() -> usize {
-    makers().len()
+    makings().len()
 }
 
 /// A limit case of at most about half a megabyte, in both orders; every other
 /// one with 44201 in its signature.
 pub fn limit(nth: usize) -> [Case; 2] {
-    let makers = makers();
+    let makings = makings();
     Order::BOTH.map(|order| {
         let style = Style {
             printed: nth % 2 == 1,
             rubbish: true,
             ..Style::plain(order)
         };
-        makers[nth % makers.len()](&style)
+        makings[nth % makings.len()](&style)
     })
 }
 

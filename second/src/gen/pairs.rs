@@ -57,7 +57,7 @@ fn is_style(piece: &Piece) -> bool {
 /// The pieces that are content and that no link and no other rule hangs on.
 fn free_pieces(draft: &Draft) -> Vec<usize> {
     let (pieces, bound): (&[Piece], &[usize]) = match (&draft.body, draft.code) {
-        (Body::Fields(pieces), 100 | 1000) => (pieces, &[0, 1]),
+        (Body::Fields(pieces), 100 | 200 | 1000 | 2000) => (pieces, &[0, 1]),
         (Body::Fields(pieces), 40 | 10100) => (pieces, &[2]),
         (Body::Fields(pieces), _) => (pieces, &[]),
         (Body::Ping { header, .. }, _) => (header, &[2]),

@@ -4,6 +4,7 @@ use super::draft::{Body, Draft, Piece};
 use super::vessels::{MOST_CHANNELS, MOST_SOUNDERS};
 use super::Rng;
 use crate::layout::{class, is_listed, Class};
+use crate::links::Maker;
 use Piece::{Chars, Four, Identifier, Space, Two};
 
 /// What a sound file is to have.
@@ -60,6 +61,69 @@ pub(super) fn channel(rng: &mut Rng, id: u16, parent: u32) -> Draft {
         Space,
     ]);
     Draft::fields(rng, 1000, pieces)
+}
+
+pub(super) fn ek500_sounder(rng: &mut Rng, count: u16, id: u32) -> Draft {
+    let mut pieces = vec![Two(count), Four(id)];
+    pieces.extend((0..9).map(|_| Two(rng.two())));
+    // the super layer's start, signed and often negative, then its margin and threshold
+    pieces.extend([Four(rng.four()), Two(rng.two()), Two(rng.two())]);
+    pieces.extend([Four(rng.four()), Chars(rng.bytes(30))]);
+    Draft::fields(rng, 200, pieces)
+}
+
+pub(super) fn ek500_channel(rng: &mut Rng, id: u16, parent: u32) -> Draft {
+    let transceiver = rng.pick(&SMALL_IDS);
+    let mut pieces = vec![Two(id), Four(parent), Four(rng.four())];
+    pieces.extend([Two(rng.two()), Two(transceiver)]);
+    pieces.extend([Four(rng.four()), Four(rng.four())]);
+    pieces.extend((0..15).map(|_| Two(rng.two())));
+    pieces.extend([Space, Four(rng.four()), Four(rng.four())]);
+    pieces.extend([Chars(rng.bytes(30)), Space]);
+    Draft::fields(rng, 2000, pieces)
+}
+
+pub(super) fn any_maker(rng: &mut Rng) -> Maker {
+    rng.pick(&[Maker::Biosonics, Maker::Simrad])
+}
+
+pub(super) fn other_maker(maker: Maker) -> Maker {
+    match maker {
+        Maker::Biosonics => Maker::Simrad,
+        Maker::Simrad => Maker::Biosonics,
+    }
+}
+
+pub(super) fn sounder_of(rng: &mut Rng, maker: Maker, count: u16, id: u32) -> Draft {
+    match maker {
+        Maker::Biosonics => sounder(rng, count, id),
+        Maker::Simrad => ek500_sounder(rng, count, id),
+    }
+}
+
+pub(super) fn channel_of(rng: &mut Rng, maker: Maker, id: u16, parent: u32) -> Draft {
+    match maker {
+        Maker::Biosonics => channel(rng, id, parent),
+        Maker::Simrad => ek500_channel(rng, id, parent),
+    }
+}
+
+/// Whose sounder a type code declares.
+pub(super) fn sounder_maker(code: u16) -> Option<Maker> {
+    match code {
+        100 => Some(Maker::Biosonics),
+        200 => Some(Maker::Simrad),
+        _ => None,
+    }
+}
+
+/// Whose channel a type code declares.
+pub(super) fn channel_maker(code: u16) -> Option<Maker> {
+    match code {
+        1000 => Some(Maker::Biosonics),
+        2000 => Some(Maker::Simrad),
+        _ => None,
+    }
 }
 
 pub(super) fn position(rng: &mut Rng) -> Draft {
@@ -147,7 +211,7 @@ pub(super) fn unlisted(rng: &mut Rng, code: u16) -> Draft {
 /// Codes inside the classes, beside them, private ones and any others.
 pub(super) fn unlisted_code(rng: &mut Rng) -> u16 {
     const CODES: [u16; 34] = [
-        0, 10, 19, 21, 29, 31, 41, 99, 101, 200, 999, 1001, 2000, 9999, 10001, 10011, 10030, 10040,
+        0, 10, 19, 21, 29, 31, 41, 99, 101, 201, 999, 1001, 2001, 9999, 10001, 10011, 10030, 10040,
         10050, 10099, 10101, 10109, 10111, 11000, 12000, 65396, 65400, 65405, 65518, 65525, 65526,
         65533, 300, 3000,
     ];
@@ -267,8 +331,8 @@ pub fn sample_list(rng: &mut Rng, wild: bool) -> Vec<(u32, i32)> {
 /// A file under way.
 struct Plan {
     drafts: Vec<Draft>,
-    /// Document identifiers, and where each sounder stands.
-    sounders: Vec<(u32, usize)>,
+    /// Document identifiers and makers, and where each sounder stands.
+    sounders: Vec<(u32, Maker, usize)>,
     /// Channels, and the sounder that each names.
     channels: Vec<(u16, usize)>,
 }
@@ -278,10 +342,11 @@ impl Plan {
         if self.sounders.len() == MOST_SOUNDERS as usize {
             return;
         }
-        let taken: Vec<u32> = self.sounders.iter().map(|(id, _)| *id).collect();
+        let taken: Vec<u32> = self.sounders.iter().map(|(id, ..)| *id).collect();
         let id = new_document(rng, &taken);
-        self.sounders.push((id, self.drafts.len()));
-        self.drafts.push(sounder(rng, 0, id));
+        let maker = any_maker(rng);
+        self.sounders.push((id, maker, self.drafts.len()));
+        self.drafts.push(sounder_of(rng, maker, 0, id));
     }
 
     fn add_channel(&mut self, rng: &mut Rng) {
@@ -292,7 +357,8 @@ impl Plan {
         let id = new_channel(rng, &taken);
         let parent = rng.index(self.sounders.len());
         self.channels.push((id, parent));
-        self.drafts.push(channel(rng, id, self.sounders[parent].0));
+        let (document, maker, _) = self.sounders[parent];
+        self.drafts.push(channel_of(rng, maker, id, document));
     }
 
     fn any_channel(&self, rng: &mut Rng) -> Option<u16> {
@@ -334,8 +400,8 @@ impl Plan {
         };
         for (wanted, stand_in) in [
             (Class::Position, 21),
-            (Class::Sounder, 200),
-            (Class::Channel, 2000),
+            (Class::Sounder, 300),
+            (Class::Channel, 3000),
             (Class::Ping, 10030),
         ] {
             if has(self, wanted) {
@@ -369,7 +435,7 @@ impl Plan {
 
     /// Every sounder states the number of channels that name it.
     fn state_counts(&mut self) {
-        for (nth, (_, at)) in self.sounders.iter().enumerate() {
+        for (nth, (.., at)) in self.sounders.iter().enumerate() {
             let named = self.channels.iter().filter(|(_, parent)| *parent == nth);
             let count = named.count() as u16;
             self.drafts[*at].pieces()[0] = Two(count);

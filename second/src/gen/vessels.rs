@@ -1,10 +1,11 @@
 //! Bigger vessels: files of many sounders and channels, at the limits of
-//! request m of 02 and past them.
+//! request m of 02 and past them, of both makers by request b.
 
 use super::draft::{Draft, Style};
 use super::limits::case;
 use super::sound::*;
 use super::{Case, Rng};
+use crate::links::Maker;
 
 /// The most sounders and channels of a file.
 pub(super) const MOST_SOUNDERS: u32 = 64;
@@ -26,13 +27,59 @@ fn parent(nth: u16, sounders: u32) -> u32 {
     (u32::from(nth) - 1) % sounders + 1
 }
 
-fn nth_sounder(rng: &mut Rng, nth: u32, sounders: u32, channels: u16) -> Draft {
-    let named = (1..=channels).filter(|channel| parent(*channel, sounders) == nth);
-    sounder(rng, named.count() as u16, document(nth))
+/// How many sounders and channels a vessel has, and whose its nth sounder is.
+#[derive(Clone, Copy)]
+struct Vessel {
+    sounders: u32,
+    channels: u16,
+    maker: fn(u32) -> Maker,
 }
 
-fn nth_channel(rng: &mut Rng, nth: u16, sounders: u32) -> Draft {
-    channel(rng, software(nth), document(parent(nth, sounders)))
+/// Of every three sounders the first is Simrad's: so are the first and the 64th.
+fn mixed(nth: u32) -> Maker {
+    match nth % 3 {
+        1 => Maker::Simrad,
+        _ => Maker::Biosonics,
+    }
+}
+
+fn biosonics(_: u32) -> Maker {
+    Maker::Biosonics
+}
+
+fn simrad(_: u32) -> Maker {
+    Maker::Simrad
+}
+
+/// Sounders and channels of both makers.
+const fn of_both(sounders: u32, channels: u16) -> Vessel {
+    Vessel {
+        sounders,
+        channels,
+        maker: mixed,
+    }
+}
+
+impl Vessel {
+    fn sounder(self, rng: &mut Rng, nth: u32) -> Draft {
+        let named = (1..=self.channels).filter(|channel| parent(*channel, self.sounders) == nth);
+        let count = named.count() as u16;
+        sounder_of(rng, (self.maker)(nth), count, document(nth))
+    }
+
+    fn channel(self, rng: &mut Rng, nth: u16) -> Draft {
+        let parent = parent(nth, self.sounders);
+        channel_of(rng, (self.maker)(parent), software(nth), document(parent))
+    }
+
+    /// A file up to its position: the sounders, then the channels.
+    fn drafts(self, rng: &mut Rng) -> Vec<Draft> {
+        let mut drafts = vec![signature(rng)];
+        drafts.extend((1..=self.sounders).map(|nth| self.sounder(rng, nth)));
+        drafts.extend((1..=self.channels).map(|nth| self.channel(rng, nth)));
+        drafts.push(position(rng));
+        drafts
+    }
 }
 
 /// A ping of the nth channel, which need not be declared: silent or not.
@@ -41,26 +88,17 @@ fn ping_of(rng: &mut Rng, nth: u16) -> Draft {
     ping(rng, software(nth), samples)
 }
 
-/// A file up to its position: so many sounders, then so many channels.
-fn vessel(rng: &mut Rng, sounders: u32, channels: u16) -> Vec<Draft> {
-    let mut drafts = vec![signature(rng)];
-    drafts.extend((1..=sounders).map(|nth| nth_sounder(rng, nth, sounders, channels)));
-    drafts.extend((1..=channels).map(|nth| nth_channel(rng, nth, sounders)));
-    drafts.push(position(rng));
-    drafts
-}
-
 /// A vessel, what comes behind its declarations, and the end of file. A code
 /// other than 0 is that of the last draft before the end of file.
 fn behind(
     name: &str,
-    (sounders, channels): (u32, u16),
+    vessel: Vessel,
     more: impl Fn(&mut Rng) -> Vec<Draft>,
     code: u32,
     style: &Style,
 ) -> Case {
     let mut rng = Rng::new(12);
-    let mut drafts = vessel(&mut rng, sounders, channels);
+    let mut drafts = vessel.drafts(&mut rng);
     drafts.extend(more(&mut rng));
     let last = drafts.len() - 1;
     drafts.push(end_of_file(&mut rng, 2));
@@ -68,7 +106,7 @@ fn behind(
 }
 
 /// Both tables full.
-const FULL: (u32, u16) = (MOST_SOUNDERS, MOST_CHANNELS);
+const FULL: Vessel = of_both(MOST_SOUNDERS, MOST_CHANNELS);
 
 /// So many pings come behind full tables, where their order is the point.
 const PINGS: usize = 1000;
@@ -82,25 +120,100 @@ fn pings(name: &str, channels: impl Fn(&mut Rng) -> Vec<u16>, style: &Style) -> 
     behind(name, FULL, more, 0, style)
 }
 
+/// A sounder behind the others, with the identifier of the nth.
+fn more_sounder(maker: Maker, nth: u32) -> impl Fn(&mut Rng) -> Vec<Draft> {
+    move |rng| vec![sounder_of(rng, maker, 0, document(nth))]
+}
+
+/// A channel behind the others, with the identifier of the nth, that names the
+/// sounder of the other number.
+fn more_channel(maker: Maker, nth: u16, parent: u32) -> impl Fn(&mut Rng) -> Vec<Draft> {
+    move |rng| vec![channel_of(rng, maker, software(nth), document(parent))]
+}
+
+/// No sounder has this number.
+const NOWHERE: u32 = MOST_SOUNDERS + 1;
+
 /// 12 before 14: the 65th sounder has the 64th one's identifier.
 fn sounder_twice(style: &Style) -> Case {
-    let twice = |rng: &mut Rng| vec![sounder(rng, 0, document(MOST_SOUNDERS))];
-    behind("sounder-twice", (MOST_SOUNDERS, 1), twice, 12, style)
+    let vessel = of_both(MOST_SOUNDERS, 1);
+    let twice = more_sounder(Maker::Simrad, MOST_SOUNDERS);
+    behind("sounder-twice", vessel, twice, 12, style)
 }
 
 /// 12 before 14 and 13: the 1,025th channel has the 1,024th one's identifier and
 /// names no sounder.
 fn channel_twice(style: &Style) -> Case {
-    let nowhere = document(MOST_SOUNDERS + 1);
-    let twice = |rng: &mut Rng| vec![channel(rng, software(MOST_CHANNELS), nowhere)];
+    let twice = more_channel(Maker::Simrad, MOST_CHANNELS, NOWHERE);
     behind("channel-twice", FULL, twice, 12, style)
 }
 
 /// 14 before 13: the 1,025th channel names no sounder.
 fn channel_orphan(style: &Style) -> Case {
-    let nowhere = document(MOST_SOUNDERS + 1);
-    let orphan = |rng: &mut Rng| vec![channel(rng, software(MOST_CHANNELS + 1), nowhere)];
+    let orphan = more_channel(Maker::Biosonics, MOST_CHANNELS + 1, NOWHERE);
     behind("channel-orphan", FULL, orphan, 14, style)
+}
+
+/// 12 before 14: the 65th sounder has the identifier of the 64th, which is the
+/// other maker's.
+fn sounder_of_both(style: &Style) -> Case {
+    let vessel = of_both(MOST_SOUNDERS, 1);
+    let twice = more_sounder(Maker::Biosonics, MOST_SOUNDERS);
+    behind("sounder-of-both", vessel, twice, 12, style)
+}
+
+/// 12 before 14 and 13: the 1,025th channel has the identifier of the 1,024th, which
+/// is the other maker's, and names that one's sounder.
+fn channel_of_both(style: &Style) -> Case {
+    let twice = more_channel(Maker::Biosonics, MOST_CHANNELS, MOST_SOUNDERS);
+    behind("channel-of-both", FULL, twice, 12, style)
+}
+
+/// 14: the 65th sounder is the only one of its maker.
+fn sounder_alone(name: &str, table: fn(u32) -> Maker, style: &Style) -> Case {
+    let vessel = Vessel {
+        maker: table,
+        ..of_both(MOST_SOUNDERS, 1)
+    };
+    let more = more_sounder(other_maker(table(1)), MOST_SOUNDERS + 1);
+    behind(name, vessel, more, 14, style)
+}
+
+fn simrad_sounder_alone(style: &Style) -> Case {
+    sounder_alone("simrad-sounder-65", biosonics, style)
+}
+
+fn biosonics_sounder_alone(style: &Style) -> Case {
+    sounder_alone("biosonics-sounder-65", simrad, style)
+}
+
+/// 14: the 1,025th channel, of a sounder of its own maker.
+fn simrad_channel_over(style: &Style) -> Case {
+    let over = more_channel(Maker::Simrad, MOST_CHANNELS + 1, 1);
+    behind("simrad-channel-1025", FULL, over, 14, style)
+}
+
+/// 14 before 13: the 1,025th channel names a sounder of the other maker.
+fn other_maker_over(style: &Style) -> Case {
+    let over = more_channel(Maker::Simrad, MOST_CHANNELS + 1, 2);
+    behind("other-maker-1025", FULL, over, 14, style)
+}
+
+/// 13: the 1,024th channel names a sounder of the other maker, the last of 64.
+fn other_maker_last(style: &Style) -> Case {
+    let vessel = of_both(MOST_SOUNDERS, MOST_CHANNELS - 1);
+    let other = more_channel(Maker::Biosonics, MOST_CHANNELS, MOST_SOUNDERS);
+    behind("other-maker-1024", vessel, other, 13, style)
+}
+
+/// Full tables of Simrad's alone.
+fn all_simrad(style: &Style) -> Case {
+    let vessel = Vessel {
+        maker: simrad,
+        ..FULL
+    };
+    let pings = |rng: &mut Rng| [MOST_CHANNELS, 1].map(|nth| ping_of(rng, nth)).to_vec();
+    behind("all-simrad", vessel, pings, 0, style)
 }
 
 /// All that names a channel names the last, the first, and the last again; an
@@ -145,13 +258,12 @@ fn repeated(style: &Style) -> Case {
 /// Sounders and channels declared between pings, up to full tables.
 fn between(style: &Style) -> Case {
     let rng = &mut Rng::new(13);
-    let (sounders, channels) = FULL;
     let mut drafts = vec![signature(rng), position(rng)];
-    for nth in 1..=channels {
-        if u32::from(nth) <= sounders {
-            drafts.push(nth_sounder(rng, nth.into(), sounders, channels));
+    for nth in 1..=FULL.channels {
+        if u32::from(nth) <= FULL.sounders {
+            drafts.push(FULL.sounder(rng, nth.into()));
         }
-        drafts.push(nth_channel(rng, nth, sounders));
+        drafts.push(FULL.channel(rng, nth));
         let any = any_nth(rng, nth);
         let named = rng.pick(&[nth, 1, any]);
         drafts.push(ping_of(rng, named));
@@ -160,10 +272,18 @@ fn between(style: &Style) -> Case {
     case("vessel-between".to_string(), &drafts, style, 0, 0)
 }
 
-pub(super) const MAKERS: [fn(&Style) -> Case; 9] = [
+pub(super) const CASES: [fn(&Style) -> Case; 17] = [
     sounder_twice,
     channel_twice,
     channel_orphan,
+    sounder_of_both,
+    channel_of_both,
+    simrad_sounder_alone,
+    biosonics_sounder_alone,
+    simrad_channel_over,
+    other_maker_over,
+    other_maker_last,
+    all_simrad,
     ends_named,
     ping_orphan,
     in_turn,
@@ -177,7 +297,7 @@ pub(super) const MAKERS: [fn(&Style) -> Case; 9] = [
 pub(super) fn short_vessel(rng: &mut Rng) -> Vec<Draft> {
     let sounders = rng.pick(&[16, 17, 63, 64, 65]);
     let channels = rng.pick(&[64, 65, 200, 500]);
-    let mut drafts = vessel(rng, sounders, channels);
+    let mut drafts = of_both(sounders, channels).drafts(rng);
     for _ in 0..=rng.below(40) {
         let nth = any_nth(rng, channels);
         drafts.push(ping_of(rng, nth));

@@ -1,6 +1,9 @@
 //! What the tests share.
 #![allow(dead_code)]
 
+pub mod said;
+
+use second::gen::{limit, limit_count, Case};
 use second::walk::{forward, Step, Tuple};
 use second::Order;
 use std::collections::BTreeMap;
@@ -32,6 +35,14 @@ pub fn bytes(digits: &str) -> Vec<u8> {
         .chunks(2)
         .map(|pair| (pair[0] << 4 | pair[1]) as u8)
         .collect()
+}
+
+/// The generator's limit case of a name, which its byte order ends.
+pub fn limit_case(name: &str) -> Case {
+    let wanted = format!("limit-{name}");
+    let mut cases = (0..limit_count()).flat_map(limit);
+    let found = cases.find(|case| case.name == wanted);
+    found.unwrap_or_else(|| panic!("no {wanted}"))
 }
 
 /// The tuples of an accepted file, in order.

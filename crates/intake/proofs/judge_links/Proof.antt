@@ -28,26 +28,26 @@ returns c =
     let r = c .before .before in
     let m = r .before .before .before in
     let s = start m in
-    attitude-all _ _ (s .pre .0) (s .pre .1 .0) (said m (r .before .enum-told4 .given .1)) (sym (named r) ∙ c .if1 .taken)
+    attitude-all _ _ (s .pre .0) (s .pre .1 .0) (said m (r .before .enum-told2 .given .1)) (sym (named r) ∙ c .if1 .taken)
 
 returns-2 : tie.Need-returns-2
 returns-2 c = let m = c .before .before in let s = start m in no-link _ _ (s .pre .0) (s .pre .1 .0) (said m (c .enum-told .given .1))
 
 returns-3 : tie.Need-returns-3
 returns-3 c =
-    let e = c .before .before in
+    let e = c .before .before .before in
     let m = e .before .before in
     let s = start m in
     rw (c .judge-sounder .ensures, c .before .sounder-at .ensures)
-    (sounder-told _ _ (s .pre .0) (s .pre .1 .0) (said m (e .enum-told2 .given .1)))
+    (sounder-told _ _ (s .pre .0) (s .pre .1 .0) (said m (e .maker .given .1)))
 
 returns-4 : tie.Need-returns-4
 returns-4 c =
-    let e = c .before .before in
+    let e = c .before .before .before in
     let m = e .before .before in
     let s = start m in
     rw (c .judge-channel .ensures, c .before .channel-at .ensures)
-    (channel-told _ _ (s .pre .0) (s .pre .1 .0) (said m (e .enum-told3 .given .1)))
+    (channel-told _ _ (s .pre .0) (s .pre .1 .0) (said m (e .maker2 .given .1)))
 
 returns-5 : tie.Need-returns-5
 returns-5 c =
@@ -55,7 +55,7 @@ returns-5 c =
     let m = r .before .before .before in
     let s = start m in
     rw (c .judge-name .ensures, r .named-at .ensures)
-    (attitude-one _ _ (s .pre .0) (s .pre .1 .0) (said m (r .before .enum-told4 .given .1)) (λ e. c .before .if1 .left (named r ∙ e)))
+    (attitude-one _ _ (s .pre .0) (s .pre .1 .0) (said m (r .before .enum-told2 .given .1)) (λ e. c .before .if1 .left (named r ∙ e)))
 
 returns-6 : tie.Need-returns-6
 returns-6 c =
@@ -63,7 +63,7 @@ returns-6 c =
     let m = e .before .before in
     let s = start m in
     rw (c .judge-name2 .ensures, c .before .named-at2 .ensures)
-    (names-told _ _ (s .pre .0) (s .pre .1 .0) (said m (e .enum-told5 .given .1)))
+    (names-told _ _ (s .pre .0) (s .pre .1 .0) (said m (e .enum-told3 .given .1)))
 
 pub judge-links-spec : {M : Type 1} → statement M
 judge-links-spec =
@@ -72,10 +72,13 @@ judge-links-spec =
     (λ c κs. search needs)
     (λ c. search needs)
     (λ c. search needs)
-    (λ c κs. room (start (c .before .before) .pre .0))
+    (λ c κs. room (start (c .before .before .before) .pre .0))
     (λ c κs. search needs)
     (λ c. search needs)
-    (λ c κs. let m = c .before .before in let p = start m .pre in channel-whole (p .0) (p .1 .0) (said m (c .enum-told3 .given .1)))
+    (λ c κs. let e = c .before in
+    let m = e .before .before in
+    let p = start m .pre in
+    channel-whole (p .0) (p .1 .0) (said m (e .maker2 .given .1)))
     (λ c κs. search needs)
     (λ c. search needs)
     (λ c κs. room (start (c .before .before) .pre .0))

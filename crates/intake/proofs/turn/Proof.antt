@@ -3,21 +3,24 @@ use mathlib.Core.Path.{_≡_, refl, sym, subst, _∙_}
 use Prim.Native.Nat.{_<_}
 use native.Mathlib.Omega.{arith}
 use borrow.Author.Needs.{needs}
+use borrow.Author.Tests.{not-true, not-false}
 use lib.ListN.{drop}
 use Rattle.layout.specs.declared.Verdict.the-variants.{Fine, Fault}
 use Rattle.layout.specs.declared.Says.{Says}
-use Rattle.layout.specs.declared.Says.the-variants as says
 use Rattle.layout.specs.Types.{saysOf}
 use Rattle.frame.specs.Frames.{lenAt}
 use Rattle.frame.proofs.Places.{Whole, framing-whole}
+use Rattle.links.specs.declared.Sounder.{Sounder}
 use Rattle.links.specs.declared.Channel.{Channel}
 use Rattle.links.specs.Links.{mostChannels}
-use Rattle.links.specs.inner.Tables.{channelOf, channelRow}
-use Rattle.intake.specs.inner.Tallies.{Tables, tables, Here, said, comparesAt}
-use Rattle.intake.proofs.Said.{QuietBy, fault-near, fine-parts}
+use Rattle.links.specs.inner.Tables.{sounderOf, sounderRow, channelOf, channelRow}
+use Rattle.intake.specs.inner.Tallies.{Tables, tables, Here, said, comparesAt, TurnedTo}
+use Rattle.intake.specs.declared.Tally.{Tally}
+use Rattle.intake.specs.declared.Turned.the-variants.{On}
+use Rattle.intake.proofs.Said.{QuietBy, quiet-class, no-end-class, fault-near, fine-parts}
 use Rattle.intake.proofs.Judges.{room, whole, channel-whole, turn-fine, turn-fault}
 use Rattle.intake.proofs.Tallies.{compares-few, fine-fits, holds, room-sounder, room-channel, turns-fault, turns-sounder}
-use Rattle.intake.proofs.Tallies.{turns-channel, turns-end, turns-other, no-end-of}
+use Rattle.intake.proofs.Tallies.{turns-channel, turns-end, turns-other}
 use Rattle.intake.proofs.turn.Statement.{statement}
 use Rattle.intake.proofs.turn.Tie as tie
 
@@ -25,14 +28,17 @@ use Rattle.intake.proofs.turn.Tie as tie
 abbrev asked : tie.After-judge-arg6 → tie.Start
 asked c = c .before .before .before .before .before .before .before
 
+abbrev passed : tie.After-says-of → tie.After-past
+passed c = c .before .before .before
+
 abbrev typed : tie.After-says-of → tie.After-kind-at
-typed c = c .before .before
+typed c = passed c .before
 
-abbrev of-sounder : tie.After-put-sounder-arg → tie.After-enum-told4
-of-sounder c = c .before .before
+abbrev of-sounder : tie.After-put-sounder-arg → tie.After-maker
+of-sounder c = c .before .before .before
 
-abbrev of-channel : tie.After-put-channel-arg → tie.After-enum-told5
-of-channel c = c .before .before
+abbrev of-channel : tie.After-put-channel-arg → tie.After-maker2
+of-channel c = c .before .before .before
 
 abbrev held : tie.Start → Tables
 held s = tables (s .args .sounders .now) (s .args .channels .now)
@@ -110,41 +116,43 @@ put-sounder-requires c κs =
     let m = e .before .before in
     let k = typed m in
     let s = from k in (
-      room-sounder _ (s .pre .1 .1 .1) (s .pre .0) (here k) (fine (k .before .before .before)) (says-by m (e .enum-told4 .given .1)),
+      room-sounder _ (s .pre .1 .1 .1) (s .pre .0) (here k) (fine (k .before .before .before)) (says-by m (e .maker .given .1)),
       omega (arith, s .pre .0 .within, s .pre .1 .1 .0),
     )
 
 add-next : tie.Need-add-next
 add-next c = let s = from (typed (of-sounder (c .before .before) .before .before)) in omega (arith, s .pre .0 .sounders)
 
-returns-6 : tie.Need-returns-6
-returns-6 c =
+returns-7 : tie.Need-returns-7
+returns-7 c =
     let d = c .before in
     let n = d .before .before in
-    let e = n .before in
+    let e = n .before .before in
     let m = e .before .before in
     let k = typed m in
     let s = from k in
-    rw (m .before .past .ensures, d .put-sounder .ensures, n .sounder-at .ensures)
+    rw (passed m .past .ensures, d .put-sounder .ensures .0, n .sounder-at .ensures)
     (turns-sounder _ (s .pre .1 .1 .1) (s .pre .0) (s .pre .1 .0) _ (here k) (fine (k .before .before .before))
-    (cost (k .before .before .before)) (says-by m (e .enum-told4 .given .1)))
+    (cost (k .before .before .before)) (says-by m (e .maker .given .1))
+    (subst (λ (x : Sounder). sounderOf (sounderRow x (s .args .w .at)) ≡ x) (n .sounder-at .ensures) (d .put-sounder .ensures .1)))
 
 -- ---- a channel
 channel-at-requires : tie.Need-channel-at-requires
-channel-at-requires e κs =
+channel-at-requires c κs =
+    let e = c .before in
     let m = e .before .before in
     let k = typed m in
     let s = from k in
     channel-whole (here k) (fine-fits _ (s .pre .1 .1 .1) (s .pre .0) (here k) (fine (k .before .before .before)))
-    (says-by m (e .enum-told5 .given .1))
+    (says-by m (e .maker2 .given .1))
 
 -- there is room for it
-room-for : (e : tie.After-enum-told5) → let s = from (typed (e .before .before)) in s .args .w .channels < mostChannels
+room-for : (e : tie.After-maker2) → let s = from (typed (e .before .before)) in s .args .w .channels < mostChannels
 room-for e =
     let m = e .before .before in
     let k = typed m in
     let s = from k in
-    room-channel _ (s .pre .1 .1 .1) (s .pre .0) (here k) (fine (k .before .before .before)) (says-by m (e .enum-told5 .given .1))
+    room-channel _ (s .pre .1 .1 .1) (s .pre .0) (here k) (fine (k .before .before .before)) (says-by m (e .maker2 .given .1))
 
 put-channel-requires : tie.Need-put-channel-requires
 put-channel-requires c κs =
@@ -157,26 +165,26 @@ add-next-2 c =
     let s = from (typed (of-channel (c .before .before .before .before) .before .before)) in
     omega (arith, s .pre .0 .channels)
 
-returns-7 : tie.Need-returns-7
-returns-7 c =
+returns-8 : tie.Need-returns-8
+returns-8 c =
     let d = c .before .before .before in
     let n = d .before .before in
-    let e = n .before in
+    let e = n .before .before in
     let m = e .before .before in
     let k = typed m in
     let s = from k in
-    rw (m .before .past .ensures, d .put-channel .ensures .0, n .channel-at .ensures)
+    rw (passed m .past .ensures, d .put-channel .ensures .0, n .channel-at .ensures)
     (turns-channel _ (s .pre .1 .1 .1) (s .pre .0) (s .pre .1 .0) _ (here k) (fine (k .before .before .before))
-    (cost (k .before .before .before)) (says-by m (e .enum-told5 .given .1))
+    (cost (k .before .before .before)) (says-by m (e .maker2 .given .1))
     (subst (λ (x : Channel). channelOf (channelRow x (s .args .w .at)) ≡ x) (n .channel-at .ensures) (d .put-channel .ensures .1)))
 
 -- ---- the end of file
-abbrev ended : tie.After-end-arg4 → tie.Then1
+abbrev ended : tie.After-end-arg4 → tie.Then2
 ended c = c .before .before .before .before
 
 end-requires : tie.Need-end-requires
 end-requires c κs =
-    let p = ended c .before .before .before .before in
+    let p = ended c .before .before .before in
     let s = from (p .before) in
     rw (p .past .ensures) (
       omega (arith, s .pre .1 .1 .1 .sounders, s .pre .0 .sounders),
@@ -186,47 +194,52 @@ end-requires c κs =
 returns : tie.Need-returns
 returns c =
     let t = ended (c .before) in
-    let p = t .before .before .before .before in
+    let p = t .before .before .before in
     let k = p .before in
     let s = from k in
     rw (c .end .ensures, p .past .ensures)
     (turns-end _ (s .pre .1 .1 .1) (s .pre .0) (s .pre .1 .0) (p .past .result .near) (here k) (fine (k .before .before .before))
-    (cost (k .before .before .before)) (t .if1 .taken))
+    (cost (k .before .before .before)) (t .if2 .taken))
 
 -- ---- a fault, and any other tuple
-returns-2 : tie.Need-returns-2
-returns-2 c =
+returns-3 : tie.Need-returns-3
+returns-3 c =
     let s = start (c .before .before .before .before) in
     rw (c .refuse .ensures) (turns-fault _ (s .pre .1 .1 .1) (s .pre .0) (s .pre .1 .0) _ _ (faulty (c .before .before)))
 
--- what names a channel
-returns-3 : tie.Need-returns-3
-returns-3 c =
-    let m = c .before .before in
+-- what is of another class than what declares
+returns-2 : tie.Need-returns-2
+returns-2 c =
+    let d = c .before .before in
+    let p = d .before in
+    let k = p .before in
+    let s = from k in
+    let q = sym (d .may-declare .ensures) ∙ not-true _ (c .before .if1 .taken) in
+    rw (p .past .ensures) (turns-other _ (s .pre .1 .1 .1) (s .pre .0) (s .pre .1 .0) _ (here k) (fine (k .before .before .before))
+    (cost (k .before .before .before)) (quiet-class (k .kind-at .result) q) (c .if2 .left))
+
+-- what is of such a class and declares nothing
+other : (m : tie.After-says-of) → QuietBy (m .says-of .result)
+    → let s = from (typed m) in
+    TurnedTo (s .args .msb) (s .args .file .now) (s .args .w) (held s) (On (passed m .past .result)) (held s)
+other m q =
     let k = typed m in
     let s = from k in
-    let e = says-by m {a = says.Names} (c .enum-told .given .1) in
-    rw (m .before .past .ensures) (turns-other _ (s .pre .1 .1 .1) (s .pre .0) (s .pre .1 .0) _ (here k) (fine (k .before .before .before))
-    (cost (k .before .before .before)) (subst QuietBy (sym e) tt) (no-end-of _ _ e refl))
+    let d = m .before .before in
+    let e = sym (d .may-declare .ensures) ∙ not-false _ (m .before .if1 .left) in
+    subst (λ (x : Tally). TurnedTo (s .args .msb) (s .args .file .now) (s .args .w) (held s) (On x) (held s))
+    (sym (passed m .past .ensures))
+    (turns-other _ (s .pre .1 .1 .1) (s .pre .0) (s .pre .1 .0) _ (here k) (fine (k .before .before .before))
+    (cost (k .before .before .before)) (subst QuietBy (m .says-of .ensures) q) (no-end-class (k .kind-at .result) e))
 
 returns-4 : tie.Need-returns-4
-returns-4 c =
-    let m = c .before .before in
-    let k = typed m in
-    let s = from k in
-    let e = says-by m {a = says.NamesOrAll} (c .enum-told2 .given .1) in
-    rw (m .before .past .ensures) (turns-other _ (s .pre .1 .1 .1) (s .pre .0) (s .pre .1 .0) _ (here k) (fine (k .before .before .before))
-    (cost (k .before .before .before)) (subst QuietBy (sym e) tt) (no-end-of _ _ e refl))
+returns-4 c = other (c .before .before) (subst QuietBy (sym (c .enum-told .given .1)) tt)
 
--- what says nothing
 returns-5 : tie.Need-returns-5
-returns-5 c =
-    let m = c .before .before .before in
-    let k = typed m in
-    let s = from k in
-    let e = says-by m (c .before .enum-told3 .given .1) in
-    rw (m .before .past .ensures) (turns-other _ (s .pre .1 .1 .1) (s .pre .0) (s .pre .1 .0) _ (here k) (fine (k .before .before .before))
-    (cost (k .before .before .before)) (subst QuietBy (sym e) tt) (c .if1 .left))
+returns-5 c = other (c .before .before) (subst QuietBy (sym (c .enum-told2 .given .1)) tt)
+
+returns-6 : tie.Need-returns-6
+returns-6 c = other (c .before .before) (subst QuietBy (sym (c .enum-told3 .given .1)) tt)
 
 pub turn-spec : {M : Type 1} → statement M
 turn-spec =
@@ -241,13 +254,15 @@ turn-spec =
     kind-at-requires
     past-requires
     (λ c κs. search needs)
-    (λ c. search needs)
-    (λ c. search needs)
-    (λ c. search needs)
     end-requires
     returns
+    returns-2
+    (λ c κs. search needs)
     (λ c. search needs)
-    (λ c κs. room (here (typed (c .before .before))))
+    (λ c. search needs)
+    (λ c. search needs)
+    (λ c. search needs)
+    (λ c κs. room (here (typed (c .before .before .before))))
     put-sounder-requires
     add-next
     (λ c. search needs)
@@ -255,9 +270,9 @@ turn-spec =
     put-channel-requires
     (λ c κs. room-for (of-channel (c .before .before)))
     add-next-2
-    returns-2
     returns-3
     returns-4
     returns-5
     returns-6
-    returns-7)
+    returns-7
+    returns-8)

@@ -9,6 +9,7 @@ use lib.Dec.{eqb}
 use lib.ListN.{length, take, drop, set}
 use Rattle.order.specs.Order.{numOf}
 use Rattle.rules.specs.Rules.{_⇒_}
+use Rattle.layout.specs.declared.Maker.{Maker}
 use Rattle.layout.specs.declared.SoftwareChannel.{SoftwareChannel}
 use Rattle.layout.specs.declared.Counts.{Counts}
 use Rattle.layout.specs.declared.Answer.{Answer}
@@ -108,17 +109,19 @@ pub record Here (o : Bool) (f : List ℕ) (at n k : ℕ) : Type 0 where
 abbrev pub Fits : ℕ → ℕ → Type 0
 Fits n k = fitting (lengthsOf k) n ≡ true
 
--- what a sounder tuple and a channel tuple declare, and the channel that another names, by their bytes
-abbrev pub sounderAt : Bool → List ℕ → ℕ → Sounder
-sounderAt o f at = record { doc = record { 0 = numOf o (take 4 (drop (at + 8) f)) }; says = numOf o (take 2 (drop (at + 6) f)) }
+-- what a maker's sounder tuple and channel tuple declare, and the channel that another names, by their bytes
+abbrev pub sounderAt : Bool → List ℕ → ℕ → Maker → Sounder
+sounderAt o f at m =
+    record { doc = record { 0 = numOf o (take 4 (drop (at + 8) f)) }; says = numOf o (take 2 (drop (at + 6) f)); maker = m }
 
-abbrev pub channelAt : Bool → List ℕ → ℕ → Channel
-channelAt o f at =
+abbrev pub channelAt : Bool → List ℕ → ℕ → Maker → Channel
+channelAt o f at m =
     record {
       id = record { 0 = numOf o (take 2 (drop (at + 6) f)) };
       parent = record { 0 = numOf o (take 4 (drop (at + 8) f)) };
       rate = numOf o (take 4 (drop (at + 12) f));
       samples = numOf o (take 2 (drop (at + 16) f));
+      maker = m;
     }
 
 abbrev pub namedAt : Bool → List ℕ → ℕ → SoftwareChannel

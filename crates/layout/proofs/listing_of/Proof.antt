@@ -29,4 +29,6 @@ listing-of-spec =
     (λ c. arm (c .match .keys11) refl)
     (λ c. arm (c .match .keys12) refl)
     (λ c. arm (c .match .keys13) refl)
+    (λ c. arm (c .match .keys14) refl)
+    (λ c. arm (c .match .keys15) refl)
     (λ c. sym (missed (c .before .args .code) (c .match .rest))))

@@ -9,12 +9,12 @@ use Rattle.layout.proofs.Arms.{arm, at-least}
 use Rattle.layout.proofs.measure.Statement.{statement}
 use Rattle.layout.proofs.measure.Tie as tie
 
--- behind the twelve arms one listing is left
-returns-13 : tie.Need-returns-13
+-- behind the fourteen arms one listing is left
+returns-15 : tie.Need-returns-15
 unfolding measures listings
-returns-13 c =
+returns-15 c =
     let s = c .before .before in
-    let e : s .args .listing ≡ 12 = omega (arith, s .pre, at-least 12 (s .args .listing) (c .before .match .rest)) in
+    let e : s .args .listing ≡ 14 = omega (arith, s .pre, at-least 14 (s .args .listing) (c .before .match .rest)) in
     arm measures [] e refl
 
 pub measure-spec : {M : Type 1} → statement M
@@ -22,6 +22,8 @@ unfolding measures listings
 measure-spec =
     tie.close
     (tie.spec
+    (λ c. search needs)
+    (λ c. search needs)
     (λ c. search needs)
     (λ c. search needs)
     (λ c. search needs)
@@ -47,4 +49,6 @@ measure-spec =
     (λ c. arm measures [] (c .before .match .keys10) refl)
     (λ c. arm measures [] (c .before .match .keys11) refl)
     (λ c. arm measures [] (c .before .match .keys12) refl)
-    returns-13)
+    (λ c. arm measures [] (c .before .match .keys13) refl)
+    (λ c. arm measures [] (c .before .match .keys14) refl)
+    returns-15)

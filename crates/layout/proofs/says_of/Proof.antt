@@ -22,4 +22,6 @@ says-of-spec =
     (λ c. arm (c .match .keys4) refl)
     (λ c. arm (c .match .keys5) refl)
     (λ c. arm (c .match .keys6) refl)
+    (λ c. arm (c .match .keys7) refl)
+    (λ c. arm (c .match .keys8) refl)
     (λ c. sym (quiet (c .before .args .code) (c .match .rest))))

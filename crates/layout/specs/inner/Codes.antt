@@ -6,6 +6,8 @@ use mathlib.Core.Option.{Option, some, none}
 use lib.Dec.{eqb}
 use lib.ListN.{length, replicate}
 use Rattle.rules.specs.Rules.{_⇒_, firstOf}
+use Rattle.layout.specs.declared.Maker.{Maker}
+use Rattle.layout.specs.declared.Maker.the-variants.{Biosonics, Simrad}
 use Rattle.layout.specs.Fields.{Field, num, txt, gap, ident, u, s, c, z, many, beforeText, bareSize, size}
 use Rattle.layout.specs.Types.{Shape, indexed, row, pairs, words, unlisted, pingRow, Length, exactly, upward, leastOf, stepOf}
 use Rattle.layout.specs.Types.{Listing, Listed, listings}
@@ -87,3 +89,12 @@ measures = map (λ l. measuredBy (l .listing)) listings
 abbrev pub lengthBy : ℕ → ℕ → Length
 lengthBy least zero = exactly least
 lengthBy least (suc step) = upward least (suc step)
+
+-- ---- a maker as the number that a table keeps
+abbrev pub makerNumber : Maker → ℕ
+makerNumber Biosonics = 0
+makerNumber Simrad = 1
+
+abbrev pub makerOf : ℕ → Maker
+makerOf zero = Biosonics
+makerOf (suc n) = Simrad

@@ -5,7 +5,7 @@ use mathlib.Core.List.{List, []}
 use Prim.Native.Nat.{ℕ, _+_, _≤_}
 use native.Mathlib.Omega.{arith}
 use borrow.Author.Needs.{needs}
-use lib.ListN.{length, take, drop, getD}
+use lib.ListN.{length, take, drop, getD, length-take}
 use lib.Seq.{sets}
 use Rattle.layout.specs.Fields.{Field, size, many}
 use Rattle.layout.specs.Types.{listings}
@@ -29,11 +29,14 @@ module _ (s : tie.Start) {k n : ℕ} {r : List ℕ} (e : s .args .listing ≡ k)
 
   -- what its call asks
   asked : let a = s .args in
-      (a .at + size (fieldsOf (take n r)) ≤ length (a .file .now)) × (many (fieldsOf (take n r)) ≤ length (a .numbers .now))
+      (length (take n r) ≤ length (fieldsOf (take n r)))
+      × ((a .at + size (fieldsOf (take n r)) ≤ length (a .file .now)) × (0 + many (fieldsOf (take n r)) ≤ length (a .numbers .now)))
   asked =
+      let l = ap (λ (fs : List Field). length fs) of-listing in
+      let m = ap (λ (i : ℕ). length (listedFields i)) e in
       let z = ap (λ (fs : List Field). size fs) of-listing in
       let y = ap (λ (fs : List Field). many fs) of-listing in
-      (omega (arith, s .pre .1 .0), omega (arith, s .pre .1 .1))
+      (omega (arith, l, m, c, length-take n r), (omega (arith, s .pre .1 .0), omega (arith, s .pre .1 .1)))
 
   -- and what it leaves
   left : {numbers : List ℕ} → let a = s .args in
@@ -43,9 +46,20 @@ module _ (s : tie.Start) {k n : ℕ} {r : List ℕ} (e : s .args .listing ≡ k)
       let a = s .args in
       g ∙ ap (λ (fs : List Field). sets (a .numbers .now) 0 (numbersIn (valuesOf (a .msb) fs (drop (a .at) (a .file .now))))) of-listing
 
--- behind the twelve arms one listing is left
-last : (m : tie.At-match-rest) → m .before .before .before .args .listing ≡ 12
-last m = let s = m .before .before .before in omega (arith, s .pre .0, at-least 12 (s .args .listing) (m .match .rest))
+-- in an arm that reads its row in parts: what its call asks, and what it leaves
+module _ (s : tie.Start) (k : ℕ) (e : s .args .listing ≡ k) where
+  parts-asked : let a = s .args in
+      (a .at + size (listedFields k) ≤ length (a .file .now)) × (many (listedFields k) ≤ length (a .numbers .now))
+  parts-asked = rw e at (s .pre .1)
+
+  parts-left : {numbers : List ℕ} → let a = s .args in
+      numbers ≡ sets (a .numbers .now) 0 (numbersIn (valuesOf (a .msb) (listedFields k) (drop (a .at) (a .file .now))))
+      → numbers ≡ sets (a .numbers .now) 0 (numbersIn (valuesOf (a .msb) (listedFields (a .listing)) (drop (a .at) (a .file .now))))
+  parts-left g = rw e g
+
+-- behind the fourteen arms one listing is left
+last : (m : tie.At-match-rest) → m .before .before .before .args .listing ≡ 14
+last m = let s = m .before .before .before in omega (arith, s .pre .0, at-least 14 (s .args .listing) (m .match .rest))
 
 pub read-listed-spec : {M : Type 1} → statement M
 unfolding rowCodes listings fieldsOf fieldOf
@@ -68,6 +82,9 @@ read-listed-spec =
     (λ c κs. let r = c .before .before .before in
     let m = r .before in
     asked (m .before .before .before) (m .match .keys2) (r .row2 .ensures) refl)
+    (λ c κs. let m = c .before in parts-asked (m .before .before .before) 2 (m .match .keys3))
+    (λ c κs. let m = c .before in parts-asked (m .before .before .before) 3 (m .match .keys4))
+    (λ c κs. let m = c .before in parts-asked (m .before .before .before) 4 (m .match .keys5))
     (λ c κs. search needs)
     (λ c. search needs)
     (λ c. search needs)
@@ -75,7 +92,7 @@ read-listed-spec =
     (λ c. search needs)
     (λ c κs. let r = c .before .before .before in
     let m = r .before in
-    asked (m .before .before .before) (m .match .keys3) (r .row3 .ensures) refl)
+    asked (m .before .before .before) (m .match .keys6) (r .row3 .ensures) refl)
     (λ c κs. search needs)
     (λ c. search needs)
     (λ c. search needs)
@@ -83,7 +100,7 @@ read-listed-spec =
     (λ c. search needs)
     (λ c κs. let r = c .before .before .before in
     let m = r .before in
-    asked (m .before .before .before) (m .match .keys4) (r .row4 .ensures) refl)
+    asked (m .before .before .before) (m .match .keys7) (r .row4 .ensures) refl)
     (λ c κs. search needs)
     (λ c. search needs)
     (λ c. search needs)
@@ -91,7 +108,7 @@ read-listed-spec =
     (λ c. search needs)
     (λ c κs. let r = c .before .before .before in
     let m = r .before in
-    asked (m .before .before .before) (m .match .keys5) (r .row5 .ensures) refl)
+    asked (m .before .before .before) (m .match .keys8) (r .row5 .ensures) refl)
     (λ c κs. search needs)
     (λ c. search needs)
     (λ c. search needs)
@@ -99,7 +116,7 @@ read-listed-spec =
     (λ c. search needs)
     (λ c κs. let r = c .before .before .before in
     let m = r .before in
-    asked (m .before .before .before) (m .match .keys6) (r .row6 .ensures) refl)
+    asked (m .before .before .before) (m .match .keys9) (r .row6 .ensures) refl)
     (λ c κs. search needs)
     (λ c. search needs)
     (λ c. search needs)
@@ -107,7 +124,7 @@ read-listed-spec =
     (λ c. search needs)
     (λ c κs. let r = c .before .before .before in
     let m = r .before in
-    asked (m .before .before .before) (m .match .keys7) (r .row7 .ensures) refl)
+    asked (m .before .before .before) (m .match .keys10) (r .row7 .ensures) refl)
     (λ c κs. search needs)
     (λ c. search needs)
     (λ c. search needs)
@@ -115,7 +132,7 @@ read-listed-spec =
     (λ c. search needs)
     (λ c κs. let r = c .before .before .before in
     let m = r .before in
-    asked (m .before .before .before) (m .match .keys8) (r .row8 .ensures) refl)
+    asked (m .before .before .before) (m .match .keys11) (r .row8 .ensures) refl)
     (λ c κs. search needs)
     (λ c. search needs)
     (λ c. search needs)
@@ -123,7 +140,7 @@ read-listed-spec =
     (λ c. search needs)
     (λ c κs. let r = c .before .before .before in
     let m = r .before in
-    asked (m .before .before .before) (m .match .keys9) (r .row9 .ensures) refl)
+    asked (m .before .before .before) (m .match .keys12) (r .row9 .ensures) refl)
     (λ c κs. search needs)
     (λ c. search needs)
     (λ c. search needs)
@@ -131,7 +148,7 @@ read-listed-spec =
     (λ c. search needs)
     (λ c κs. let r = c .before .before .before in
     let m = r .before in
-    asked (m .before .before .before) (m .match .keys10) (r .row10 .ensures) refl)
+    asked (m .before .before .before) (m .match .keys13) (r .row10 .ensures) refl)
     (λ c κs. search needs)
     (λ c. search needs)
     (λ c. search needs)
@@ -139,7 +156,7 @@ read-listed-spec =
     (λ c. search needs)
     (λ c κs. let r = c .before .before .before in
     let m = r .before in
-    asked (m .before .before .before) (m .match .keys11) (r .row11 .ensures) refl)
+    asked (m .before .before .before) (m .match .keys14) (r .row11 .ensures) refl)
     (λ c κs. search needs)
     (λ c. search needs)
     (λ c. search needs)
@@ -147,88 +164,76 @@ read-listed-spec =
     (λ c. search needs)
     (λ c κs. let r = c .before .before .before in
     let m = r .before in
-    asked (m .before .before .before) (m .match .keys12) (r .row12 .ensures) refl)
-    (λ c κs. search needs)
+    asked (m .before .before .before) (last m) (r .row12 .ensures) refl)
     (λ c. search needs)
-    (λ c. search needs)
-    (λ c. search needs)
-    (λ c. search needs)
-    (λ c κs. let r = c .before .before .before in let m = r .before in asked (m .before .before .before) (last m) (r .row13 .ensures) refl)
-    (λ c. search needs)
-    (λ c.
-    let t = c .before .before in
+    (λ c. let t = c .before .before in
     let r = t .before .before .before .before in
     let m = r .before in
     left (m .before .before .before) (m .match .keys1) (r .row .ensures) refl (t .read-row .ensures))
     (λ c. search needs)
-    (λ c.
-    let t = c .before .before in
+    (λ c. let t = c .before .before in
     let r = t .before .before .before .before in
     let m = r .before in
     left (m .before .before .before) (m .match .keys2) (r .row2 .ensures) refl (t .read-row2 .ensures))
     (λ c. search needs)
-    (λ c.
-    let t = c .before .before in
-    let r = t .before .before .before .before in
-    let m = r .before in
-    left (m .before .before .before) (m .match .keys3) (r .row3 .ensures) refl (t .read-row3 .ensures))
+    (λ c. let t = c .before .before in
+    let m = t .before .before in
+    parts-left (m .before .before .before) 2 (m .match .keys3) (t .read-ek500-sounder .ensures))
     (λ c. search needs)
-    (λ c.
-    let t = c .before .before in
-    let r = t .before .before .before .before in
-    let m = r .before in
-    left (m .before .before .before) (m .match .keys4) (r .row4 .ensures) refl (t .read-row4 .ensures))
+    (λ c. let t = c .before .before in
+    let m = t .before .before in
+    parts-left (m .before .before .before) 3 (m .match .keys4) (t .read-channel .ensures))
     (λ c. search needs)
-    (λ c.
-    let t = c .before .before in
-    let r = t .before .before .before .before in
-    let m = r .before in
-    left (m .before .before .before) (m .match .keys5) (r .row5 .ensures) refl (t .read-row5 .ensures))
+    (λ c. let t = c .before .before in
+    let m = t .before .before in
+    parts-left (m .before .before .before) 4 (m .match .keys5) (t .read-ek500-channel .ensures))
     (λ c. search needs)
-    (λ c.
-    let t = c .before .before in
+    (λ c. let t = c .before .before in
     let r = t .before .before .before .before in
     let m = r .before in
-    left (m .before .before .before) (m .match .keys6) (r .row6 .ensures) refl (t .read-row6 .ensures))
+    left (m .before .before .before) (m .match .keys6) (r .row3 .ensures) refl (t .read-row3 .ensures))
     (λ c. search needs)
-    (λ c.
-    let t = c .before .before in
+    (λ c. let t = c .before .before in
     let r = t .before .before .before .before in
     let m = r .before in
-    left (m .before .before .before) (m .match .keys7) (r .row7 .ensures) refl (t .read-row7 .ensures))
+    left (m .before .before .before) (m .match .keys7) (r .row4 .ensures) refl (t .read-row4 .ensures))
     (λ c. search needs)
-    (λ c.
-    let t = c .before .before in
+    (λ c. let t = c .before .before in
     let r = t .before .before .before .before in
     let m = r .before in
-    left (m .before .before .before) (m .match .keys8) (r .row8 .ensures) refl (t .read-row8 .ensures))
+    left (m .before .before .before) (m .match .keys8) (r .row5 .ensures) refl (t .read-row5 .ensures))
     (λ c. search needs)
-    (λ c.
-    let t = c .before .before in
+    (λ c. let t = c .before .before in
     let r = t .before .before .before .before in
     let m = r .before in
-    left (m .before .before .before) (m .match .keys9) (r .row9 .ensures) refl (t .read-row9 .ensures))
+    left (m .before .before .before) (m .match .keys9) (r .row6 .ensures) refl (t .read-row6 .ensures))
     (λ c. search needs)
-    (λ c.
-    let t = c .before .before in
+    (λ c. let t = c .before .before in
     let r = t .before .before .before .before in
     let m = r .before in
-    left (m .before .before .before) (m .match .keys10) (r .row10 .ensures) refl (t .read-row10 .ensures))
+    left (m .before .before .before) (m .match .keys10) (r .row7 .ensures) refl (t .read-row7 .ensures))
     (λ c. search needs)
-    (λ c.
-    let t = c .before .before in
+    (λ c. let t = c .before .before in
     let r = t .before .before .before .before in
     let m = r .before in
-    left (m .before .before .before) (m .match .keys11) (r .row11 .ensures) refl (t .read-row11 .ensures))
+    left (m .before .before .before) (m .match .keys11) (r .row8 .ensures) refl (t .read-row8 .ensures))
     (λ c. search needs)
-    (λ c.
-    let t = c .before .before in
+    (λ c. let t = c .before .before in
     let r = t .before .before .before .before in
     let m = r .before in
-    left (m .before .before .before) (m .match .keys12) (r .row12 .ensures) refl (t .read-row12 .ensures))
+    left (m .before .before .before) (m .match .keys12) (r .row9 .ensures) refl (t .read-row9 .ensures))
     (λ c. search needs)
-    (λ c.
-    let t = c .before .before in
+    (λ c. let t = c .before .before in
     let r = t .before .before .before .before in
     let m = r .before in
-    left (m .before .before .before) (last m) (r .row13 .ensures) refl (t .read-row13 .ensures)))
+    left (m .before .before .before) (m .match .keys13) (r .row10 .ensures) refl (t .read-row10 .ensures))
+    (λ c. search needs)
+    (λ c. let t = c .before .before in
+    let r = t .before .before .before .before in
+    let m = r .before in
+    left (m .before .before .before) (m .match .keys14) (r .row11 .ensures) refl (t .read-row11 .ensures))
+    (λ c. search needs)
+    (λ c. let t = c .before .before in
+    let r = t .before .before .before .before in
+    let m = r .before in
+    left (m .before .before .before) (last m) (r .row12 .ensures) refl (t .read-row12 .ensures)))

@@ -1,10 +1,10 @@
 -- `turning::read_field` meets its contract: the codes of each arm have that arm's field. Assumes nothing.
-use mathlib.Core.Path.{refl, ap, _∙_}
+use mathlib.Core.Path.{ap, _∙_}
 use native.Mathlib.Omega.{arith}
 use borrow.Author.Needs.{needs}
 use Rattle.turning.specs.inner.Codes.{codeWidth, codeTakes}
-use Rattle.turning.proofs.Turned.{two, four, no-field}
-use Rattle.turning.proofs.Taking.{took2, took4, took-text, took-space, took-ident}
+use Rattle.turning.proofs.Turned.{two, four}
+use Rattle.turning.proofs.Taking.{took2, took4, took-text, took-space}
 use Rattle.turning.proofs.read_field.Statement.{statement}
 use Rattle.turning.proofs.read_field.Tie as tie
 
@@ -13,11 +13,6 @@ returns c = took2 _ _ _ _ _ (c .before .before .match .keys1) _ (c .wide .ensure
 
 returns-2 : tie.Need-returns-2
 returns-2 c = took4 _ _ _ _ _ (c .before .match .keys2) _ (c .read4 .ensures)
-
-returns-6 : tie.Need-returns-6
-returns-6 c =
-    let r = c .match .rest in
-    rw (no-field (r .0 .0 .0 .0 .1) (r .0 .0 .0 .1) (r .0 .0 .1) (r .0 .1) (r .1)) (refl, ((refl, λ e. refl), (refl, omega arith)))
 
 pub read-field-spec : {M : Type 1} → statement M
 read-field-spec =
@@ -35,6 +30,4 @@ read-field-spec =
     (λ c. search needs)
     returns-2
     (λ c. took-text _ _ _ _ _ (c .match .keys3))
-    (λ c. took-space _ _ _ _ _ (c .match .keys4))
-    (λ c. took-ident _ _ _ _ _ (c .match .keys5))
-    returns-6)
+    (λ c. let r = c .match .rest in took-space _ _ _ _ _ (r .0 .0 .1) (r .0 .1) (r .1) (c .before .before .before .pre .0)))

@@ -36,7 +36,8 @@ HAC fisheries recordings: checked, walked and brought to their normal form.
   hac normal FILE -o OUT    writes a file's normal form to OUT, whole or not at all
   hac walk FILE [--back]    a file's tuples: place, type, name, length
   hac parents FILE PLACE    the channel and the sounder of the ping at a place, with
-                            the channel's sampling rate and type of data sample
+                            the channel's sampling rate and type of data sample,
+                            and who made both
   hac samples FILE PLACE    the samples of the ping at a place: number, value
 
   --json       one object a line

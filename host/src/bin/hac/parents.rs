@@ -1,5 +1,5 @@
-//! `hac parents`: the channel and the sounder of a ping, and what the channel says
-//! of its samples.
+//! `hac parents`: the channel and the sounder of a ping, what the channel says of its
+//! samples, and who made both.
 
 use crate::json::Object;
 use crate::output::Output;
@@ -7,9 +7,12 @@ use crate::stop::Stop;
 
 pub fn run(file: &[u8], place: usize, output: &mut Output) -> Result<(), Stop> {
     let parents = hac::ask(file, place)?;
+    // the sounder's too: an accepted file has no channel with the other maker's
+    let maker = hac::maker_at(file, parents.channel_place).expect("a listed channel");
     output.tell(
         format_args!(
-            "channel {} at {}, sampling rate {}, type of data sample {}, echosounder {} at {}",
+            "channel {} at {}, sampling rate {}, type of data sample {}, echosounder {} at {}, \
+             maker {maker}",
             parents.channel.0,
             parents.channel_place,
             parents.sampling_rate,
@@ -25,6 +28,7 @@ pub fn run(file: &[u8], place: usize, output: &mut Output) -> Result<(), Stop> {
                 .number("type_of_data_sample", parents.type_of_data_sample)
                 .number("sounder", parents.sounder.0)
                 .number("sounder_place", parents.sounder_place)
+                .text("maker", maker.name())
         },
     )?;
     Ok(())

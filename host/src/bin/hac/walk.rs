@@ -16,7 +16,7 @@ pub fn run(file: &[u8], back: bool, output: &mut Output) -> Result<(), Stop> {
         let name = types::name(tuple.kind);
         output.tell(
             format_args!(
-                "{:>8}  {:>5}  {name:<12}  {:>6}",
+                "{:>8}  {:>5}  {name:<21}  {:>6}",
                 tuple.place, tuple.kind, tuple.length
             ),
             || {

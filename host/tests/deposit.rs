@@ -1,0 +1,160 @@
+//! Files put together tuple by tuple, of either maker's sounders and channels.
+
+use hac::*;
+
+/// 02's limits.
+pub const SOUNDERS: u32 = 64;
+pub const CHANNELS: u16 = 1024;
+
+pub const ORDERS: [Order; 2] = [Order::Lsb, Order::Msb];
+
+/// The bytes of a channel's tuple, either maker's, the longest that is written here.
+const LONGEST: usize = 108;
+
+const REMARKS: [u8; REMARK] = [b' '; REMARK];
+
+/// A file that tuples are put to, each behind the others. What puts one gives its
+/// place.
+#[derive(Clone)]
+pub struct Deposit {
+    order: Order,
+    pub bytes: Vec<u8>,
+    pub tuples: usize,
+}
+
+impl Deposit {
+    /// Mark, signature and a position.
+    pub fn begun(order: Order) -> Deposit {
+        let mut deposit = Deposit {
+            order,
+            bytes: order.mark().to_vec(),
+            tuples: 0,
+        };
+        deposit.put(|order, out| Signature::default().write(order, out));
+        deposit.put(|order, out| Position::default().write(order, out));
+        deposit
+    }
+
+    pub fn put(&mut self, write: impl FnOnce(Order, &mut [u8]) -> Result<usize, Refusal>) -> usize {
+        let place = self.bytes.len();
+        let mut tuple = [0; LONGEST];
+        let length = write(self.order, &mut tuple).expect("a tuple");
+        self.bytes.extend(&tuple[..length]);
+        self.tuples += 1;
+        place
+    }
+
+    /// A sounder, of Biosonics where nothing else is said.
+    pub fn sounder(&mut self, document: u32, channels: u16) -> usize {
+        self.sounder_by(Maker::Biosonics, document, channels)
+    }
+
+    pub fn sounder_by(&mut self, maker: Maker, document: u32, channels: u16) -> usize {
+        let number_of_software_channels = channels;
+        let echosounder_document_identifier = DocumentId(document);
+        self.put(|order, out| match maker {
+            Maker::Biosonics => Sounder {
+                number_of_software_channels,
+                echosounder_document_identifier,
+                ..Sounder::default()
+            }
+            .write(&REMARKS, order, out),
+            Maker::Simrad => Ek500Sounder {
+                number_of_software_channels,
+                echosounder_document_identifier,
+                ..Ek500Sounder::default()
+            }
+            .write(&REMARKS, order, out),
+        })
+    }
+
+    /// A channel, of Biosonics where nothing else is said.
+    pub fn channel(&mut self, number: u16, document: u32) -> usize {
+        self.channel_by(Maker::Biosonics, number, document)
+    }
+
+    pub fn channel_by(&mut self, maker: Maker, number: u16, document: u32) -> usize {
+        let software_channel_identifier = SoftwareChannel(number);
+        let echosounder_document_identifier = DocumentId(document);
+        match maker {
+            Maker::Biosonics => self.channel_of(Channel {
+                software_channel_identifier,
+                echosounder_document_identifier,
+                ..Channel::default()
+            }),
+            Maker::Simrad => self.ek500_channel_of(Ek500Channel {
+                software_channel_identifier,
+                echosounder_document_identifier,
+                ..Ek500Channel::default()
+            }),
+        }
+    }
+
+    pub fn channel_of(&mut self, channel: Channel) -> usize {
+        self.put(|order, out| channel.write(&REMARKS, order, out))
+    }
+
+    pub fn ek500_channel_of(&mut self, channel: Ek500Channel) -> usize {
+        self.put(|order, out| channel.write(&REMARKS, order, out))
+    }
+
+    pub fn ping_u32(&mut self, channel: u16) -> usize {
+        self.put(|order, out| write_u32(&header(channel), 0, &[0], &[5], order, out))
+    }
+
+    pub fn ping_c32(&mut self, channel: u16) -> usize {
+        self.put(|order, out| write_c32(&header(channel), 0, &[0], &[5], order, out))
+    }
+
+    pub fn threshold(&mut self, channel: u16) -> usize {
+        let threshold = Threshold {
+            software_channel_identifier: SoftwareChannel(channel),
+            ..Threshold::default()
+        };
+        self.put(|order, out| threshold.write(order, out))
+    }
+
+    pub fn attitude(&mut self, channel: u16) -> usize {
+        let attitude = Attitude {
+            software_channel_identifier: SoftwareChannel(channel),
+            ..Attitude::default()
+        };
+        self.put(|order, out| attitude.write(order, out))
+    }
+
+    /// The end of file behind all.
+    pub fn ended(&mut self) -> &[u8] {
+        self.put(|order, out| FileEnd::default().write(order, out));
+        &self.bytes
+    }
+
+    /// Accepted, with so many identifiers compared: by the check, by the normaliser,
+    /// and by a question about the ping at a place.
+    pub fn compares(mut self, ping: usize, compared: usize) {
+        self.ended();
+        let (file, tuples) = (&self.bytes, self.tuples);
+        assert_eq!(check(file), Ok(Counts { tuples, compared }));
+        let mut out = vec![0; file.len()];
+        let normal = normalise(file, &mut out).expect("a normal form");
+        assert_eq!((normal.tuples, normal.compared), (tuples, compared));
+        let parents = ask(file, ping).expect("its parents");
+        assert_eq!((parents.tuples, parents.compared), (tuples, compared));
+        assert!(compared <= usize::from(CHANNELS) * tuples);
+    }
+
+    /// Refused by the check, the normaliser and questions alike.
+    pub fn refused(mut self, code: Code, place: usize) {
+        let file = self.ended();
+        let refusal = Refusal { code, place };
+        assert_eq!(check(file), Err(refusal));
+        assert_eq!(normalise(file, &mut []), Err(refusal));
+        assert_eq!(ask(file, place), Err(refusal));
+    }
+}
+
+fn header(channel: u16) -> PingHeader {
+    PingHeader {
+        software_channel_identifier: SoftwareChannel(channel),
+        ..PingHeader::default()
+    }
+}
