@@ -4,6 +4,7 @@
 use crate::deposit::{Deposit, CHANNELS, ORDERS, SOUNDERS};
 use crate::json;
 use crate::known::two_bytes;
+use crate::pings::printed;
 use crate::room::{hac, run, Room};
 use hac::*;
 
@@ -364,16 +365,7 @@ fn parents_by_the_command() {
                 Maker::Simrad => "Simrad",
             };
             let ran = run(hac(["parents"]).arg(&path).arg(ping.to_string()));
-            let line = format!(
-                "channel {} at {}, sampling rate {}, type of data sample {}, \
-                 echosounder {} at {}, maker {named}\n",
-                parents.channel.0,
-                parents.channel_place,
-                parents.sampling_rate,
-                parents.type_of_data_sample,
-                parents.sounder.0,
-                parents.sounder_place
-            );
+            let line = printed(&parents, named);
             assert_eq!((ran.status, ran.out, ran.err), (0, line, String::new()));
             let ran = run(hac(["parents", "--json"]).arg(&path).arg(ping.to_string()));
             assert_eq!(json::objects(&ran.out)[0].text("maker"), named);

@@ -209,6 +209,20 @@ fn parents() {
     }
 }
 
+/// The line that `hac parents` prints of a ping's parents.
+pub fn printed(parents: &Parents, maker: &str) -> String {
+    format!(
+        "channel {} at {}, sampling rate {}, type of data sample {}, echosounder {} at {}, \
+         maker {maker}\n",
+        parents.channel.0,
+        parents.channel_place,
+        parents.sampling_rate,
+        parents.type_of_data_sample,
+        parents.sounder.0,
+        parents.sounder_place
+    )
+}
+
 #[test]
 fn printed_parents() {
     let known = Known::sample("cruise-msb-cut");
@@ -220,16 +234,7 @@ fn printed_parents() {
         };
         let place = ping.place.to_string();
         let ran = run(hac(["parents"]).arg(&known.path).arg(&place));
-        let line = format!(
-            "channel {} at {}, sampling rate {}, type of data sample {}, echosounder {} at {}, \
-             maker {maker}\n",
-            parents.channel.0,
-            parents.channel_place,
-            parents.sampling_rate,
-            parents.type_of_data_sample,
-            parents.sounder.0,
-            parents.sounder_place
-        );
+        let line = printed(&parents, maker);
         assert_eq!((ran.status, ran.out, ran.err), (0, line, String::new()));
         let ran = run(hac(["parents", "--json"]).arg(&known.path).arg(&place));
         let object = &json::objects(&ran.out)[0];

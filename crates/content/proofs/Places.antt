@@ -18,11 +18,11 @@ use Rattle.layout.specs.Types.{Listing, shapeOf, lengthsOf, saysOf, Length, fit
 use Rattle.layout.specs.declared.Says.{Says}
 use Rattle.layout.specs.declared.Says.the-variants.{Nothing, Sounder, Channel, Names, NamesOrAll}
 use Rattle.layout.specs.inner.Codes.{fieldsIn}
-use Rattle.layout.proofs.Tables.{alike, lengths-from}
+use Rattle.layout.proofs.Tables.{alike, alike-all, lengths-from}
 use Rattle.turning.specs.Rows.{Value, valuesOf}
 use Rattle.turning.proofs.Contents.{valuesAt, values-at, values-take, within-take}
 use Rattle.frame.specs.Frames.{Tup, lengthOf, sizeAt, kindAt, tupAt}
-use Rattle.rules.proofs.Bools.{both-true, and-false, and-true}
+use Rattle.rules.proofs.Bools.{both-true, and-false, and-true, same-arms}
 use Rattle.frame.proofs.Places.{Whole, body-place}
 use Rattle.links.specs.Links.{Link, Digest}
 use Rattle.links.specs.Links
@@ -131,12 +131,8 @@ opening NamesOrAll = u 2 ∷ u 4 ∷ u 2 ∷ []
 
 opens : (k : ℕ) → take (length (opening (saysOf k))) (fieldsIn (shapeOf k)) ≡ opening (saysOf k)
 opens =
-    alike (λ k l. take (length (opening (l .says))) (fieldsIn (l .shape))) (λ k l. opening (l .says)) (unfold listings in refl) others
-  where
-    others : (k : ℕ) (b : Bool) → inClass index k ≡ b
-        → take (length (opening (notListed b .says))) (fieldsIn (notListed b .shape)) ≡ opening (notListed b .says)
-    others k true e = refl
-    others k false e = refl
+    alike-all (λ k l. take (length (opening (l .says))) (fieldsIn (l .shape))) (λ k l. opening (l .says)) (unfold listings in refl)
+    (λ k. refl) (λ k. refl)
 
 -- both pings name a channel, and what isn't listed says nothing
 abbrev sayableBy : Shape → Says → Says
@@ -147,11 +143,8 @@ sayableBy words a = Names
 sayableBy unlisted a = Nothing
 
 sayable : (k : ℕ) → sayableBy (shapeOf k) (saysOf k) ≡ saysOf k
-sayable = alike (λ k l. sayableBy (l .shape) (l .says)) (λ k l. l .says) (unfold listings in refl) others
-  where
-    others : (k : ℕ) (b : Bool) → inClass index k ≡ b → sayableBy (notListed b .shape) (notListed b .says) ≡ notListed b .says
-    others k true e = refl
-    others k false e = refl
+sayable =
+    alike-all (λ k l. sayableBy (l .shape) (l .says)) (λ k l. l .says) (unfold listings in refl) (λ k. refl) (λ k. refl)
 
 -- ---- a whole tuple of n bytes at a place
 module _ (o : Bool) (f : List ℕ) (at n : ℕ) (w : Whole o f at n) where
@@ -324,19 +317,12 @@ module _ (o : Bool) (f : List ℕ) (at n : ℕ) (w : Whole o f at n) where
   samples-C e h = (contentC o (t .body), ap (λ (k : ℕ). itemBy (shapeOf k) o t) e, ap (decode radix) (words-C h))
 
 -- ---- codes of no concern to a rule
-pub same-arms : {A : Type 0} (b : Bool) (x : A) → cond b x x ≡ x
-same-arms true x = refl
-same-arms false x = refl
-
 module _ (o : Bool) (t : Tup) where
   pub identified-other : (t .kind ≡ 65535 → ⊥) → identifiedBy (shapeOf (t .kind)) o t ≡ true
   identified-other a =
       ap (λ (b : Bool). cond b true (identifiedBy (shapeOf (t .kind)) o t)) (sym (ne-eqb (t .kind) 65535 a))
-      ∙ alike (λ k l. cond (eqb k 65535) true (identifiedBy (l .shape) o t)) (λ k l. true) (unfold listings in refl) others (t .kind)
-    where
-      others : (k : ℕ) (b : Bool) → inClass index k ≡ b → cond (eqb k 65535) true (identifiedBy (notListed b .shape) o t) ≡ true
-      others k true e = same-arms (eqb k 65535) true
-      others k false e = same-arms (eqb k 65535) true
+      ∙ alike-all (λ k l. cond (eqb k 65535) true (identifiedBy (l .shape) o t)) (λ k l. true) (unfold listings in refl)
+      (λ k. same-arms (eqb k 65535) true) (λ k. same-arms (eqb k 65535) true) (t .kind)
 
   abbrev isSampled : ℕ → Bool
   isSampled k = eqb k 10000 || eqb k 10010
@@ -344,8 +330,5 @@ module _ (o : Bool) (t : Tup) where
   pub inner-other : (t .kind ≡ 10000 → ⊥) → (t .kind ≡ 10010 → ⊥) → judged (innerRules o t) ≡ Fine
   inner-other a b =
       ap₂ (λ (u c : Bool). cond (u || c) Fine (judged (innerRules o t))) (sym (ne-eqb (t .kind) 10000 a)) (sym (ne-eqb (t .kind) 10010 b))
-      ∙ alike (λ k l. cond (isSampled k) Fine (judged (innerBy (l .shape) o t))) (λ k l. Fine) (unfold listings in refl) others (t .kind)
-    where
-      others : (k : ℕ) (b : Bool) → inClass index k ≡ b → cond (isSampled k) Fine (judged (innerBy (notListed b .shape) o t)) ≡ Fine
-      others k true e = same-arms (isSampled k) Fine
-      others k false e = same-arms (isSampled k) Fine
+      ∙ alike-all (λ k l. cond (isSampled k) Fine (judged (innerBy (l .shape) o t))) (λ k l. Fine) (unfold listings in refl)
+      (λ k. same-arms (isSampled k) Fine) (λ k. same-arms (isSampled k) Fine) (t .kind)

@@ -6,13 +6,14 @@ use Prim.Native.Nat.{ℕ, _+_, _-_, _≤_, _<_}
 use native.Mathlib.Omega.{arith}
 use borrow.Author.Tests.{eqb-true, ne-eqb}
 use lib.Dec.{eqb, lit<}
+use Rattle.rules.proofs.Bools.{same-arms}
 use Rattle.layout.specs.Fields.{size}
-use Rattle.layout.specs.Types.{Shape, indexed, row, pairs, words, unlisted, Length, fitting, inClass, index, listings, notListed, among}
+use Rattle.layout.specs.Types.{Shape, indexed, row, pairs, words, unlisted, Length, fitting, inClass, index, listings, among}
 use Rattle.layout.specs.Types.{listingOf, shapeOf, listed, pingRow, lengthFrom}
 use Rattle.layout.specs.inner.Codes.{placeAmong, placeIn, fieldsIn}
-use Rattle.layout.proofs.Tables.{Tabled, tabled, fields-there, alike, lengths-from}
+use Rattle.layout.proofs.Tables.{Tabled, tabled, fields-there, alike-all, lengths-from}
 use Rattle.content.proofs.Fine.{upward-least}
-use Rattle.content.proofs.Places.{Shaped, shaped, same-arms}
+use Rattle.content.proofs.Places.{Shaped, shaped}
 use Rattle.intake.specs.inner.Tallies.{Fits}
 use Rattle.forms.specs.inner.Parts.{listedFields, Rowed}
 use Rattle.forms.proofs.Placed.{within-index}
@@ -98,11 +99,8 @@ unfolding isBare
 bare k a b =
     bare-by (shapeOf k)
     (ap₂ (λ (u c : Bool). cond (u || c) true (isBare (shapeOf k))) (sym (ne-eqb k 10110 a)) (sym (ne-eqb k 65534 b))
-    ∙ alike (λ j l. cond (texted j) true (isBare (l .shape))) (λ j l. true) (unfold listings in refl) others k)
-  where
-    others : (j : ℕ) (c : Bool) → inClass index j ≡ c → cond (texted j) true (isBare (notListed c .shape)) ≡ true
-    others j true e = same-arms (texted j) true
-    others j false e = same-arms (texted j) true
+    ∙ alike-all (λ j l. cond (texted j) true (isBare (l .shape))) (λ j l. true) (unfold listings in refl)
+    (λ j. same-arms (texted j) true) (λ j. same-arms (texted j) true) k)
 
 -- the fields and the least length of an event and of an end of file
 pub text-event : {n k : ℕ} → Fits n k → k ≡ 10110 → (12 ≡ 6 + size (listedFields (placeIn k))) × (20 ≤ n)

@@ -17,7 +17,7 @@ ghost use Rattle.frame.specs.inner.Framing.{openingBytes, closeBytes};
 ghost use Rattle.content.specs.Forms.{formBytes};
 ghost use Rattle.intake.specs.inner.Tallies.{Fits};
 ghost use Rattle.forms.specs.inner.Sound.{SoundHere};
-ghost use Rattle.forms.specs.inner.Parts.{silence, listedFields, Rowed};
+ghost use Rattle.forms.specs.inner.Parts.{silence, listedFields, firstListings, Rowed};
 
 // The places of an event's characters and of an end of file's data bytes.
 const EVENT_TEXT: usize = 12;
@@ -55,7 +55,7 @@ pub fn form_length(file: &[u8], at: usize, msb: bool, whole: usize, code: u16) -
 // its dots: so that the compiler makes plain loads and stores of the loop over it, if it has fifteen fields at most. It does so where it
 // takes these functions into their one caller, and that only up to some size: so they are two. Of the signature and of what declares,
 fn turn_first(file: &[u8], at: usize, msb: bool, listing: usize, out: &mut [u8], to: usize)
-    requires { ⌜ listing < 5 ⌝ }
+    requires { ⌜ listing < firstListings ⌝ }
     requires { ⌜ at + size (listedFields listing) ≤ length (now file) ⌝ }
     requires { ⌜ to + size (listedFields listing) ≤ length (now out) ⌝ }
     ensures { λ _. ⌜ now (out .exit) ≡ sets (now (out .entry)) to (turned msb (listedFields listing) (drop at (now (file .entry)))) ⌝ }

@@ -18,8 +18,7 @@ use Rattle.layout.specs.declared.Maker.{Maker}
 use Rattle.layout.specs.declared.Says.{Says}
 use Rattle.layout.specs.declared.Says.the-variants as says
 use Rattle.layout.specs.Types.{listings, among, listingOf, shapeOf, lengthsOf, saysOf, Length, leastOf, exactly, upward, free, fitting}
-use Rattle.layout.specs.Types.{notListed, inClass, index}
-use Rattle.layout.proofs.Tables.{alike}
+use Rattle.layout.proofs.Tables.{alike-all}
 use Rattle.layout.proofs.Verdicts.{passes, judged-append}
 use Rattle.frame.specs.Frames.{Tup, kindAt, tupAt, framing}
 use Rattle.rules.proofs.Bools.{both-true}
@@ -70,11 +69,7 @@ roomyBy says.Names l = true
 roomyBy says.NamesOrAll l = true
 
 roomy : (k : ℕ) → roomyBy (saysOf k) (lengthsOf k) ≡ true
-roomy = alike (λ k l. roomyBy (l .says) (l .length)) (λ k l. true) (unfold listings in refl) others
-  where
-    others : (k : ℕ) (b : Bool) → inClass index k ≡ b → roomyBy (notListed b .says) (notListed b .length) ≡ true
-    others k true e = refl
-    others k false e = refl
+roomy = alike-all (λ k l. roomyBy (l .says) (l .length)) (λ k l. true) (unfold listings in refl) (λ k. refl) (λ k. refl)
 
 roomy-for : (k n : ℕ) (m : Maker) → saysOf k ≡ says.Channel m → Fits n k → 18 ≤ n
 roomy-for k n m e g =

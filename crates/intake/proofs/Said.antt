@@ -9,14 +9,14 @@ use borrow.Author.Tests.{eqb-true, leb-true, leb-false, not-false}
 use lib.Dec.{eqb, leb, lit≤}
 use lib.ListN.{length, take, drop, length-take, length-drop}
 use Rattle.rules.specs.Rules.{_⇒_}
-use Rattle.rules.proofs.Bools.{both-true}
+use Rattle.rules.proofs.Bools.{both-true, same-arms}
 use Rattle.layout.specs.declared.Verdict.the-variants.{Fine, Fault}
 use Rattle.layout.specs.Answers.{both, judged, _byte_}
 use Rattle.layout.specs.declared.Says.{Says}
 use Rattle.layout.specs.declared.Says.the-variants as says
 use Rattle.layout.specs.Types
-use Rattle.layout.specs.Types.{Shape, indexed, row, pairs, words, unlisted, classes, inClass, listings, notListed, shapeOf, saysOf}
-use Rattle.layout.proofs.Tables.{alike}
+use Rattle.layout.specs.Types.{Shape, indexed, row, pairs, words, unlisted, classes, inClass, listings, shapeOf, saysOf}
+use Rattle.layout.proofs.Tables.{alike-all}
 use Rattle.layout.proofs.Verdicts.{both-left, both-right, passes, Near, AllNear, near-rules, near-append, near-both, near-fault}
 use Rattle.turning.specs.Rows.{Value, valuesOf}
 use Rattle.frame.specs.Frames.{Tup, allowed, sizeAt, lenAt, tupAt, frameRules, framing}
@@ -32,7 +32,6 @@ use Rattle.links.specs.declared.Channel.{Channel}
 use Rattle.links.specs.Links.{Link, mostSounders, mostChannels, signRules, rulesAmong}
 use Rattle.content.specs.Items.{rowIn, itemBy, itemOf, unless, linkBy, numberAt, digestOf, digestItem, digest, headRules, innerBy}
 use Rattle.content.specs.Items.{innerRules}
-use Rattle.content.proofs.Places.{same-arms}
 use Rattle.content.specs.Pings.{headU, headC, wordsIn, contentU}
 use Rattle.intake.specs.inner.Tallies.{headVerdict, linkVerdict, innerVerdict, ownVerdict, turnVerdict}
 use Rattle.intake.proofs.Turns.{emptied}
@@ -186,11 +185,8 @@ unfolding isQuiet
 quiet-class k e =
     quiet-by (saysOf k)
     (ap (λ (b : Bool). cond b true (isQuiet (saysOf k))) (sym e)
-    ∙ alike (λ j l. cond (ofDeclaring j) true (isQuiet (l .says))) (λ j l. true) (unfold listings inClass classes in refl) others k)
-  where
-    others : (j : ℕ) (b : Bool) → inClass Types.index j ≡ b → cond (ofDeclaring j) true (isQuiet (notListed b .says)) ≡ true
-    others j true e = same-arms (ofDeclaring j) true
-    others j false e = same-arms (ofDeclaring j) true
+    ∙ alike-all (λ j l. cond (ofDeclaring j) true (isQuiet (l .says))) (λ j l. true) (unfold listings inClass classes in refl)
+    (λ j. same-arms (ofDeclaring j) true) (λ j. same-arms (ofDeclaring j) true) k)
 
 -- nor is an end of file of these
 pub no-end-class : (k : ℕ) → ofDeclaring k ≡ true → k ≡ 65534 → ⊥

@@ -8,38 +8,38 @@ use native.Mathlib.Omega.{arith}
 use borrow.Author.Tests.{le-leb, lt-leb, leb-true, leb-false, eqb-true, eq-eqb, ne-eqb}
 use lib.Dec.{eqb, leb}
 use lib.ListN.{length, getD, drop}
-use Rattle.rules.proofs.Bools.{both-true}
+use Rattle.rules.proofs.Bools.{both-true, same-arms}
 use Rattle.layout.specs.declared.Says.{Says}
 use Rattle.layout.specs.declared.Says.the-variants.{Nothing, Sounder, Channel, Names, NamesOrAll}
 use Rattle.layout.specs.Fields.{Field, size}
 use Rattle.layout.specs.Types.{Shape, indexed, row, pairs, words, unlisted, classes, inClass, index}
 use Rattle.layout.specs.Types.{Length, free, exactly, upward, fitting, lengthFrom, leastOf, stepOf}
-use Rattle.layout.specs.Types.{Listing, Listed, type, listings, listed, notListed, among, listingOf, shapeOf, lengthsOf, saysOf}
+use Rattle.layout.specs.Types.{Listing, Entry, entry, listings, listed, notListed, among, listingOf, shapeOf, lengthsOf, saysOf}
 use Rattle.layout.specs.inner.Codes.{placeAmong, placeIn, fieldsIn, codesIn, rowCodes, fieldOf, fieldsOf}
 use Rattle.layout.specs.inner.Codes.{measuredBy, measures, lengthBy}
 
 -- ---- by the list
 -- what holds of each of some types
-abbrev Every : (ℕ → Listing → Type 0) → List Listed → Type 0
+abbrev Every : (ℕ → Listing → Type 0) → List Entry → Type 0
 Every P [] = Unit {0}
 Every P (l ∷ ls) = P (l .code) (l .listing) × Every P ls
 
 -- holds of what they say of a code, where it holds of the rest
-every-at : (P : ℕ → Listing → Type 0) (l : Listed) (k : ℕ) (x : Listing) → P (l .code) (l .listing) → P k x
+every-at : (P : ℕ → Listing → Type 0) (l : Entry) (k : ℕ) (x : Listing) → P (l .code) (l .listing) → P k x
     → (b : Bool) → eqb k (l .code) ≡ b → P k (cond b (l .listing) x)
 every-at P l k x h r true e = subst (λ (c : ℕ). P c (l .listing)) (sym (eqb-true k (l .code) e)) h
 every-at P l k x h r false e = r
 
-by-every : (P : ℕ → Listing → Type 0) (ls : List Listed) → Every P ls → (k : ℕ) (d : Listing) → P k d → P k (among k ls d)
+by-every : (P : ℕ → Listing → Type 0) (ls : List Entry) → Every P ls → (k : ℕ) (d : Listing) → P k d → P k (among k ls d)
 unfolding among
 by-every P [] e k d h = h
 by-every P (l ∷ ls) e k d h = every-at P l k (among k ls d) (e .0) (by-every P ls (e .1) k d h) (eqb k (l .code)) refl
 
 module _ {A : Type 0} (f g : ℕ → Listing → A) where
-  abbrev of-each : (ℕ → Listing → A) → Listed → A
+  abbrev of-each : (ℕ → Listing → A) → Entry → A
   of-each h l = h (l .code) (l .listing)
 
-  each-alike : (ls : List Listed) → map (of-each f) ls ≡ map (of-each g) ls → Every (λ k l. f k l ≡ g k l) ls
+  each-alike : (ls : List Entry) → map (of-each f) ls ≡ map (of-each g) ls → Every (λ k l. f k l ≡ g k l) ls
   each-alike [] e = tt
   each-alike (l ∷ ls) e = (ap (λ (xs : List A). getD xs 0 (of-each f l)) e, each-alike ls (ap (drop 1) e))
 
@@ -50,6 +50,15 @@ module _ {A : Type 0} (f g : ℕ → Listing → A) where
   alike e h k =
       by-every (λ k l. f k l ≡ g k l) listings (each-alike listings e) k (notListed (inClass index k)) (h k (inClass index k) refl)
 
+  -- where the class of the others decides nothing
+  pub alike-all : map (of-each f) listings ≡ map (of-each g) listings → ((k : ℕ) → f k (notListed true) ≡ g k (notListed true))
+      → ((k : ℕ) → f k (notListed false) ≡ g k (notListed false)) → (k : ℕ) → f k (listingOf k) ≡ g k (listingOf k)
+  alike-all e h i = alike e others
+    where
+      others : (k : ℕ) (b : Bool) → inClass index k ≡ b → f k (notListed b) ≡ g k (notListed b)
+      others k true q = h k
+      others k false q = i k
+
 -- ---- by the place
 -- an element of a list, in other words
 getD-in : {A B : Type 0} (f : A → B) (xs : List A) (i : ℕ) (x : A) (y : B) → i < length xs → getD (map f xs) i y ≡ f (getD xs i x)
@@ -58,30 +67,30 @@ getD-in f (a ∷ xs) zero x y h = refl
 getD-in f (a ∷ xs) (suc i) x y h = getD-in f xs i x y (omega arith)
 
 -- a code stands at its place
-stands-at : (k : ℕ) (l : Listed) (ls : List Listed) (x y : Listing) (p : ℕ) (d : Listed) → (p < length ls → getD ls p d .listing ≡ x)
+stands-at : (l : Entry) (ls : List Entry) (x : Listing) (p : ℕ) (d : Entry) → (p < length ls → getD ls p d .listing ≡ x)
     → (b : Bool) → cond b 0 (suc p) < length (l ∷ ls) → getD (l ∷ ls) (cond b 0 (suc p)) d .listing ≡ cond b (l .listing) x
-stands-at k l ls x y p d r true h = refl
-stands-at k l ls x y p d r false h = r (omega arith)
+stands-at l ls x p d r true h = refl
+stands-at l ls x p d r false h = r (omega arith)
 
-stands : (k : ℕ) (ls : List Listed) (x : Listing) (d : Listed) → placeAmong k ls < length ls
+stands : (k : ℕ) (ls : List Entry) (x : Listing) (d : Entry) → placeAmong k ls < length ls
     → getD ls (placeAmong k ls) d .listing ≡ among k ls x
 unfolding placeAmong among
 stands k [] x d h = absurd (omega arith)
 stands k (l ∷ ls) x d h =
-    stands-at k l ls (among k ls x) x (placeAmong k ls) d (stands k ls x d) (eqb k (l .code)) h
+    stands-at l ls (among k ls x) (placeAmong k ls) d (stands k ls x d) (eqb k (l .code)) h
 
 -- where it has none, nothing is listed of it
-apart-at : (l : Listed) (ls : List Listed) (x y : Listing) (p : ℕ) → (length ls ≤ p → x ≡ y)
+apart-at : (l : Entry) (ls : List Entry) (x y : Listing) (p : ℕ) → (length ls ≤ p → x ≡ y)
     → (b : Bool) → length (l ∷ ls) ≤ cond b 0 (suc p) → cond b (l .listing) x ≡ y
 apart-at l ls x y p r true h = absurd (omega arith)
 apart-at l ls x y p r false h = r (omega arith)
 
-apart : (k : ℕ) (ls : List Listed) (x : Listing) → length ls ≤ placeAmong k ls → among k ls x ≡ x
+apart : (k : ℕ) (ls : List Entry) (x : Listing) → length ls ≤ placeAmong k ls → among k ls x ≡ x
 unfolding placeAmong among
 apart k [] x h = refl
 apart k (l ∷ ls) x h = apart-at l ls (among k ls x) x (placeAmong k ls) (apart k ls x) (eqb k (l .code)) h
 
-no-more : (k : ℕ) (ls : List Listed) → placeAmong k ls ≤ length ls
+no-more : (k : ℕ) (ls : List Entry) → placeAmong k ls ≤ length ls
 unfolding placeAmong
 no-more k [] = omega arith
 no-more k (l ∷ ls) = by (eqb k (l .code)) (no-more k ls)
@@ -103,8 +112,8 @@ unfolding listingOf
 unplaced k e = apart k listings (notListed (inClass index k)) (omega (arith, how-many))
 
 -- for a place where none stands
-other : Listed
-other = type 0 free unlisted Nothing
+other : Entry
+other = entry 0 free unlisted Nothing
 
 -- what is computed alike of the listed types is alike of a code that has a place
 module _ (k : ℕ) (h : placeIn k < listed) where
@@ -118,23 +127,23 @@ module _ (k : ℕ) (h : placeIn k < listed) where
       let i = placeIn k in
       let j : i < length listings = omega (arith, how-many) in
       ap f (sym there)
-      ∙ sym (getD-in (λ (l : Listed). f (l .listing)) listings i other x j)
+      ∙ sym (getD-in (λ (l : Entry). f (l .listing)) listings i other x j)
       ∙ ap (λ (xs : List A). getD xs i x) e
-      ∙ getD-in (λ (l : Listed). g (l .listing)) listings i other x j
+      ∙ getD-in (λ (l : Entry). g (l .listing)) listings i other x j
       ∙ ap g there
 
   -- the tables at its place are those of its listing: what it measures,
   pub measure-there : getD measures (placeIn k) [] ≡ measuredBy (listingOf k)
   unfolding measures
   measure-there =
-      getD-in (λ (l : Listed). measuredBy (l .listing)) listings (placeIn k) other [] (omega (arith, how-many)) ∙ ap measuredBy there
+      getD-in (λ (l : Entry). measuredBy (l .listing)) listings (placeIn k) other [] (omega (arith, how-many)) ∙ ap measuredBy there
 
   -- and its row, whose codes are those of its fields
   pub fields-there : fieldsOf (getD rowCodes (placeIn k) []) ≡ fieldsIn (shapeOf k)
   unfolding rowCodes
   fields-there =
       let j : placeIn k < length listings = omega (arith, how-many) in
-      ap fieldsOf (getD-in (λ (l : Listed). codesIn (l .listing)) listings (placeIn k) other [] j ∙ ap codesIn there)
+      ap fieldsOf (getD-in (λ (l : Entry). codesIn (l .listing)) listings (placeIn k) other [] j ∙ ap codesIn there)
       ∙ each-there [] (λ l. fieldsOf (codesIn l)) (λ l. fieldsIn (l .shape)) (unfold listings fieldOf fieldsOf in refl)
 
   -- its row is little
@@ -229,11 +238,11 @@ pub not-in : (k c : ℕ) (cs : List ℕ) → NoneOf cs k → hasCode c cs ≡ tr
 not-in k c [] n e = absurd (true≢false (sym e))
 not-in k c (d ∷ cs) n e = not-this c d k (n .1) (hasCode c cs) (not-in k c cs (n .0)) e
 
-abbrev within : List ℕ → List Listed → Bool
+abbrev within : List ℕ → List Entry → Bool
 within cs [] = true
 within cs (l ∷ ls) = hasCode (l .code) cs && within cs ls
 
-missed-by : (k : ℕ) (cs : List ℕ) → NoneOf cs k → (ls : List Listed) → within cs ls ≡ true → placeAmong k ls ≡ length ls
+missed-by : (k : ℕ) (cs : List ℕ) → NoneOf cs k → (ls : List Entry) → within cs ls ≡ true → placeAmong k ls ≡ length ls
 unfolding placeAmong
 missed-by k cs n [] e = refl
 missed-by k cs n (l ∷ ls) e =
@@ -256,7 +265,7 @@ saying (Channel m) k cs = k ∷ cs
 saying Names k cs = k ∷ cs
 saying NamesOrAll k cs = k ∷ cs
 
-abbrev sayersOf : List Listed → List ℕ → List ℕ
+abbrev sayersOf : List Entry → List ℕ → List ℕ
 sayersOf [] cs = cs
 sayersOf (l ∷ ls) cs = sayersOf ls (saying (l .listing .says) (l .code) cs)
 
@@ -270,18 +279,11 @@ none-has k cs n = by (hasCode k cs) refl
     by true e = absurd (true≢false (sym (eq-eqb k k refl) ∙ not-in k k cs n e))
     by false e = refl
 
-same-arms : (b : Bool) → cond b Nothing Nothing ≡ Nothing
-same-arms true = refl
-same-arms false = refl
-
 pub quiet : (k : ℕ) → NoneOf sayers k → saysOf k ≡ Nothing
 quiet k n =
     ap (λ (b : Bool). cond b Nothing (saysOf k)) (sym (none-has k sayers n))
-    ∙ alike (λ j l. cond (hasCode j sayers) Nothing (l .says)) (λ j l. Nothing) (unfold listings in refl) others k
-  where
-    others : (j : ℕ) (b : Bool) → inClass index j ≡ b → cond (hasCode j sayers) Nothing (notListed b .says) ≡ Nothing
-    others j true e = same-arms (hasCode j sayers)
-    others j false e = same-arms (hasCode j sayers)
+    ∙ alike-all (λ j l. cond (hasCode j sayers) Nothing (l .says)) (λ j l. Nothing) (unfold listings in refl)
+    (λ j. same-arms (hasCode j sayers) Nothing) (λ j. same-arms (hasCode j sayers) Nothing) k
 
 -- ---- a length by its least and its step, as the code tests it
 pub fixed : (least step n : ℕ) → step ≡ 0 → eqb n least ≡ fitting (lengthBy least step) n
@@ -313,8 +315,4 @@ any k h n = by (inClass index k) ∙ ap (λ (l : Listing). fitting (l .length) n
 -- a type's lengths are those of its shape
 pub lengths-from : (k : ℕ) → lengthsOf k ≡ lengthFrom (shapeOf k)
 unfolding listings
-lengths-from = alike (λ k l. l .length) (λ k l. lengthFrom (l .shape)) refl by
-  where
-    by : (k : ℕ) (b : Bool) → inClass index k ≡ b → notListed b .length ≡ lengthFrom (notListed b .shape)
-    by k true e = refl
-    by k false e = refl
+lengths-from = alike-all (λ k l. l .length) (λ k l. lengthFrom (l .shape)) refl (λ k. refl) (λ k. refl)

@@ -77,43 +77,43 @@ pub record Listing : Type 0 where
 abbrev pub listing : Length → Shape → Says → Listing
 listing n h a = record { length = n; shape = h; says = a }
 
--- a listed type: its code, and what is listed of it
-pub record Listed : Type 0 where
+-- an entry of the list: a type's code, and what is listed of it
+pub record Entry : Type 0 where
   pub code : ℕ
   pub listing : Listing
 
-abbrev pub type : ℕ → Length → Shape → Says → Listed
-type k n h a = record { code = k; listing = listing n h a }
+abbrev pub entry : ℕ → Length → Shape → Says → Entry
+entry k n h a = record { code = k; listing = listing n h a }
 
 -- the one list: signature, both makers' echosounders and channels, position, navigation, attitude, threshold, event marker, both pings,
 -- start and end of run, end of file. One row for each type, each row the widths in order
-unfoldable pub listings : List Listed
+unfoldable pub listings : List Entry
 listings =
-    type 65535 (exactly 24) (row (ident ∷ u 2 ∷ u 2 ∷ u 4 ∷ []) none) Nothing
-    ∷ type 100 (exactly 72)
+    entry 65535 (exactly 24) (row (ident ∷ u 2 ∷ u 2 ∷ u 4 ∷ []) none) Nothing
+    ∷ entry 100 (exactly 72)
     (row (u 2 ∷ u 4 ∷ u 2 ∷ u 2 ∷ s 2 ∷ u 2 ∷ s 2 ∷ u 2 ∷ u 2 ∷ s 2 ∷ u 2 ∷ u 2 ∷ c 30 ∷ z 2 ∷ []) none) (Sounder Biosonics)
-    ∷ type 200 (exactly 80)
+    ∷ entry 200 (exactly 80)
     (row (u 2 ∷ u 4 ∷ u 2 ∷ u 2 ∷ u 2 ∷ u 2 ∷ u 2 ∷ u 2 ∷ u 2 ∷ u 2 ∷ u 2 ∷ s 4 ∷ u 2 ∷ s 2 ∷ u 4 ∷ c 30 ∷ []) none) (Sounder Simrad)
-    ∷ type 1000 (exactly 108)
+    ∷ entry 1000 (exactly 108)
     (row
     (u 2 ∷ u 4 ∷ u 4 ∷ u 2 ∷ u 2 ∷ u 2 ∷ z 2 ∷ u 4 ∷ u 4 ∷ s 2 ∷ s 2 ∷ s 2 ∷ s 2 ∷ u 2 ∷ u 2 ∷ u 2 ∷ u 2 ∷ u 2 ∷ u 2 ∷ u 2 ∷ s 2 ∷ s 2 ∷ s 2
     ∷ u 4 ∷ u 4 ∷ c 30 ∷ z 2 ∷ [])
     none) (Channel Biosonics)
-    ∷ type 2000 (exactly 108)
+    ∷ entry 2000 (exactly 108)
     (row
     (u 2 ∷ u 4 ∷ u 4 ∷ u 2 ∷ u 2 ∷ u 4 ∷ u 4 ∷ s 2 ∷ s 2 ∷ s 2 ∷ s 2 ∷ u 2 ∷ u 2 ∷ u 2 ∷ u 2 ∷ u 2 ∷ u 2 ∷ u 2 ∷ u 2 ∷ s 2 ∷ u 2 ∷ s 2 ∷ z 2
     ∷ u 4 ∷ u 4 ∷ c 30 ∷ z 2 ∷ [])
     none) (Channel Simrad)
-    ∷ type 20 (exactly 36) (row (s 2 ∷ u 4 ∷ u 4 ∷ u 2 ∷ z 2 ∷ s 4 ∷ s 4 ∷ []) none) Nothing
-    ∷ type 30 (exactly 28) (row (u 2 ∷ u 4 ∷ u 2 ∷ s 2 ∷ u 2 ∷ z 2 ∷ []) none) Nothing
-    ∷ type 40 (exactly 36) (row (u 2 ∷ u 4 ∷ u 2 ∷ u 2 ∷ s 2 ∷ s 2 ∷ s 2 ∷ s 2 ∷ s 2 ∷ z 2 ∷ []) none) NamesOrAll
-    ∷ type 10100 (exactly 44) (row (u 2 ∷ u 4 ∷ u 2 ∷ u 2 ∷ u 2 ∷ u 2 ∷ u 2 ∷ u 2 ∷ u 4 ∷ u 4 ∷ u 4 ∷ []) none) Names
-    ∷ type 10110 (upward 24 4) (row (u 2 ∷ u 4 ∷ []) (some 4)) Nothing
-    ∷ type 10000 (upward 40 8) pairs Names
-    ∷ type 10010 (upward 40 4) words Names
-    ∷ type 65516 (exactly 20) (row (u 2 ∷ u 4 ∷ []) none) Nothing
-    ∷ type 65517 (exactly 20) (row (u 2 ∷ u 4 ∷ []) none) Nothing
-    ∷ type 65534 (upward 24 4) (row (u 2 ∷ u 4 ∷ u 2 ∷ []) (some 2)) Nothing
+    ∷ entry 20 (exactly 36) (row (s 2 ∷ u 4 ∷ u 4 ∷ u 2 ∷ z 2 ∷ s 4 ∷ s 4 ∷ []) none) Nothing
+    ∷ entry 30 (exactly 28) (row (u 2 ∷ u 4 ∷ u 2 ∷ s 2 ∷ u 2 ∷ z 2 ∷ []) none) Nothing
+    ∷ entry 40 (exactly 36) (row (u 2 ∷ u 4 ∷ u 2 ∷ u 2 ∷ s 2 ∷ s 2 ∷ s 2 ∷ s 2 ∷ s 2 ∷ z 2 ∷ []) none) NamesOrAll
+    ∷ entry 10100 (exactly 44) (row (u 2 ∷ u 4 ∷ u 2 ∷ u 2 ∷ u 2 ∷ u 2 ∷ u 2 ∷ u 2 ∷ u 4 ∷ u 4 ∷ u 4 ∷ []) none) Names
+    ∷ entry 10110 (upward 24 4) (row (u 2 ∷ u 4 ∷ []) (some 4)) Nothing
+    ∷ entry 10000 (upward 40 8) pairs Names
+    ∷ entry 10010 (upward 40 4) words Names
+    ∷ entry 65516 (exactly 20) (row (u 2 ∷ u 4 ∷ []) none) Nothing
+    ∷ entry 65517 (exactly 20) (row (u 2 ∷ u 4 ∷ []) none) Nothing
+    ∷ entry 65534 (upward 24 4) (row (u 2 ∷ u 4 ∷ u 2 ∷ []) (some 2)) Nothing
     ∷ []
 
 -- how many they are
@@ -126,7 +126,7 @@ notListed true = listing free indexed Nothing
 notListed false = listing free unlisted Nothing
 
 -- what some types say of a code; d where none has it
-unfoldable pub among : ℕ → List Listed → Listing → Listing
+unfoldable pub among : ℕ → List Entry → Listing → Listing
 among k [] d = d
 among k (l ∷ ls) d = cond (eqb k (l .code)) (l .listing) (among k ls d)
 

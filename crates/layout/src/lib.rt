@@ -62,6 +62,11 @@ pub const IDENTIFIER: u16 = 44204;
 
 pub const PRINTED_IDENTIFIER: u16 = 44201;
 
+// The makers' numbers in a table of declarations.
+const BIOSONICS: u32 = 0;
+
+const SIMRAD: u32 = 1;
+
 // The listed types, and the longest of their rows.
 pub const LISTED: usize = 15;
 
@@ -287,11 +292,7 @@ pub fn says_of(code: u16) -> Says
     }
 }
 
-// A maker as the number that a table keeps, and the maker of such a number.
-pub const BIOSONICS: u32 = 0;
-
-pub const SIMRAD: u32 = 1;
-
+// A maker as the number that a table keeps,
 pub fn number_of(maker: Maker) -> u32
     ensures { λ r. ⌜ r ≡ makerNumber maker ⌝ }
     ensures { λ _. ⌜ makerOf (makerNumber maker) ≡ maker ⌝ }
@@ -302,6 +303,7 @@ pub fn number_of(maker: Maker) -> u32
     }
 }
 
+// and the maker of such a number.
 pub fn maker_of(number: u32) -> Maker
     ensures { λ r. ⌜ r ≡ makerOf number ⌝ }
 {

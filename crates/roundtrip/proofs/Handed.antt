@@ -20,8 +20,8 @@ use Rattle.layout.specs.declared.Answer.the-variants.{Accepted}
 use Rattle.layout.specs.Answers.{accepting, leftBy}
 use Rattle.layout.specs.Fields.{Field, num, txt, gap, ident, s, size, many, bareSize}
 use Rattle.layout.specs.Types.{Shape, indexed, row, pairs, words, unlisted, Length, exactly, upward, free, fitting, shapeOf}
-use Rattle.layout.specs.Types.{lengthsOf, lengthFrom, listings, notListed, inClass, index}
-use Rattle.layout.proofs.Tables.{alike}
+use Rattle.layout.specs.Types.{lengthsOf, lengthFrom, listings}
+use Rattle.layout.proofs.Tables.{alike-all}
 use Rattle.frame.specs.Frames.{allowed}
 use Rattle.frame.proofs.Frames.{allowed-of}
 use Rattle.turning.specs.Rows.{Value, number, text, woven, numbersIn, textIn, Fit, fit-end, fit-num, fit-txt, fit-gap, fit-ident, Lettered}
@@ -54,11 +54,7 @@ byFours words = true
 byFours unlisted = true
 
 by-fours : (k : ℕ) → byFours (shapeOf k) ≡ true
-by-fours = alike (λ k l. byFours (l .shape)) (λ k l. true) (unfold listings in refl) others
-  where
-    others : (k : ℕ) (b : Bool) → inClass index k ≡ b → byFours (notListed b .shape) ≡ true
-    others k true e = refl
-    others k false e = refl
+by-fours = alike-all (λ k l. byFours (l .shape)) (λ k l. true) (unfold listings in refl) (λ k. refl) (λ k. refl)
 
 allowed-row : (fs : List Field) (x : Option ℕ) (n : ℕ) → byFours (row fs x) ≡ true → fitting (lengthFrom (row fs x)) n ≡ true → n ≤ 262144
     → allowed n ≡ true

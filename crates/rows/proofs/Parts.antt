@@ -9,13 +9,10 @@ use lib.Seq.{sets}
 use Rattle.layout.specs.Fields.{Field, size, many}
 use Rattle.layout.specs.inner.Codes.{fieldsOf}
 use Rattle.turning.specs.Rows.{valuesOf, numbersIn}
+use Rattle.content.proofs.Fine.{size-append}
 use Rattle.rows.specs.inner.Listed.{listedFields}
 use Rattle.rows.proofs.Shapes.{many-append}
 use Rattle.rows.proofs.Reading.{numbers-parted}
-
-size-append : (fs gs : List Field) → size (fs ++ gs) ≡ size fs + size gs
-size-append [] gs = omega arith
-size-append (f ∷ fs) gs = omega (arith, size-append fs gs)
 
 -- the row r of listing k: a codes, of m bytes and with n numbers, then b codes
 pub record Parted (k a b m n : ℕ) (r : List ℕ) : Type 0 where

@@ -10,10 +10,10 @@ use lib.Dec.{eqb, leb}
 use lib.ListN.{length, replicate, getD}
 use Rattle.rules.proofs.Bools.{both-true}
 use Rattle.layout.specs.Fields.{Field, num, txt, gap, ident, s, size, many, bareSize, beforeText}
-use Rattle.layout.specs.Types.{Shape, indexed, row, pairs, words, unlisted, Listing, listings, listed, notListed, inClass, index, shapeOf}
+use Rattle.layout.specs.Types.{Shape, indexed, row, pairs, words, unlisted, listings, listed, shapeOf}
 use Rattle.layout.specs.Types.{lengthsOf, leastOf, stepOf, fitting, lengthFrom}
 use Rattle.layout.specs.inner.Codes.{placeIn, fieldsIn, fieldsOf, rowCodes, measures, measured}
-use Rattle.layout.proofs.Tables.{Tabled, tabled, alike, fields-there, measure-there, size-there}
+use Rattle.layout.proofs.Tables.{Tabled, tabled, alike-all, fields-there, measure-there, size-there}
 use Rattle.turning.specs.inner.Codes.{textFits}
 use Rattle.tuples.specs.Readers.{isRow, rowBy}
 use Rattle.tuples.proofs.Fields.{IsRow}
@@ -109,11 +109,9 @@ textual-by unlisted e = tt
 
 pub textual : (k : ℕ) → Textual (shapeOf k)
 unfolding isTextual
-textual k = textual-by (shapeOf k) (alike (λ j l. isTextual (l .shape)) (λ j l. true) (unfold listings in refl) others k)
-  where
-    others : (j : ℕ) (b : Bool) → inClass index j ≡ b → isTextual (notListed b .shape) ≡ true
-    others j true e = refl
-    others j false e = refl
+textual k =
+    textual-by (shapeOf k)
+    (alike-all (λ j l. isTextual (l .shape)) (λ j l. true) (unfold listings in refl) (λ j. refl) (λ j. refl) k)
 
 pub text-behind : (fs gs : List Field) (m : ℕ) → noText fs ≡ true → firstText (fs ++ (txt m ∷ gs)) ≡ m
 text-behind [] gs m e = refl

@@ -4,6 +4,7 @@ use native.Mathlib.Omega.{arith}
 use borrow.Author.Needs.{needs}
 use Rattle.layout.specs.Types.{listings}
 use Rattle.layout.specs.inner.Codes.{fieldOf, fieldsOf, rowCodes}
+use Rattle.forms.specs.inner.Parts.{firstListings}
 use Rattle.forms.proofs.Arms.{asked, left, below}
 use Rattle.forms.proofs.turn_listed.Statement.{statement}
 use Rattle.forms.proofs.turn_listed.Tie as tie
@@ -115,7 +116,7 @@ turn-listed-spec =
     asked (m .match .keys10) (r .row10 .ensures) refl (a .at) (a .to) (a .file .now) (a .out .now) (s .pre .1 .0) (s .pre .1 .1))
     (λ c κs. let m = c .before in
     let s = m .before .before .before in
-    (below 5 10 (s .args .listing) (s .pre .0) (m .match .rest), (s .pre .1 .0, s .pre .1 .1)))
+    (below firstListings 10 (s .args .listing) (s .pre .0) (m .match .rest), (s .pre .1 .0, s .pre .1 .1)))
     (λ c. search needs)
     (λ c. let t = c .before .before in
     let r = t .before .before .before .before in

@@ -19,6 +19,10 @@ silence = bytesOf false 4 0 ++ bytesOf false 4 (shortestRun radix)
 abbrev pub listedFields : ℕ → List Field
 listedFields listing = fieldsOf (getD rowCodes listing [])
 
+-- the listings of the signature and of what declares come first
+abbrev pub firstListings : ℕ
+firstListings = 5
+
 -- a type that a row reads
 pub record Rowed (k : ℕ) : Type 0 where
   pub fields : List Field

@@ -10,11 +10,11 @@ use Rattle.layout.specs.declared.Maker.{Maker}
 use Rattle.layout.specs.declared.Maker.the-variants.{Biosonics, Simrad}
 use Rattle.layout.specs.Fields.{Field, num, txt, gap, ident, u, s, c, z, many, beforeText, bareSize, size}
 use Rattle.layout.specs.Types.{Shape, indexed, row, pairs, words, unlisted, pingRow, Length, exactly, upward, leastOf, stepOf}
-use Rattle.layout.specs.Types.{Listing, Listed, listings}
+use Rattle.layout.specs.Types.{Listing, Entry, listings}
 
 -- ---- places
 -- the place of a type code among some types: their number where none has it
-unfoldable pub placeAmong : ℕ → List Listed → ℕ
+unfoldable pub placeAmong : ℕ → List Entry → ℕ
 placeAmong k [] = 0
 placeAmong k (l ∷ ls) = cond (eqb k (l .code)) 0 (suc (placeAmong k ls))
 
@@ -37,12 +37,12 @@ codeOf (txt w) = 99
 codeOf (gap w) = 122
 codeOf ident = 105
 
--- a row as codes, with dots behind them
-abbrev pub rowLength : ℕ
-rowLength = 27
+-- a row as codes, with dots behind them up to the longest row's length
+abbrev pub longestRow : ℕ
+longestRow = 27
 
 abbrev pub dotted : List ℕ → List ℕ
-dotted ks = ks ++ replicate (rowLength - length ks) 46
+dotted ks = ks ++ replicate (longestRow - length ks) 46
 
 abbrev pub codesIn : Listing → List ℕ
 codesIn l = dotted (map codeOf (fieldsIn (l .shape)))
