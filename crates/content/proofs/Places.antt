@@ -11,6 +11,7 @@ use lib.Dec.{leb, eqb}
 use lib.ListN.{length, take, drop, length-drop, take-append-drop}
 use lib.Seq.{drop-drop, take-all, length-take-le}
 use Rattle.order.specs.Order.{numOf}
+use Rattle.layout.specs.Families.{isPing}
 use Rattle.layout.specs.Fields.{Field, u, known, size}
 use Rattle.layout.specs.Types
 use Rattle.layout.specs.Types.{Shape, indexed, row, pairs, words, unlisted, classes, inClass, index, listings, notListed, among, listingOf}
@@ -324,11 +325,8 @@ module _ (o : Bool) (t : Tup) where
       ∙ alike-all (λ k l. cond (eqb k 65535) true (identifiedBy (l .shape) o t)) (λ k l. true) (unfold listings in refl)
       (λ k. same-arms (eqb k 65535) true) (λ k. same-arms (eqb k 65535) true) (t .kind)
 
-  abbrev isSampled : ℕ → Bool
-  isSampled k = eqb k 10000 || eqb k 10010
-
   pub inner-other : (t .kind ≡ 10000 → ⊥) → (t .kind ≡ 10010 → ⊥) → judged (innerRules o t) ≡ Fine
   inner-other a b =
       ap₂ (λ (u c : Bool). cond (u || c) Fine (judged (innerRules o t))) (sym (ne-eqb (t .kind) 10000 a)) (sym (ne-eqb (t .kind) 10010 b))
-      ∙ alike-all (λ k l. cond (isSampled k) Fine (judged (innerBy (l .shape) o t))) (λ k l. Fine) (unfold listings in refl)
-      (λ k. same-arms (isSampled k) Fine) (λ k. same-arms (isSampled k) Fine) (t .kind)
+      ∙ alike-all (λ k l. cond (isPing k) Fine (judged (innerBy (l .shape) o t))) (λ k l. Fine) (unfold listings in refl)
+      (λ k. same-arms (isPing k) Fine) (λ k. same-arms (isPing k) Fine) (t .kind)

@@ -3,6 +3,7 @@ use Prim.Native.Nat.{ℕ}
 use mathlib.Core.Bool.{Bool, false}
 use mathlib.Core.List.{List, [], _∷_}
 use mathlib.Core.Option.{Option, some, none}
+use Rattle.layout.specs.Families.{wide}
 use Rattle.layout.specs.Types.{Shape, indexed, row, pairs, words, unlisted, shapeOf}
 use Rattle.turning.specs.Rows.{Value, encode}
 use Rattle.frame.specs.Frames.{Tup, frames}
@@ -24,11 +25,11 @@ abbrev pub plainTuple : Bool → ℕ → List Value → Tup
 plainTuple o k vs = record { kind = k; body = encodeBy o (shapeOf k) vs }
 
 abbrev pub tupleU : Bool → Ping → Tup
-tupleU o p = record { kind = 10000; body = dataU o p }
+tupleU o p = record { kind = wide .plain; body = dataU o p }
 
 -- C-32 in the fewest words
 abbrev pub tupleC : Bool → Ping → Tup
-tupleC o p = record { kind = 10010; body = dataC o p (fewest radix (p .samples)) }
+tupleC o p = record { kind = wide .packed; body = dataC o p (fewest radix (p .samples)) }
 
 -- ---- the normal form
 -- each 32-bit ping as U-32; one without samples is C-32 with number of samples 0 and the one word FFFF0000

@@ -1,7 +1,6 @@
 -- Asking at a place of an accepted file where no listed ping starts gives 9 there: a turn that starts at a place stands at a tuple of
 -- the file, and a tuple with a ping's content is a listed ping. Assumes nothing.
 use mathlib.Core.Path.{_≡_, refl, sym, ap, subst, _∙_}
-use mathlib.Core.Logic.{inl, inr}
 use mathlib.Core.Bool.{Bool, true, false}
 use mathlib.Core.List.{List, [], _∷_, _++_}
 use mathlib.Core.Option.{Option, some, none}
@@ -29,7 +28,8 @@ use Rattle.intake.specs.Check.{Course, begin, past, onward, after, turn, checkF
 use Rattle.intake.specs.Asking.{courseTo, askItem, askCourse, askAccepted}
 use Rattle.intake.proofs.Turns.{parts-judged, to-end, to-next}
 use Rattle.intake.proofs.Accepted.{AllSound, digests, whole-turn, divided}
-use Rattle.demands.specs.Families.{Among, Listed, placeAfter}
+use Rattle.layout.specs.Families.{isPing}
+use Rattle.demands.specs.Lineages.{Among, Listed, placeAfter}
 use Rattle.demands.specs.Refusals.{PingAt}
 use Rattle.demands.proofs.Named.{stands-there}
 
@@ -41,8 +41,8 @@ ping-listed o t q e = by (shapeOf (t .kind)) (shaped (t .kind)) e
     by : (s : Shape) → Shaped (t .kind) s → itemBy s o t ≡ some (ping q) → Listed t
     by indexed h z = absurd (let y : _≡_ {A = ℕ} 0 1 = cc in omega arith)
     by (row fs x) h z = absurd (let y : _≡_ {A = ℕ} 0 1 = cc in omega arith)
-    by pairs h z = inl h
-    by words h z = inr h
+    by pairs h z = ap isPing h
+    by words h z = ap isPing h
     by unlisted h z = absurd (let y : _≡_ {A = ℕ} 0 1 = cc in omega arith)
 
 -- ---- a turn that starts at a place p stands at one of the tuples left

@@ -1,7 +1,7 @@
 -- Each listed ping of an accepted file names exactly one channel declared earlier, that channel exactly one sounder declared
 -- earlier, and asking at the ping's place gives just these two, with the places of their tuples: `answered`. Assumes nothing.
 use mathlib.Core.Path.{_≡_, refl, sym, ap, subst, _∙_}
-use mathlib.Core.Logic.{inl, inr}
+use mathlib.Core.Logic.{_⊎_, inl, inr}
 use mathlib.Core.Bool.{Bool, true}
 use mathlib.Core.List.{List, [], _∷_, _++_, append-assoc, append-nil}
 use mathlib.Core.Option.{Option, some}
@@ -35,18 +35,22 @@ use Rattle.intake.specs.declared.Asked.{Asked}
 use Rattle.intake.specs.Check.{Course, begin, go, past, onward, after, turn, checkFile, sounderPlace, channelPlace}
 use Rattle.intake.specs.Asking.{noChannel, courseTo, parentsIn, askItem, askCourse, askAccepted, askChecked, askAt}
 use Rattle.intake.proofs.Turns.{parts-judged}
-use Rattle.demands.specs.Families.{Among, Family, channelIn, Listed, placeAfter, gives, Answered}
+use Rattle.layout.proofs.Families.{ping-kind}
+use Rattle.demands.specs.Lineages.{Among, Lineage, channelIn, Listed, placeAfter, gives, Answered}
 use Rattle.demands.proofs.Declared.{earlier, declaredBy, spots, declared-at, spot-at}
 use Rattle.intake.proofs.Accepted.{AllSound, digests, whole-turn, Divided, divided}
-use Rattle.demands.proofs.Families.{linked-on, some-left, upto-sounders, upto-channels, channel-new, sounder-new, family-of}
-use Rattle.demands.proofs.Families.{even-channels, even-sounders}
+use Rattle.demands.proofs.Lineages.{linked-on, some-left, upto-sounders, upto-channels, channel-new, sounder-new, lineage-of}
+use Rattle.demands.proofs.Lineages.{even-channels, even-sounders}
 
 -- ---- a listed ping
 -- it has a ping's content
 pub listed-ping : (o : Bool) (t : Tup) → Listed t → (q : Ping) × (itemOf o t ≡ some (ping q))
 unfolding itemOf listingOf among listings
-listed-ping o t (inl e) = (contentU o (t .body), ap (λ (k : ℕ). itemBy (shapeOf k) o t) e)
-listed-ping o t (inr e) = (contentC o (t .body), ap (λ (k : ℕ). itemBy (shapeOf k) o t) e)
+listed-ping o t h = by (ping-kind (t .kind) h)
+  where
+    by : (t .kind ≡ 10000) ⊎ (t .kind ≡ 10010) → (q : Ping) × (itemOf o t ≡ some (ping q))
+    by (inl e) = (contentU o (t .body), ap (λ (k : ℕ). itemBy (shapeOf k) o t) e)
+    by (inr e) = (contentC o (t .body), ap (λ (k : ℕ). itemBy (shapeOf k) o t) e)
 
 -- and its link names that channel
 names-channel : (o : Bool) (t : Tup) (q : Ping) → itemOf o t ≡ some (ping q) → digest o t .link ≡ Link.names (channelIn q)
@@ -124,7 +128,7 @@ given x cs ps ss qs c n =
     Asked.Parents c (getD ps i 0) (it .rate) (it .samples) (it .parent) (getD qs (placeOf docOf (it .parent .0) ss) 0) n
 
 module _ (o : Bool) (all : List Tup) (linked : Linked true start (digests o all)) (a : Among all) (c : SoftwareChannel)
-    (g : Family o (a .before) c) (n : Counts) where
+    (g : Lineage o (a .before) c) (n : Counts) where
   -- the two tuples, among those before the ping, and what they declare
   ofChannel : Among (a .before)
   ofChannel = g .channel .one
@@ -234,11 +238,11 @@ module _ (f : List ℕ) (b : Bytes f) (n : Counts) (e : checkFile f ≡ Accepted
         (subst (Linked true start) (digests-append o (a .before) (a .it ∷ a .behind)) together) (names-channel o (a .it) q i)
 
     -- exactly one of the tuples before it declares the channel, and exactly one before that the sounder
-    pub family : Family (isMsb f) (a .before) (channelIn q)
-    family = family-of (isMsb f) (tuplesOf f) (d .linked) (channelIn q) a (names-channel (isMsb f) (a .it) q i)
+    pub lineage : Lineage (isMsb f) (a .before) (channelIn q)
+    lineage = lineage-of (isMsb f) (tuplesOf f) (d .linked) (channelIn q) a (names-channel (isMsb f) (a .it) q i)
 
     -- asking gives these two, and where they stand
-    pub asked : (g : Family (isMsb f) (a .before) (channelIn q)) → askAt f (placeAfter (isMsb f) (a .before)) ≡ gives g n
+    pub asked : (g : Lineage (isMsb f) (a .before) (channelIn q)) → askAt f (placeAfter (isMsb f) (a .before)) ≡ gives g n
     unfolding askAt askAccepted
     asked g =
         let p = placeAfter (isMsb f) (a .before) in
@@ -253,10 +257,10 @@ module _ (f : List ℕ) (b : Bytes f) (n : Counts) (e : checkFile f ≡ Accepted
   pub answered : Listed (a .it) → Answered f a n
   answered l =
       let p = listed-ping (isMsb f) (a .it) l in
-      let g = family (p .0) (p .1) in
+      let g = lineage (p .0) (p .1) in
       record {
         channel = channelIn (p .0);
         names = names-channel (isMsb f) (a .it) (p .0) (p .1);
-        family = g;
+        lineage = g;
         answer = asked (p .0) (p .1) g;
       }

@@ -12,6 +12,7 @@ use lib.ListN.{length}
 use Rattle.rules.specs.Rules.{Rule, _⇒_}
 use Rattle.rules.proofs.Bools.{both-true}
 use Rattle.layout.specs.Answers.{Breach, _byte_}
+use Rattle.layout.specs.Families.{wide}
 use Rattle.layout.specs.Types.{Shape, indexed, row, pairs, words, unlisted, shapeOf, listings, among, listingOf}
 use Rattle.frame.specs.Frames.{Tup}
 use Rattle.samples.specs.Words.{Sample}
@@ -67,15 +68,15 @@ module _ {P : ℕ → Type 0} {n i : ℕ} (s : Search P n i) where
 
 -- ---- words outside the limits
 -- the limits as numbers
-outside : (w : ℕ) → isBad radix w ≡ true → (0x7fff0000 ≤ w) × (w ≤ 0x8000ffff)
+outside : (w : ℕ) → isBad wide w ≡ true → (wide .first ≤ w) × (w ≤ wide .last)
 unfolding isBad
 outside w e =
-    let b = both-true (leb (radix * (radix / 2 - 1)) w) (ltb w (radix * (radix / 2) + radix)) e in
-    (leb-true 0x7fff0000 w (b .0), omega (arith, ltb-true w 0x80010000 (b .1)))
+    let b = both-true (leb (wide .first) w) (leb w (wide .last)) e in
+    (leb-true (wide .first) w (b .0), leb-true w (wide .last) (b .1))
 
-inside : (w : ℕ) → isBad radix w ≡ false → 0x7fff0000 ≤ w → w ≤ 0x8000ffff → ⊥
+inside : (w : ℕ) → isBad wide w ≡ false → wide .first ≤ w → w ≤ wide .last → ⊥
 unfolding isBad
-inside w e l m = true≢false (sym (ap₂ _&&_ (le-leb 0x7fff0000 w l) (lt-ltb w 0x80010000 (omega arith))) ∙ e)
+inside w e l m = true≢false (sym (ap₂ _&&_ (le-leb (wide .first) w l) (le-leb w (wide .last) m)) ∙ e)
 
 -- a word, and the same word behind one more
 behind-word : (w : ℕ) (ws : List ℕ) (i : ℕ) → Outside ws i → Outside (w ∷ ws) (suc i)
@@ -84,26 +85,26 @@ behind-word w ws i g = record { within = omega (arith, g .within); least = g .le
 before-word : (w : ℕ) (ws : List ℕ) (i : ℕ) → Outside (w ∷ ws) (suc i) → Outside ws i
 before-word w ws i g = record { within = omega (arith, g .within); least = g .least; most = g .most }
 
-words-there : (ws : List ℕ) → firstBad radix ws < length ws → Outside ws (firstBad radix ws)
+words-there : (ws : List ℕ) → firstBad wide ws < length ws → Outside ws (firstBad wide ws)
 words-there [] h = absurd (omega arith)
 words-there (w ∷ ws) h =
-    by-bool (isBad radix w)
-    (λ e. subst (Outside (w ∷ ws)) (sym (bad-here radix w ws e))
+    by-bool (isBad wide w)
+    (λ e. subst (Outside (w ∷ ws)) (sym (bad-here wide w ws e))
     (record { within = omega arith; least = outside w e .0; most = outside w e .1 }))
     (λ e.
-    subst (Outside (w ∷ ws)) (sym (bad-later radix w ws e ∙ add-one (firstBad radix ws)))
-    (behind-word w ws (firstBad radix ws) (words-there ws (omega (arith, bad-later radix w ws e)))))
+    subst (Outside (w ∷ ws)) (sym (bad-later wide w ws e ∙ add-one (firstBad wide ws)))
+    (behind-word w ws (firstBad wide ws) (words-there ws (omega (arith, bad-later wide w ws e)))))
 
-words-before : (ws : List ℕ) (j : ℕ) → j < firstBad radix ws → Outside ws j → ⊥
+words-before : (ws : List ℕ) (j : ℕ) → j < firstBad wide ws → Outside ws j → ⊥
 words-before [] j h g = absurd (omega (arith, g .within))
 words-before (w ∷ ws) zero h g =
-    by-bool (isBad radix w) (λ e. absurd (omega (arith, bad-here radix w ws e))) (λ e. inside w e (g .least) (g .most))
+    by-bool (isBad wide w) (λ e. absurd (omega (arith, bad-here wide w ws e))) (λ e. inside w e (g .least) (g .most))
 words-before (w ∷ ws) (suc j) h g =
-    by-bool (isBad radix w)
-    (λ e. absurd (omega (arith, bad-here radix w ws e)))
-    (λ e. words-before ws j (omega (arith, bad-later radix w ws e)) (before-word w ws j g))
+    by-bool (isBad wide w)
+    (λ e. absurd (omega (arith, bad-here wide w ws e)))
+    (λ e. words-before ws j (omega (arith, bad-later wide w ws e)) (before-word w ws j g))
 
-pub words-search : (ws : List ℕ) → Search (Outside ws) (length ws) (firstBad radix ws)
+pub words-search : (ws : List ℕ) → Search (Outside ws) (length ws) (firstBad wide ws)
 words-search ws = record { there = words-there ws; before = words-before ws; within = λ j g. g .within }
 
 -- ---- numbers that don't rise
@@ -181,7 +182,7 @@ module _ (o : Bool) (t : Tup) where
   by-pairs k = ⊎-elim (λ e. as-said (not-rising k (finds (numbers-search (samplesIn o t)) (e .0))) (e .1)) (λ e. absurd (e .1))
 
   module _ (k : t .kind ≡ 10010) where
-    abbrev search : Search (Outside (wordsOf o t)) (length (wordsOf o t)) (firstBad radix (wordsOf o t))
+    abbrev search : Search (Outside (wordsOf o t)) (length (wordsOf o t)) (firstBad wide (wordsOf o t))
     search = words-search (wordsOf o t)
 
     by-words : {c q : ℕ} → Said (wordRules (said o t) (wordsOf o t)) (c byte q) → Offends o t c q
@@ -220,7 +221,7 @@ module _ (o : Bool) (t : Tup) where
   abbrev behindMany : List (Rule Breach)
   behindMany =
       let ws = wordsOf o t in
-      (ltb (firstBad radix ws) (length ws) ⇒ 24 byte (28 + 4 * firstBad radix ws)) ∷ (not (eqb (said o t) (found o t)) ⇒ 25 byte 24) ∷ []
+      (ltb (firstBad wide ws) (length ws) ⇒ 24 byte (28 + 4 * firstBad wide ws)) ∷ (not (eqb (said o t) (found o t)) ⇒ 25 byte 24) ∷ []
 
   pub offended : {c q : ℕ} → Offends o t c q → Broken (innerRules o t) (c byte q)
   offended (not-rising {i = i} k g) =

@@ -23,7 +23,7 @@ use Rattle.tuples.specs.Readers.{readAnswer}
 use Rattle.normal.specs.Normaliser.{normalRules, normalCounts, Normalised}
 use Rattle.normal.specs.Single.{singleForm, singleRules, NormalisedTuple}
 use Rattle.demands.specs.Causes.{Broken, Cause, Keeps}
-use Rattle.demands.specs.Families.{Among, Listed, placeAfter}
+use Rattle.demands.specs.Lineages.{Among, Listed, placeAfter}
 use Rattle.demands.specs.Offenders.{Offends, ofSamples, Sampled, SampledAlone, SampledThere}
 
 -- ---- the normaliser, in either byte order: the check's rules; then, of a file that keeps these, 18, 20 and 19

@@ -1,15 +1,17 @@
 -- Asking where the tally stands at a tuple of an accepted file: a listed ping's rows are declared, and what they say is what
 -- the course says. Assumes nothing.
 use mathlib.Core.Path.{_≡_, refl, sym, ap, subst, _∙_}
-use mathlib.Core.Bool.{Bool, true, false, cond, _||_, true≢false}
+use mathlib.Core.Bool.{Bool, true, false, cond, true≢false}
+use mathlib.Core.Logic.{_⊎_, inl, inr}
 use mathlib.Core.List.{List, []}
 use mathlib.Core.Option.{Option, some}
 use Prim.Native.Nat.{ℕ, _%_, _<_, _≤_}
 use native.Mathlib.Omega.{arith}
-use borrow.Author.Tests.{eqb-true, eq-eqb, not-false}
+use borrow.Author.Tests.{not-false}
 use lib.Dec.{eqb}
 use lib.ListN.{length, drop, getD}
-use Rattle.rules.proofs.Bools.{or-true}
+use Rattle.layout.specs.Families.{isPing}
+use Rattle.layout.proofs.Families.{ping-kind}
 use Rattle.layout.specs.declared.Counts.{Counts}
 use Rattle.layout.specs.declared.SoftwareChannel.{SoftwareChannel}
 use Rattle.layout.specs.Answers.{judged}
@@ -80,11 +82,11 @@ module _ (o : Bool) (f : List ℕ) (w : Tally) (c : Tables) (s : Standing f w) (
 
   pinged : pingAt o f (w .at) ≡ true → Pinged
   unfolding k
-  pinged e = by-first (eqb k 10000) refl e
+  pinged e = by-kind (ping-kind k e)
     where
-      by-first : (b : Bool) → eqb k 10000 ≡ b → b || eqb k 10010 ≡ true → Pinged
-      by-first true z q = pinged-U (eqb-true k 10000 z)
-      by-first false z q = pinged-C (eqb-true k 10010 q)
+      by-kind : (k ≡ 10000) ⊎ (k ≡ 10010) → Pinged
+      by-kind (inl z) = pinged-U z
+      by-kind (inr z) = pinged-C z
 
   -- ---- its rows
   x : SoftwareChannel
@@ -143,8 +145,8 @@ module _ (o : Bool) (f : List ℕ) (w : Tally) (c : Tables) (s : Standing f w) (
           → askItem (courseOf w c) (w .at) m (itemBy q o (tupAt o (drop (w .at) f))) ≡ Asked.Refused 9 (w .at)
       by-shape indexed z = refl
       by-shape (row fs y) z = refl
-      by-shape pairs z = absurd (true≢false (sym (ap (λ (b : Bool). b || eqb k 10010) (eq-eqb k 10000 z)) ∙ e))
-      by-shape words z = absurd (true≢false (sym (or-true (eqb k 10000) (eq-eqb k 10010 z)) ∙ e))
+      by-shape pairs z = absurd (true≢false (sym (ap isPing z) ∙ e))
+      by-shape words z = absurd (true≢false (sym (ap isPing z) ∙ e))
       by-shape unlisted z = refl
 
   pub ask-course : (m : Counts) → askWhere o f m (courseOf w c) ≡ askItem (courseOf w c) (w .at) m (itemOf o (tupAt o (drop (w .at) f)))

@@ -11,6 +11,7 @@ use lib.ListN.{length, take, drop, length-take, length-drop}
 use Rattle.rules.specs.Rules.{_⇒_}
 use Rattle.rules.proofs.Bools.{both-true, same-arms}
 use Rattle.layout.specs.declared.Verdict.the-variants.{Fine, Fault}
+use Rattle.layout.specs.Families.{wide}
 use Rattle.layout.specs.Answers.{both, judged, _byte_}
 use Rattle.layout.specs.declared.Says.{Says}
 use Rattle.layout.specs.declared.Says.the-variants as says
@@ -21,7 +22,6 @@ use Rattle.layout.proofs.Verdicts.{both-left, both-right, passes, Near, AllNear
 use Rattle.turning.specs.Rows.{Value, valuesOf}
 use Rattle.frame.specs.Frames.{Tup, allowed, sizeAt, lenAt, tupAt, frameRules, framing}
 use Rattle.samples.specs.Words.{pairUp}
-use Rattle.samples.specs.Runs.{radix}
 use Rattle.samples.proofs.Rising.{drop-most}
 use Rattle.samples.proofs.Turning.{length-all}
 use Rattle.samples.proofs.Words.{pairs-few}
@@ -80,7 +80,7 @@ module _ (o : Bool) (r : List ℕ) where
       by-shape pairs =
           let ws = wordsIn headU o (front .body) in
           (omega (arith, drop-most (pairUp ws) 0, pairs-few ws, many headU, short e), tt)
-      by-shape words = (here-near, (omega (arith, bad-most radix (wordsIn headC o (front .body)), many headC, short e), (lit≤ tt, tt)))
+      by-shape words = (here-near, (omega (arith, bad-most wide (wordsIn headC o (front .body)), many headC, short e), (lit≤ tt, tt)))
       by-shape unlisted = tt
 
   pub own-near : framing o r ≡ Fine → Near far (ownVerdict o front)

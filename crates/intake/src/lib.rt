@@ -16,7 +16,7 @@ use links::SOUNDERS;
 use links::Sounder;
 ghost use mathlib.Core.Path.{_≡_};
 ghost use Prim.Native.Nat.{_+_, _^_, _<_, _≤_};
-ghost use lib.Dec.{eqb};
+ghost use Rattle.layout.specs.Families.{isPing};
 ghost use lib.ListN.{length, drop};
 ghost use mathlib.Core.Bool.{_&&_, _||_};
 ghost use Rattle.layout.specs.Types;
@@ -470,7 +470,7 @@ pub fn check(file: &[u8]) -> Answer
 
 // Whether a type code is a listed ping's.
 pub fn is_ping(code: u16) -> bool
-    ensures { λ r. ⌜ r ≡ eqb code 10000 || eqb code 10010 ⌝ }
+    ensures { λ r. ⌜ r ≡ isPing code ⌝ }
 {
     if code == types::PING_U {
         return true;

@@ -1,5 +1,6 @@
 pub mod Text
 pub mod Answers
 pub mod Fields
+pub mod Families
 pub mod Types
 pub mod inner

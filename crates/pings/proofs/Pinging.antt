@@ -14,6 +14,7 @@ use Rattle.rules.specs.Rules.First.{none, here, pass}
 use Rattle.rules.proofs.Laws.{first-eq}
 use Rattle.order.specs.Order.{bytesOf, patternOf}
 use Rattle.order.proofs.Laws.{length-bytesOf}
+use Rattle.layout.specs.Families.{wide}
 use Rattle.layout.specs.declared.Answer.{Answer}
 use Rattle.layout.specs.declared.Answer.the-variants.{Refused}
 use Rattle.layout.specs.Types.{pingRow}
@@ -282,7 +283,7 @@ module _ (o : Bool) (h : PingHeader) (a : ℤ) (ns : List ℕ) (vs : List ℤ) w
   module _ (out : List ℕ) where
     abbrev ownC : List (Rule Answer)
     ownC =
-        risingRule (paired ns vs) ∷ (ltb (firstWordless (paired ns vs)) (length (paired ns vs)) ⇒ Refused 21 (firstWordless (paired ns vs)))
+        risingRule (paired ns vs) ∷ (ltb (firstWordless wide (paired ns vs)) (length (paired ns vs)) ⇒ Refused 21 (firstWordless wide (paired ns vs)))
         ∷ tooLong (tupleC o (handedPing h a ns vs)) ∷ []
 
     abbrev bytes-of : List ℕ
@@ -304,9 +305,9 @@ module _ (o : Bool) (h : PingHeader) (a : ℤ) (ns : List ℕ) (vs : List ℤ) w
             rw (first-there ns vs e i d)
             (refuse ns vs ownC bytes-of out e m 23 (firstDrop 0 (paired ns vs)) (here (drop-there ns vs e i d l)))
 
-        module _ (l : length ns ≤ i) (j : ℕ) (v : j ≡ firstWordless (valued vs)) where
-          first-wordless : j ≡ firstWordless (paired ns vs)
-          first-wordless = v ∙ wordless-valued ns vs (sym e)
+        module _ (l : length ns ≤ i) (j : ℕ) (v : j ≡ firstWordless wide (valued vs)) where
+          first-wordless : j ≡ firstWordless wide (paired ns vs)
+          first-wordless = v ∙ wordless-valued wide ns vs (sym e)
 
           rises : ltb (firstDrop 0 (paired ns vs)) (length (paired ns vs)) ≡ false
           rises = no-drop ns vs e i d l
@@ -314,14 +315,14 @@ module _ (o : Bool) (h : PingHeader) (a : ℤ) (ns : List ℕ) (vs : List ℤ) w
           pub wordless-C : j < length ns → C (Refused 21 j) out
           wordless-C q =
               rw first-wordless
-              (refuse ns vs ownC bytes-of out e m 21 (firstWordless (paired ns vs))
-              (pass rises (here (lt-ltb (firstWordless (paired ns vs)) (length (paired ns vs))
+              (refuse ns vs ownC bytes-of out e m 21 (firstWordless wide (paired ns vs))
+              (pass rises (here (lt-ltb (firstWordless wide (paired ns vs)) (length (paired ns vs))
               (omega (arith, length-paired ns vs (sym e), first-wordless))))))
 
           module _ (q : length ns ≤ j) (n : ℕ) (z : n ≡ 36 + 4 * length (fewest radix (paired ns vs))) where
-            worded : ltb (firstWordless (paired ns vs)) (length (paired ns vs)) ≡ false
+            worded : ltb (firstWordless wide (paired ns vs)) (length (paired ns vs)) ≡ false
             worded =
-                le-ltb (firstWordless (paired ns vs)) (length (paired ns vs)) (omega (arith, length-paired ns vs (sym e), first-wordless))
+                le-ltb (firstWordless wide (paired ns vs)) (length (paired ns vs)) (omega (arith, length-paired ns vs (sym e), first-wordless))
 
             pub long-C : 262144 < n → C (Refused 11 0) out
             long-C b =

@@ -1,6 +1,7 @@
 -- The sample reader's answer, by the reader's; and the samples of a sound ping by their places in the file. Assumes nothing.
 use mathlib.Core.Path.{_≡_, refl, sym, ap, _∙_}
-use mathlib.Core.Bool.{Bool, true, false, _||_}
+use mathlib.Core.Bool.{Bool, true}
+use mathlib.Core.Logic.{_⊎_, inl, inr}
 use mathlib.Core.List.{List}
 use mathlib.Core.Option.{some}
 use Prim.Native.Nat.{ℕ, _+_, _-_, _≤_}
@@ -11,6 +12,7 @@ use lib.IntN.{ℤ}
 use lib.ListN.{length, take, drop, length-drop}
 use lib.Seq.{length-take-le}
 use Rattle.rules.specs.Rules.{AllPass}
+use Rattle.layout.proofs.Families.{ping-kind}
 use Rattle.layout.specs.declared.Answer.{Answer}
 use Rattle.layout.specs.declared.Answer.the-variants.{Refused}
 use Rattle.layout.specs.declared.Verdict.the-variants.{Fine}
@@ -26,7 +28,8 @@ use Rattle.content.specs.Items.{ping, itemOf}
 use Rattle.content.proofs.Places.{fieldAt, samples-U, samples-C}
 use Rattle.intake.specs.inner.Tallies.{Here, Fits, innerVerdict, headVerdict}
 use Rattle.intake.proofs.Judges.{head-fits, own-parts, long-U, long-C, inner-words}
-use Rattle.tuples.specs.Readers.{tupleThere, readAnswer, isPing}
+use Rattle.layout.specs.Families.{isPing}
+use Rattle.tuples.specs.Readers.{tupleThere, readAnswer}
 use Rattle.tuples.proofs.Reading.{stands, here, most}
 use Rattle.pings.specs.Readers.{samplesBy, samplesAt, sampleAnswer, SamplesRead}
 use Rattle.pings.specs.inner.Handing.{Handed, SoundPing}
@@ -89,11 +92,11 @@ module _ {f : List ℕ} {p n k : ℕ} {o : Bool} (s : SoundPing f p o n k) where
 
   -- it is long enough for its samples, and stands in the file
   pub whole-there : (40 ≤ n) × (n ≤ 262144) × (p + n ≤ length f)
-  whole-there = (by (eqb k 10000) refl, most (s .found), stands (s .found) .whole .fits)
+  whole-there = (by (ping-kind k (s .asks)), most (s .found), stands (s .found) .whole .fits)
     where
-      by : (b : Bool) → eqb k 10000 ≡ b → 40 ≤ n
-      by true e = long-U h fits (eqb-true k 10000 e)
-      by false e = long-C h fits (eqb-true k 10010 (ap (λ (b : Bool). b || eqb k 10010) (sym e) ∙ s .asks))
+      by : (k ≡ 10000) ⊎ (k ≡ 10010) → 40 ≤ n
+      by (inl e) = long-U h fits e
+      by (inr e) = long-C h fits e
 
   -- its words are few enough for a sample's number to stay below 2^32
   pub words-few : length (take (p + n - 8 - (p + 28)) (drop (p + 28) f)) ≤ 262108
@@ -103,15 +106,15 @@ module _ {f : List ℕ} {p n k : ℕ} {o : Bool} (s : SoundPing f p o n k) where
 
   -- a listed ping of the one kind or the other
   pub other-kind : (k ≡ 10000 → ⊥) → k ≡ 10010
-  other-kind a = by (eqb k 10000) refl
+  other-kind a = by (ping-kind k (s .asks))
     where
-      by : (b : Bool) → eqb k 10000 ≡ b → k ≡ 10010
-      by true e = absurd (a (eqb-true k 10000 e))
-      by false e = eqb-true k 10010 (ap (λ (b : Bool). b || eqb k 10010) (sym e) ∙ s .asks)
+      by : (k ≡ 10000) ⊎ (k ≡ 10010) → k ≡ 10010
+      by (inl e) = absurd (a e)
+      by (inr e) = e
 
   -- a listed ping holds at most 32,764 samples: for pairs by the bytes of a tuple alone, so that 11 comes from C-32 alone
   pub few-samples : length (samplesAt f p) ≤ 32764
-  few-samples = by (eqb k 10000) refl
+  few-samples = by (ping-kind k (s .asks))
     where
       r : (40 ≤ n) × (n ≤ 262144) × (p + n ≤ length f)
       r = whole-there
@@ -126,6 +129,6 @@ module _ {f : List ℕ} {p n k : ℕ} {o : Bool} (s : SoundPing f p o n k) where
             length-take-le (p + n - 8 - (p + 24)) (drop (p + 24) f) (simp length-drop (omega (arith, r .0, r .2))),
           )
 
-      by : (b : Bool) → eqb k 10000 ≡ b → length (samplesAt f p) ≤ 32764
-      by true e = rw (pairs-there (eqb-true k 10000 e)) few-pairs
-      by false e = few-words (eqb-true k 10010 (ap (λ (b : Bool). b || eqb k 10010) (sym e) ∙ s .asks))
+      by : (k ≡ 10000) ⊎ (k ≡ 10010) → length (samplesAt f p) ≤ 32764
+      by (inl e) = rw (pairs-there e) few-pairs
+      by (inr e) = few-words e

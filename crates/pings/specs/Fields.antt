@@ -14,7 +14,8 @@ use Rattle.layout.specs.Answers.{Numbers, numbers, Tells, accepting}
 use Rattle.turning.specs.Rows.{Value, numbersIn}
 use Rattle.content.specs.Pings.{Ping}
 use Rattle.content.specs.Items.{Item, plain, ping, raw, numberAt}
-use Rattle.tuples.specs.Readers.{isPing, tupleThere, readAnswer, readItem}
+use Rattle.layout.specs.Families.{wide, isPing}
+use Rattle.tuples.specs.Readers.{tupleThere, readAnswer, readItem}
 use Rattle.pings.specs.Headers.{headOf}
 use Rattle.pings.specs.declared.PingHeader.{PingHeader}
 use Rattle.pings.specs.declared.PingKind.{PingKind}
@@ -42,7 +43,7 @@ pingBy (some (ping q)) = q
 pingBy (some (raw k d)) = record { head = []; samples = []; attr = 0 }
 
 abbrev pub kindOfPing : ℕ → PingKind
-kindOfPing k = cond (eqb k 10000) U32 C32
+kindOfPing k = cond (eqb k (wide .plain)) U32 C32
 
 -- its fields: header, attribute, kind and number of values
 abbrev pub fieldsBy : Ping → ℕ → PingRead

@@ -15,7 +15,8 @@ use Rattle.layout.specs.Answers
 use Rattle.samples.specs.Words.{Sample}
 use Rattle.samples.specs.Lists.{numbersOf, valuesOf}
 use Rattle.content.specs.Items.{Item, plain, ping, raw}
-use Rattle.tuples.specs.Readers.{isPing, readAnswer, readItem}
+use Rattle.layout.specs.Families.{isPing}
+use Rattle.tuples.specs.Readers.{readAnswer, readItem}
 
 -- ---- samples
 abbrev pub samplesBy : Option Item → List Sample

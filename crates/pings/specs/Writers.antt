@@ -6,6 +6,7 @@ use lib.Dec.{ltb, eqb}
 use lib.IntN.{ℤ}
 use lib.ListN.{length}
 use Rattle.rules.specs.Rules.{Rule, _⇒_}
+use Rattle.layout.specs.Families.{wide}
 use Rattle.layout.specs.declared.Answer.{Answer}
 use Rattle.layout.specs.declared.Answer.the-variants.{Refused}
 use Rattle.frame.specs.Frames.{Tup, frame}
@@ -36,7 +37,7 @@ rulesU ns vs t = countRules ns vs ++ ((eqb (length ns) 0 ⇒ Refused 22 0) ∷ r
 abbrev pub rulesC : List ℕ → List ℤ → Tup → List (Rule Answer)
 rulesC ns vs t =
     let s = paired ns vs in
-    countRules ns vs ++ (risingRule s ∷ (ltb (firstWordless s) (length s) ⇒ Refused 21 (firstWordless s)) ∷ tooLong t ∷ [])
+    countRules ns vs ++ (risingRule s ∷ (ltb (firstWordless wide s) (length s) ⇒ Refused 21 (firstWordless wide s)) ∷ tooLong t ∷ [])
 
 -- the ping that is written
 abbrev pub pingOf : List Value → ℕ → List ℕ → List ℤ → Ping

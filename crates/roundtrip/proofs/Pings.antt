@@ -21,8 +21,8 @@ use Rattle.frame.proofs.Frames.{allowed-of, length-frame}
 use Rattle.turning.specs.Rows.{fit-end, fit-num}
 use Rattle.samples.specs.Words.{Sample, Below}
 use Rattle.samples.specs.Lists.{paired, numbersOf, valuesOf}
-use Rattle.samples.specs.Runs.{radix, isRun, isBad, fewest}
-use Rattle.samples.specs.Judging.{most, firstDrop, firstWordless, pairRules, wordRules}
+use Rattle.samples.specs.Runs.{radix, fewest}
+use Rattle.samples.specs.Judging.{most, firstDrop, wordless, firstWordless, pairRules, wordRules}
 use Rattle.samples.proofs.Runs.{by-bool, encode-length}
 use Rattle.samples.proofs.Rising.{all-rising, drop-most}
 use Rattle.samples.proofs.Apart.{Ints, paired-within, length-paired, wordless-here, wordless-later}
@@ -32,7 +32,8 @@ use Rattle.content.specs.Items.{ping, itemOf}
 use Rattle.content.specs.Forms.{tupleU, tupleC}
 use Rattle.content.proofs.Fine.{Sound, head-fine, inner-fine}
 use Rattle.content.proofs.Pings.{Good, content-U, content-C, words-C, count-C, length-U, length-C, bytes-U, bytes-C}
-use Rattle.tuples.specs.Readers.{readAnswer, readItem, isPing}
+use Rattle.layout.specs.Families.{Family, wide, isPing}
+use Rattle.tuples.specs.Readers.{readAnswer, readItem}
 use Rattle.pings.specs.declared.PingHeader.{PingHeader}
 use Rattle.pings.specs.declared.PingKind.the-variants.{U32, C32}
 use Rattle.pings.specs.declared.PingRead.the-variants.{Read}
@@ -242,12 +243,12 @@ listed ns vs e m d =
       rising = omega (arith, ltb-false (firstDrop 0 (paired ns vs)) (length (paired ns vs)) d, drop-most (paired ns vs) 0);
     }
 
-wordless-most : (s : List Sample) → firstWordless s ≤ length s
-wordless-most [] = unfold firstWordless in omega arith
-wordless-most (x ∷ s) =
-    by-bool (isRun radix (x .1) || isBad radix (x .1))
-    (λ t. omega (arith, wordless-here x s t))
-    (λ t. omega (arith, wordless-later x s t, wordless-most s))
+wordless-most : (f : Family) (s : List Sample) → firstWordless f s ≤ length s
+wordless-most f [] = unfold firstWordless in omega arith
+wordless-most f (x ∷ s) =
+    by-bool (wordless f (x .1))
+    (λ t. omega (arith, wordless-here f x s t))
+    (λ t. omega (arith, wordless-later f x s t, wordless-most f s))
 
 module _ (o : Bool) (h : PingHeader) (a : ℤ) (ns : List ℕ) (vs : List ℤ) {out left : List ℕ} {n : Counts} where
   pub accepted-U : WrittenU o h a ns vs out (Accepted n) left → Listed ns vs × (0 < length ns)
@@ -264,7 +265,7 @@ module _ (o : Bool) (h : PingHeader) (a : ℤ) (ns : List ℕ) (vs : List ℤ) {
       let t = tupleC o (handedPing h a ns vs) in (
         l,
         record {
-          worded = omega (arith, ltb-false (firstWordless s) (length s) (k .1 .1 .1 .0), wordless-most s, length-paired ns vs (l .equal));
+          worded = omega (arith, ltb-false (firstWordless wide s) (length s) (k .1 .1 .1 .0), wordless-most wide s, length-paired ns vs (l .equal));
           short = omega (arith, ltb-false 262144 (lengthOf t) (k .1 .1 .1 .1 .0), length-frame o t, length-bytes-C o h a ns vs);
         },
       )

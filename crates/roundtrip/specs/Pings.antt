@@ -9,6 +9,7 @@ use Rattle.layout.specs.declared.Answer.{Answer}
 use Rattle.layout.specs.Answers.{accepting}
 use Rattle.samples.specs.Lists.{paired}
 use Rattle.samples.specs.Runs.{radix, fewest}
+use Rattle.layout.specs.Families.{wide}
 use Rattle.samples.specs.Judging.{most, firstDrop, firstWordless}
 use Rattle.samples.specs.Words.{Below}
 use Rattle.pings.specs.declared.PingHeader.{PingHeader}
@@ -44,7 +45,7 @@ pub record Listed (ns : List ℕ) (vs : List ℤ) : Type 0 where
 
 -- every value has a word, and the words fit a tuple
 pub record Worded (ns : List ℕ) (vs : List ℤ) : Type 0 where
-  pub worded : firstWordless (paired ns vs) ≡ length ns
+  pub worded : firstWordless wide (paired ns vs) ≡ length ns
   pub short : 36 + 4 * length (fewest radix (paired ns vs)) ≤ 262144
 
 -- ---- a place of a file, read by both readers: every outcome that the field reader's promise allows has this header, attribute, kind

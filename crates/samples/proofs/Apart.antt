@@ -1,7 +1,7 @@
 -- Samples handed over apart, numbers and signed values: the one at a place and those behind it; and numbers or values alone.
 -- Assumes nothing.
 use mathlib.Core.Path.{_≡_, refl, sym, ap, _∙_}
-use mathlib.Core.Bool.{true, false, _||_}
+use mathlib.Core.Bool.{true, false}
 use mathlib.Core.List.{List, [], _∷_}
 use Prim.Native.Nat.{ℕ, suc, _+_, _-_, _^_, _≤_, _<_}
 use native.Mathlib.Numerals.{add-one}
@@ -16,11 +16,12 @@ use lib.Seq.{drop-cons}
 use lib.Signed.{mag}
 use borrow.Author.Tests.{leb-true}
 use Rattle.order.specs.Order.{patternOf}
+use Rattle.layout.specs.Families.{Family}
 use Rattle.samples.specs.Words.{Sample, Below}
 use Rattle.samples.specs.Lists.{paired}
 use Rattle.samples.specs.inner.Lists.{numbered, valued}
-use Rattle.samples.specs.Runs.{radix, isRun, isBad, gap, encodeFrom, fewest}
-use Rattle.samples.specs.Judging.{firstDrop, firstWordless}
+use Rattle.samples.specs.Runs.{gap, encodeFrom, fewest}
+use Rattle.samples.specs.Judging.{firstDrop, wordless, firstWordless}
 use Rattle.samples.proofs.Words.{Within}
 use Rattle.samples.proofs.Runs.{by-bool, encode-length}
 use Rattle.samples.proofs.Rising.{drop-later, drop-here}
@@ -75,12 +76,12 @@ pub valued-end : (vs : List ℤ) (i : ℕ) → length vs ≤ i → valued (drop 
 valued-end vs i h = rw (drop-of-length-le vs h)
 
 -- ---- a value without a word, here or later
-module _ (x : Sample) (s : List Sample) where
-  pub wordless-here : (isRun radix (x .1) || isBad radix (x .1)) ≡ true → firstWordless (x ∷ s) ≡ 0
+module _ (f : Family) (x : Sample) (s : List Sample) where
+  pub wordless-here : wordless f (x .1) ≡ true → firstWordless f (x ∷ s) ≡ 0
   unfolding firstWordless
   wordless-here e = rw (e, firstWordless)
 
-  pub wordless-later : (isRun radix (x .1) || isBad radix (x .1)) ≡ false → firstWordless (x ∷ s) ≡ firstWordless s + 1
+  pub wordless-later : wordless f (x .1) ≡ false → firstWordless f (x ∷ s) ≡ firstWordless f s + 1
   unfolding firstWordless
   wordless-later e = rw (e, firstWordless)
 
@@ -97,17 +98,18 @@ drop-numbered (x ∷ ns) (v ∷ vs) n e =
     ∙ sym (drop-later n (x, patternOf 4 v) (paired ns vs) h))
     (λ t. drop-here n (x, 0) (numbered ns) t ∙ sym (drop-here n (x, patternOf 4 v) (paired ns vs) t))
 
-pub wordless-valued : (ns : List ℕ) (vs : List ℤ) → length vs ≡ length ns → firstWordless (valued vs) ≡ firstWordless (paired ns vs)
-wordless-valued [] [] e = refl
-wordless-valued [] (v ∷ vs) e = absurd (omega arith)
-wordless-valued (x ∷ ns) [] e = absurd (omega arith)
-wordless-valued (x ∷ ns) (v ∷ vs) e =
-    by-bool (isRun radix (patternOf 4 v) || isBad radix (patternOf 4 v))
-    (λ t. wordless-here (0, patternOf 4 v) (valued vs) t ∙ sym (wordless-here (x, patternOf 4 v) (paired ns vs) t))
+pub wordless-valued : (f : Family) (ns : List ℕ) (vs : List ℤ) → length vs ≡ length ns
+    → firstWordless f (valued vs) ≡ firstWordless f (paired ns vs)
+wordless-valued f [] [] e = refl
+wordless-valued f [] (v ∷ vs) e = absurd (omega arith)
+wordless-valued f (x ∷ ns) [] e = absurd (omega arith)
+wordless-valued f (x ∷ ns) (v ∷ vs) e =
+    by-bool (wordless f (patternOf 4 v))
+    (λ t. wordless-here f (0, patternOf 4 v) (valued vs) t ∙ sym (wordless-here f (x, patternOf 4 v) (paired ns vs) t))
     (λ t.
-    wordless-later (0, patternOf 4 v) (valued vs) t
-    ∙ ap (λ (k : ℕ). k + 1) (wordless-valued ns vs (omega arith))
-    ∙ sym (wordless-later (x, patternOf 4 v) (paired ns vs) t))
+    wordless-later f (0, patternOf 4 v) (valued vs) t
+    ∙ ap (λ (k : ℕ). k + 1) (wordless-valued f ns vs (omega arith))
+    ∙ sym (wordless-later f (x, patternOf 4 v) (paired ns vs) t))
 
 module _ (R : ℕ) (some : 0 < R) where
   count-from : (ns : List ℕ) (vs : List ℤ) (n : ℕ) → length vs ≡ length ns

@@ -9,6 +9,7 @@ use mir.Val.{boolByte}
 use lib.Dec.{leb, ltb, eqb, leb·suc-suc, lit<}
 use lib.ListN.{length}
 use borrow.Author.Tests.{lt-ltb, lt-leb, leb-true, leb-false, ne-eqb}
+use Rattle.layout.specs.Families.{Family, wide}
 use Rattle.samples.specs.Words.{Sample, allWords, pairUp}
 use Rattle.samples.specs.Runs.{radix, isRun, isBad, values, firstBad}
 use Rattle.samples.specs.Judging.{firstDrop}
@@ -19,8 +20,8 @@ use Rattle.samples.proofs.Rising.{drop-later, drop-here, pairs-next, pa
 
 -- ---- the tests of the rules
 -- some word is bad
-abbrev pub anyBad : ℕ → List ℕ → Bool
-anyBad R ws = ltb (firstBad R ws) (length ws)
+abbrev pub anyBad : Family → List ℕ → Bool
+anyBad f ws = ltb (firstBad f ws) (length ws)
 
 -- some number is below n or not above the one before it
 abbrev pub anyDrop : ℕ → List Sample → Bool
@@ -39,11 +40,11 @@ pub values-cons : (R w : ℕ) (ws : List ℕ) → values R (w ∷ ws) ≡ boolBy
 values-cons R w ws =
     by-bool (isRun R w) (λ e. rw (values-run R w ws e, e) (omega arith)) (λ e. rw (values-value R w ws e, e) (omega arith))
 
-pub bad-cons : (R w : ℕ) (ws : List ℕ) → anyBad R (w ∷ ws) ≡ (isBad R w || anyBad R ws)
-bad-cons R w ws =
-    by-bool (isBad R w)
-    (λ e. rw (bad-here R w ws e, e) (lt-ltb 0 (suc (length ws)) (omega arith)))
-    (λ e. rw e (one-more _ _ (length ws) (bad-later R w ws e)))
+pub bad-cons : (f : Family) (w : ℕ) (ws : List ℕ) → anyBad f (w ∷ ws) ≡ (isBad f w || anyBad f ws)
+bad-cons f w ws =
+    by-bool (isBad f w)
+    (λ e. rw (bad-here f w ws e, e) (lt-ltb 0 (suc (length ws)) (omega arith)))
+    (λ e. rw e (one-more _ _ (length ws) (bad-later f w ws e)))
 
 drops-here : (n : ℕ) (x : Sample) (s : List Sample) → x .0 < n → anyDrop n (x ∷ s) ≡ true
 drops-here n x s h = rw (drop-here n x s (lt-leb n (x .0) h)) (lt-ltb 0 (suc (length s)) (omega arith))
@@ -67,16 +68,16 @@ module _ (o : Bool) (part : List ℕ) (p w : ℕ) (h : 4 ≤ length part - p) (e
       → n + boolByte (not run) + values radix (wordsFrom 4 o part (p + 4)) ≡ n + values radix (wordsFrom 4 o part p)
   values-turn n run t = rw (next, values-cons, t) (omega arith)
 
-  pub bad-turn : (b bad : Bool) → bad ≡ isBad radix w
-      → ((b || bad) || anyBad radix (wordsFrom 4 o part (p + 4))) ≡ (b || anyBad radix (wordsFrom 4 o part p))
+  pub bad-turn : (b bad : Bool) → bad ≡ isBad wide w
+      → ((b || bad) || anyBad wide (wordsFrom 4 o part (p + 4))) ≡ (b || anyBad wide (wordsFrom 4 o part p))
   bad-turn b bad t = rw (t, next, bad-cons, or-assoc)
 
   -- the first bad word is this one, or the first behind it
-  pub bad-there : isBad radix w ≡ true → firstBad radix (wordsFrom 4 o part p) ≡ 0
-  bad-there t = ap (firstBad radix) next ∙ bad-here radix w _ t
+  pub bad-there : isBad wide w ≡ true → firstBad wide (wordsFrom 4 o part p) ≡ 0
+  bad-there t = ap (firstBad wide) next ∙ bad-here wide w _ t
 
-  pub bad-behind : isBad radix w ≡ false → firstBad radix (wordsFrom 4 o part p) ≡ firstBad radix (wordsFrom 4 o part (p + 4)) + 1
-  bad-behind t = ap (firstBad radix) next ∙ bad-later radix w _ t
+  pub bad-behind : isBad wide w ≡ false → firstBad wide (wordsFrom 4 o part p) ≡ firstBad wide (wordsFrom 4 o part (p + 4)) + 1
+  bad-behind t = ap (firstBad wide) next ∙ bad-later wide w _ t
 
 -- no word is left: what the loop holds is what the rules ask for
 module _ (o : Bool) (part : List ℕ) (p : ℕ) (h : length part - p < 4) where
@@ -84,11 +85,11 @@ module _ (o : Bool) (part : List ℕ) (p : ℕ) (h : length part - p < 4) where
   unfolding values
   values-end n = rw (from-end 4 o part p (lit< tt) (omega arith)) (omega arith)
 
-  pub bad-none : firstBad radix (wordsFrom 4 o part p) ≡ 0
+  pub bad-none : firstBad wide (wordsFrom 4 o part p) ≡ 0
   unfolding firstBad
   bad-none = rw (from-end 4 o part p (lit< tt) (omega arith))
 
-  pub bad-end : (b : Bool) → (b || anyBad radix (wordsFrom 4 o part p)) ≡ b
+  pub bad-end : (b : Bool) → (b || anyBad wide (wordsFrom 4 o part p)) ≡ b
   unfolding firstBad
   bad-end b = rw (from-end 4 o part p (lit< tt) (omega arith)) (or-false b)
 

@@ -5,6 +5,7 @@ use mathlib.Core.List.{List, [], _∷_}
 use Prim.Native.Nat.{ℕ, _+_, _*_, _≤_, _<_}
 use native.Mathlib.Omega.{arith}
 use lib.ListN.{length}
+use Rattle.layout.specs.Families.{Family}
 use Rattle.samples.specs.Runs.{isRun, runLength, decodeFrom, isBad, values, firstBad}
 use Rattle.samples.proofs.Words.{Within}
 use Rattle.samples.specs.Words.{Below}
@@ -19,11 +20,12 @@ module _ (R : ℕ) where
   unfolding values
   values-value w ws e = rw (e, values)
 
-  pub bad-here : (w : ℕ) (ws : List ℕ) → isBad R w ≡ true → firstBad R (w ∷ ws) ≡ 0
+module _ (f : Family) where
+  pub bad-here : (w : ℕ) (ws : List ℕ) → isBad f w ≡ true → firstBad f (w ∷ ws) ≡ 0
   unfolding firstBad
   bad-here w ws e = rw (e, firstBad)
 
-  pub bad-later : (w : ℕ) (ws : List ℕ) → isBad R w ≡ false → firstBad R (w ∷ ws) ≡ firstBad R ws + 1
+  pub bad-later : (w : ℕ) (ws : List ℕ) → isBad f w ≡ false → firstBad f (w ∷ ws) ≡ firstBad f ws + 1
   unfolding firstBad
   bad-later w ws e = rw (e, firstBad)
 
@@ -45,9 +47,9 @@ module _ (R : ℕ) (pos : 0 < R) where
       (λ e. rw (decode-value R pos n w ws e) (omega arith, f .0, decode-within b ws (n + 1) (f .1) (omega arith)))
 
 -- the first bad word is one of them, or none is bad
-pub bad-most : (R : ℕ) (ws : List ℕ) → firstBad R ws ≤ length ws
-bad-most R [] = unfold firstBad in omega arith
-bad-most R (w ∷ ws) =
-    by-bool (isBad R w)
-    (λ t. omega (arith, bad-here R w ws t))
-    (λ t. omega (arith, bad-later R w ws t, bad-most R ws))
+pub bad-most : (f : Family) (ws : List ℕ) → firstBad f ws ≤ length ws
+bad-most f [] = unfold firstBad in omega arith
+bad-most f (w ∷ ws) =
+    by-bool (isBad f w)
+    (λ t. omega (arith, bad-here f w ws t))
+    (λ t. omega (arith, bad-later f w ws t, bad-most f ws))

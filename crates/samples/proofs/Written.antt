@@ -3,18 +3,19 @@ use mathlib.Core.Path.{_≡_, refl, sym, ap, _∙_}
 use mathlib.Core.Bool.{Bool, true, false, not, _||_, false≢true}
 use mathlib.Core.List.{List, [], _∷_, _++_, append-assoc, append-nil}
 use Prim.Native.Nat.{ℕ, zero, suc, _+_, _-_, _*_, _/_, _%_, _^_, _≤_, _<_}
-use native.Mathlib.Nat.{mod-lt, add-zero, mul-comm, mul-le-mul-right, div-mul-le-self}
+use native.Mathlib.Nat.{mod-lt, add-zero}
 use native.Mathlib.Omega.{arith}
 use lib.Dec.{leb, lit<}
 use lib.ListN.{length, replicate}
-use borrow.Author.Tests.{le-ltb, eq-eqb}
+use borrow.Author.Tests.{le-ltb, lt-leb, eq-eqb}
 use Rattle.rules.proofs.Bools.{and-false}
+use Rattle.layout.specs.Families.{Family, wide}
 use Rattle.layout.specs.declared.Verdict.the-variants.{Fine}
 use Rattle.layout.specs.Answers.{judged}
 use Rattle.layout.proofs.Verdicts.{passed}
 use Rattle.samples.specs.Words.{Sample, allWords, unwords, pairUp, unpair, Below}
 use Rattle.samples.specs.Runs.{radix, isRun, isBad, decodeFrom, decode, values, firstBad, lastRun, gap, encodeFrom, fewest}
-use Rattle.samples.specs.Judging.{most, firstDrop, firstWordless, pairRules, wordRules, judgedPairs, judgedWords}
+use Rattle.samples.specs.Judging.{most, firstDrop, wordless, firstWordless, pairRules, wordRules, judgedPairs, judgedWords}
 use Rattle.samples.proofs.Words.{Within, all-unwords, pair-unpair, within-below}
 use Rattle.samples.proofs.Runs.{Fit, by-bool, there-back, fewest-words}
 use Rattle.samples.proofs.Values.{bad-later, length-decode}
@@ -55,46 +56,45 @@ module _ (R : ℕ) (some : 0 < R) (P : ℕ → Type 0) (runs : (r : ℕ) → r <
   each-fewest (x ∷ s) v = each-encode (x ∷ s) 0 0 v
 
 -- ---- samples that have words: each value neither a run's pattern nor outside the limits
-abbrev pub Worded : ℕ → List Sample → Type 0
-Worded R s = EachValue (λ (w : ℕ). (isRun R w ≡ false) × (isBad R w ≡ false)) s
+abbrev pub Worded : Family → List Sample → Type 0
+Worded f s = EachValue (λ (w : ℕ). (isRun (f .radix) w ≡ false) × (isBad f w ≡ false)) s
 
 neither : (a b : Bool) → (a || b) ≡ false → (a ≡ false) × (b ≡ false)
 neither false b e = (refl, e)
 neither true b e = absurd (false≢true (sym e))
 
-pub all-worded : (s : List Sample) → firstWordless s ≡ length s → Worded radix s
-all-worded [] e = tt
-all-worded (x ∷ s) e =
-    by-bool (isRun radix (x .1) || isBad radix (x .1))
-    (λ t. absurd (omega (arith, wordless-here x s t)))
-    (λ t. (neither _ _ t, all-worded s (omega (arith, wordless-later x s t))))
+pub all-worded : (f : Family) (s : List Sample) → firstWordless f s ≡ length s → Worded f s
+all-worded f [] e = tt
+all-worded f (x ∷ s) e =
+    by-bool (wordless f (x .1))
+    (λ t. absurd (omega (arith, wordless-here f x s t)))
+    (λ t. (neither _ _ t, all-worded f s (omega (arith, wordless-later f x s t))))
 
-pub worded-fit : (R : ℕ) (s : List Sample) (n : ℕ) → Rising n s → Worded R s → Fit R n s
-worded-fit R [] n r w = tt
-worded-fit R (x ∷ s) n r w = (r .0, w .0 .0, worded-fit R s (x .0 + 1) (r .1) (w .1))
+pub worded-fit : (f : Family) (s : List Sample) (n : ℕ) → Rising n s → Worded f s → Fit (f .radix) n s
+worded-fit f [] n r w = tt
+worded-fit f (x ∷ s) n r w = (r .0, w .0 .0, worded-fit f s (x .0 + 1) (r .1) (w .1))
 
-worded-good : (R : ℕ) (s : List Sample) → Worded R s → EachValue (λ (w : ℕ). isBad R w ≡ false) s
-worded-good R [] w = tt
-worded-good R (x ∷ s) w = (w .0 .1, worded-good R s (w .1))
+worded-good : (f : Family) (s : List Sample) → Worded f s → EachValue (λ (w : ℕ). isBad f w ≡ false) s
+worded-good f [] w = tt
+worded-good f (x ∷ s) w = (w .0 .1, worded-good f s (w .1))
 
 -- ---- the fewest words have as many values as there are samples, none bad
-good-none : (R : ℕ) (ws : List ℕ) → Each (λ (w : ℕ). isBad R w ≡ false) ws → firstBad R ws ≡ length ws
-good-none R [] g = unfold firstBad in refl
-good-none R (w ∷ ws) g = bad-later R w ws (g .0) ∙ omega (arith, good-none R ws (g .1))
+good-none : (f : Family) (ws : List ℕ) → Each (λ (w : ℕ). isBad f w ≡ false) ws → firstBad f ws ≡ length ws
+good-none f [] g = unfold firstBad in refl
+good-none f (w ∷ ws) g = bad-later f w ws (g .0) ∙ omega (arith, good-none f ws (g .1))
 
-module _ (R : ℕ) (some : 2 < R) where
+-- every run is past the patterns outside the limits
+module _ (f : Family) (some : 0 < f .radix) (past : f .last < (f .radix - 1) * f .radix) where
   -- a run is no bad value
-  run-good : (r : ℕ) → r < R → isBad R ((R - 1) * R + r) ≡ false
+  run-good : (r : ℕ) → r < f .radix → isBad f ((f .radix - 1) * f .radix + r) ≡ false
   unfolding isBad
   run-good r h =
-      let half : R / 2 + 1 ≤ R - 1 = omega (arith, div-mul-le-self R 2) in
-      let more : (R / 2 + 1) * R ≤ (R - 1) * R = mul-le-mul-right R half in
-      let w = (R - 1) * R + r in
-      let past : R * (R / 2) + R ≤ w = omega (arith, mul-comm R (R / 2)) in
-      and-false (leb (R * (R / 2 - 1)) w) (le-ltb w (R * (R / 2) + R) past)
+      let w = (f .radix - 1) * f .radix + r in
+      and-false (leb (f .first) w) (lt-leb w (f .last) (omega arith))
 
-  pub none-bad : (s : List Sample) → Worded R s → firstBad R (fewest R s) ≡ length (fewest R s)
-  none-bad s w = good-none R (fewest R s) (each-fewest R (omega arith) (λ (v : ℕ). isBad R v ≡ false) run-good s (worded-good R s w))
+  pub none-bad : (s : List Sample) → Worded f s → firstBad f (fewest (f .radix) s) ≡ length (fewest (f .radix) s)
+  none-bad s w =
+      good-none f (fewest (f .radix) s) (each-fewest (f .radix) some (λ (v : ℕ). isBad f v ≡ false) run-good s (worded-good f s w))
 
 module _ (R : ℕ) (some : 0 < R) where
   pub values-fewest : (s : List Sample) → Fit R 0 s → values R (fewest R s) ≡ length s
@@ -130,9 +130,9 @@ module _ (s : List Sample) (up : firstDrop 0 s ≡ length s) where
   pairs-pass o f = rw (pairs-back s o f) (passed (pairRules s) (le-ltb (firstDrop 0 s) (length s) (omega arith), tt))
 
   -- .. and every value has a word
-  module _ (worded : firstWordless s ≡ length s) where
+  module _ (worded : firstWordless wide s ≡ length s) where
     fit : Fit radix 0 s
-    fit = worded-fit radix s 0 (all-rising s 0 up) (all-worded s worded)
+    fit = worded-fit wide s 0 (all-rising s 0 up) (all-worded wide s worded)
 
     pub words-back : decode radix (fewest radix s) ≡ s
     words-back = there-back radix (lit< tt) s fit
@@ -140,11 +140,11 @@ module _ (s : List Sample) (up : firstDrop 0 s ≡ length s) where
     pub words-pass : length s ≤ most → judged (wordRules (length s) (fewest radix s)) ≡ Fine
     words-pass h =
         let v = values-fewest radix (lit< tt) s fit in
-        let b = none-bad radix (lit< tt) s (all-worded s worded) in
+        let b = none-bad wide (lit< tt) (lit< tt) s (all-worded wide s worded) in
         let ws = fewest radix s in
         passed (wordRules (length s) ws) (
           le-ltb most (values radix ws) (omega arith),
-          (le-ltb (firstBad radix ws) (length ws) (omega arith), (ap not (eq-eqb (length s) (values radix ws) (sym v)), tt)),
+          (le-ltb (firstBad wide ws) (length ws) (omega arith), (ap not (eq-eqb (length s) (values radix ws) (sym v)), tt)),
         )
 
     module _ (o : Bool) (f : Within (256 ^ 4) s) where

@@ -7,6 +7,7 @@ use lib.ListN.{length}
 use Rattle.rules.specs.Rules.{Rule, _⇒_}
 use Rattle.layout.specs.declared.Verdict.{Verdict}
 use Rattle.layout.specs.Answers.{judged, Breach, _byte_}
+use Rattle.layout.specs.Families.{Family, wide}
 use Rattle.samples.specs.Words.{Sample, allWords, pairUp}
 use Rattle.samples.specs.Runs.{radix, isRun, isBad, values, firstBad}
 
@@ -19,10 +20,14 @@ unfoldable pub firstDrop : ℕ → List Sample → ℕ
 firstDrop n [] = 0
 firstDrop n (x ∷ s) = elim (leb n (x .0)) [ true ↦ firstDrop (x .0 + 1) s + 1 | false ↦ 0 ]
 
--- the place in the list of the first value that has no C-32 word; the list's length where all have one
-unfoldable pub firstWordless : List Sample → ℕ
-firstWordless [] = 0
-firstWordless (x ∷ s) = elim (isRun radix (x .1) || isBad radix (x .1)) [ true ↦ 0 | false ↦ firstWordless s + 1 ]
+-- a value that has no word: its pattern is a run's, or outside the limits
+abbrev pub wordless : Family → ℕ → Bool
+wordless f w = isRun (f .radix) w || isBad f w
+
+-- the place in the list of the first value that has no word; the list's length where all have one
+unfoldable pub firstWordless : Family → List Sample → ℕ
+firstWordless f [] = 0
+firstWordless f (x ∷ s) = elim (wordless f (x .1)) [ true ↦ 0 | false ↦ firstWordless f s + 1 ]
 
 -- some number is not above the one before it
 abbrev pub dropping : List Sample → Bool
@@ -48,7 +53,7 @@ pairRules s = (dropping s ⇒ 23 byte (pairsAt + 8 * firstDrop 0 s)) ∷ []
 abbrev pub wordRules : ℕ → List ℕ → List (Rule Breach)
 wordRules count ws =
     (ltb most (values radix ws) ⇒ 11 byte 0)
-    ∷ (ltb (firstBad radix ws) (length ws) ⇒ 24 byte (wordsAt + 4 * firstBad radix ws))
+    ∷ (ltb (firstBad wide ws) (length ws) ⇒ 24 byte (wordsAt + 4 * firstBad wide ws))
     ∷ (not (eqb count (values radix ws)) ⇒ 25 byte countAt)
     ∷ []
 

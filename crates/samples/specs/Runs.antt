@@ -3,13 +3,14 @@
 use Prim.Native.Nat.{ℕ, zero, suc, _+_, _-_, _*_, _/_, _%_}
 use mathlib.Core.Bool.{Bool, true, false, _&&_}
 use mathlib.Core.List.{List, [], _∷_, _++_}
-use lib.Dec.{eqb, leb, ltb}
+use lib.Dec.{eqb, leb}
 use lib.ListN.{replicate}
+use Rattle.layout.specs.Families.{Family, wide}
 use Rattle.samples.specs.Words.{Sample}
 
 -- the radix of C-32: sixteen leading ones make a word a run
 abbrev pub radix : ℕ
-radix = 65536
+radix = wide .radix
 
 -- a word is a run where its upper half is all ones
 unfoldable pub isRun : ℕ → ℕ → Bool
@@ -33,9 +34,9 @@ abbrev pub decode : ℕ → List ℕ → List Sample
 decode R ws = decodeFrom R 0 ws
 
 -- ---- values
--- a value outside the limits: for C-32 the patterns 7FFF0000 to 8000FFFF
-unfoldable pub isBad : ℕ → ℕ → Bool
-isBad R w = leb (R * (R / 2 - 1)) w && ltb w (R * (R / 2) + R)
+-- a value outside the limits of its family
+unfoldable pub isBad : Family → ℕ → Bool
+isBad f w = leb (f .first) w && leb w (f .last)
 
 -- the number of value words, good or bad
 unfoldable pub values : ℕ → List ℕ → ℕ
@@ -43,9 +44,9 @@ values R [] = 0
 values R (w ∷ ws) = elim (isRun R w) [ true ↦ values R ws | false ↦ values R ws + 1 ]
 
 -- the place among the words of the first bad one; as many as there are words where none is
-unfoldable pub firstBad : ℕ → List ℕ → ℕ
-firstBad R [] = 0
-firstBad R (w ∷ ws) = elim (isBad R w) [ true ↦ 0 | false ↦ firstBad R ws + 1 ]
+unfoldable pub firstBad : Family → List ℕ → ℕ
+firstBad f [] = 0
+firstBad f (w ∷ ws) = elim (isBad f w) [ true ↦ 0 | false ↦ firstBad f ws + 1 ]
 
 -- ---- the fewest words
 -- the word of a run of 1: longer ones count on from it

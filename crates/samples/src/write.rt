@@ -8,6 +8,7 @@ ghost use mathlib.Core.Path.{_≡_};
 ghost use Prim.Native.Nat.{_+_, _*_, _^_, _<_, _≤_};
 ghost use lib.ListN.{length};
 ghost use lib.Seq.{sets};
+ghost use Rattle.layout.specs.Families.{wide};
 ghost use Rattle.samples.specs.Words.{unwords, unpair};
 ghost use Rattle.samples.specs.Lists.{paired};
 ghost use Rattle.samples.specs.inner.Lists.{numbered, valued};
@@ -45,7 +46,7 @@ pub fn first_drop(numbers: &[u32]) -> usize
 
 // The place of the first value that has no C-32 word; as many as there are where all have one.
 pub fn first_wordless(values: &[i32]) -> usize
-    ensures { λ r. ⌜ r ≡ firstWordless (valued (now (values .entry))) ⌝ }
+    ensures { λ r. ⌜ r ≡ firstWordless wide (valued (now (values .entry))) ⌝ }
 {
     let mut i: usize = 0;
     while i < values.len() {

@@ -51,12 +51,9 @@ valuesBy (some (raw k d)) = []
 abbrev pub readValues : List ℕ → ℕ → List Value
 readValues f p = valuesBy (readItem f p)
 
--- a reader asks for one type, or for a listed ping of either type
+-- a reader asks for one type, or for a listed ping (`isPing`)
 abbrev pub only : ℕ → ℕ → Bool
 only k c = eqb c k
-
-abbrev pub isPing : ℕ → Bool
-isPing k = eqb k 10000 || eqb k 10010
 
 -- ---- records: tuples whose data a row says
 -- the row of a type, in a tuple of n bytes, with its characters and its attribute

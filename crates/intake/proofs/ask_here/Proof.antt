@@ -1,10 +1,10 @@
 -- `intake::ask_here` meets its contract: the lookups find the rows that the course names, which are declared. Assumes nothing.
 use mathlib.Core.Path.{_≡_, sym, ap, _∙_}
-use mathlib.Core.Bool.{true, _||_}
+use mathlib.Core.Bool.{true}
 use Prim.Native.Nat.{ℕ, _<_}
 use borrow.Author.Needs.{needs}
 use borrow.Author.Tests.{not-true, not-false}
-use lib.Dec.{eqb}
+use Rattle.layout.specs.Families.{isPing}
 use lib.ListN.{length}
 use Rattle.intake.specs.inner.Tallies.{Tables, tables, pingAt}
 use Rattle.intake.proofs.Rows.{ask-other, channel-below, sounder-below, ask-ping}
@@ -20,7 +20,7 @@ held s = tables (s .args .sounders .now) (s .args .channels .now)
 
 -- what was read and tested is whether a listed ping stands there
 tested : (c : tie.After-is-ping) → let a = c .before .before .before .args in c .is-ping .result ≡ pingAt (a .msb) (a .file .now) (a .w .at)
-tested c = c .is-ping .ensures ∙ ap (λ (k : ℕ). eqb k 10000 || eqb k 10010) (c .before .kind-at .ensures)
+tested c = c .is-ping .ensures ∙ ap isPing (c .before .kind-at .ensures)
 
 returns : tie.Need-returns
 returns c = let s = c .before .before .before .before in

@@ -6,6 +6,7 @@ use mathlib.Core.List.{List, [], _∷_, _++_}
 use mathlib.Core.Option.{some}
 use mathlib.Core.Option
 use lib.Dec.{eqb}
+use Rattle.layout.specs.Families.{isPing}
 use lib.ListN.{length, take, drop, set}
 use Rattle.order.specs.Order.{numOf}
 use Rattle.rules.specs.Rules.{_⇒_}
@@ -252,7 +253,7 @@ RunTo o f p (Done a) c = EndedBefore o f p a
 -- ---- asking where a tally stands
 -- the type code there is a listed ping's
 abbrev pub pingAt : Bool → List ℕ → ℕ → Bool
-pingAt o f at = eqb (kindAt o (drop at f)) 10000 || eqb (kindAt o (drop at f)) 10010
+pingAt o f at = isPing (kindAt o (drop at f))
 
 unfoldable pub askWhere : Bool → List ℕ → Counts → Course → Asked
 askWhere o f n w = cond (pingAt o f (w .at)) (parentsIn w (namedAt o f (w .at)) n) (Refused 9 (w .at))

@@ -9,7 +9,7 @@ use Rattle.layout.specs.declared.Answer.{Answer}
 use Rattle.layout.specs.Answers.{leftBy}
 use Rattle.samples.specs.Words.{Sample}
 use Rattle.samples.specs.Lists.{numbersOf, valuesOf}
-use Rattle.tuples.specs.Readers.{isPing}
+use Rattle.layout.specs.Families.{isPing}
 use Rattle.tuples.specs.inner.Opening.{Readable}
 use Rattle.pings.specs.Readers.{handAnswer}
 

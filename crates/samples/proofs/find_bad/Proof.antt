@@ -5,8 +5,9 @@ use Prim.Native.Nat.{_≤_, _+_, _-_, _*_}
 use native.Mathlib.Omega.{arith}
 use borrow.Author.Needs.{needs}
 use lib.ListN.{length}
+use Rattle.layout.specs.Families.{wide}
 use Rattle.samples.specs.Words.{allWords}
-use Rattle.samples.specs.Runs.{radix, firstBad}
+use Rattle.samples.specs.Runs.{firstBad}
 use Rattle.samples.proofs.Words.{wordsFrom, from-all}
 use Rattle.samples.proofs.Judging.{bad-there, bad-behind, bad-none}
 use Rattle.samples.proofs.find_bad.Statement.{statement}
@@ -14,13 +15,13 @@ use Rattle.samples.proofs.find_bad.Tie as tie
 
 abbrev Inv-loop : tie.InvT-loop
 Inv-loop part msb at₀ at =
-    (at ≤ length part) × (at + 4 * firstBad radix (wordsFrom 4 msb part at) ≡ 4 * firstBad radix (allWords 4 msb part))
+    (at ≤ length part) × (at + 4 * firstBad wide (wordsFrom 4 msb part at) ≡ 4 * firstBad wide (allWords 4 msb part))
 
 abbrev μ-loop : tie.MeasureT-loop
 μ-loop part msb at₀ at = length part - at
 
 loop-holds : tie.Need-loop-holds Inv-loop μ-loop
-loop-holds c = let a = c .before .args in (search needs, omega (arith, ap (firstBad radix) (from-all 4 (a .msb) (a .part .now))))
+loop-holds c = let a = c .before .args in (search needs, omega (arith, ap (firstBad wide) (from-all 4 (a .msb) (a .part .now))))
 
 returns : tie.Need-returns Inv-loop μ-loop
 returns c =

@@ -12,6 +12,7 @@ use lib.ListN.{length}
 use Rattle.rules.specs.Rules.{_⇒_}
 use Rattle.layout.specs.declared.Verdict.the-variants.{Fault}
 use Rattle.layout.specs.Answers.{judged, _byte_}
+use Rattle.layout.specs.Families.{wide}
 use Rattle.samples.specs.Words.{allWords}
 use Rattle.samples.specs.Runs.{radix, values, firstBad}
 use Rattle.samples.specs.Judging.{most, countAt, wordsAt, judgedWords}
@@ -24,7 +25,7 @@ abbrev Inv-loop : tie.InvT-loop
 Inv-loop part msb count values₀ bad₀ p₀ n bad p =
     (p ≤ length part) × (n ≤ p)
     × (n + values radix (wordsFrom 4 msb part p) ≡ values radix (allWords 4 msb part))
-    × ((bad || anyBad radix (wordsFrom 4 msb part p)) ≡ anyBad radix (allWords 4 msb part))
+    × ((bad || anyBad wide (wordsFrom 4 msb part p)) ≡ anyBad wide (allWords 4 msb part))
 
 abbrev μ-loop : tie.MeasureT-loop
 μ-loop part msb count values₀ bad₀ p₀ n bad p = length part - p
@@ -54,7 +55,7 @@ said : (c : tie.After-loop Inv-loop μ-loop) →
     let l = c .before .loop in
     judged
     ((ltb most (l .found) ⇒ 11 byte 0)
-    ∷ (l .bad ⇒ 24 byte (wordsAt + 4 * firstBad radix (allWords 4 (a .msb) (a .part .now))))
+    ∷ (l .bad ⇒ 24 byte (wordsAt + 4 * firstBad wide (allWords 4 (a .msb) (a .part .now))))
     ∷ (not (eqb (a .count) (l .found)) ⇒ 25 byte countAt)
     ∷ [])
     ≡ judgedWords (a .msb) (a .count) (a .part .now)

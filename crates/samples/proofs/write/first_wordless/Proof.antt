@@ -7,15 +7,15 @@ use native.Mathlib.Omega.{arith}
 use borrow.Author.Needs.{needs}
 use lib.IntN.{pos}
 use lib.ListN.{length, drop, getD}
+use Rattle.layout.specs.Families.{wide}
 use Rattle.samples.specs.inner.Lists.{valued}
-use Rattle.samples.specs.Runs.{radix, isRun, isBad}
-use Rattle.samples.specs.Judging.{firstWordless}
+use Rattle.samples.specs.Judging.{wordless, firstWordless}
 use Rattle.samples.proofs.Apart.{pattern-read, valued-next, valued-end, wordless-here, wordless-later}
 use Rattle.samples.proofs.write.first_wordless.Statement.{statement}
 use Rattle.samples.proofs.write.first_wordless.Tie as tie
 
 abbrev Inv-loop : tie.InvT-loop
-Inv-loop vs i₀ i = (i ≤ length vs) × (i + firstWordless (valued (drop i vs)) ≡ firstWordless (valued vs))
+Inv-loop vs i₀ i = (i ≤ length vs) × (i + firstWordless wide (valued (drop i vs)) ≡ firstWordless wide (valued vs))
 
 abbrev μ-loop : tie.MeasureT-loop
 μ-loop vs i₀ i = length vs - i
@@ -34,24 +34,24 @@ split c =
 -- the code's test is the definition's
 tested : (c : tie.After-is-bad Inv-loop μ-loop) →
     let w = c .before .before .pattern4 .result in
-    (isRun radix w || isBad radix w) ≡ (c .before .is-run .result || c .is-bad .result)
+    wordless wide w ≡ (c .before .is-run .result || c .is-bad .result)
 tested c = rw (c .before .is-run .ensures, c .is-bad .ensures)
 
 returns : tie.Need-returns Inv-loop μ-loop
 returns c =
     let said = c .before .before .before in
-    omega (arith, ap firstWordless (split said) ∙ wordless-here (0, said .pattern4 .result) _ (tested (c .before) ∙ c .if1 .taken))
+    omega (arith, ap (firstWordless wide) (split said) ∙ wordless-here wide (0, said .pattern4 .result) _ (tested (c .before) ∙ c .if1 .taken))
 
 loop-again : tie.Need-loop-again Inv-loop μ-loop
 loop-again c =
     let said = c .before .before .before in
-    omega (arith, ap firstWordless (split said) ∙ wordless-later (0, said .pattern4 .result) _ (tested (c .before) ∙ c .if1 .left))
+    omega (arith, ap (firstWordless wide) (split said) ∙ wordless-later wide (0, said .pattern4 .result) _ (tested (c .before) ∙ c .if1 .left))
 
 returns-2 : tie.Need-returns-2 Inv-loop μ-loop
 unfolding firstWordless
 returns-2 c =
     let l = c .before .loop in
-    omega (arith, ap firstWordless (valued-end (c .before .before .args .values .now) (l .i) (c .loop-test .left)))
+    omega (arith, ap (firstWordless wide) (valued-end (c .before .before .args .values .now) (l .i) (c .loop-test .left)))
 
 pub first-wordless-spec : {M : Type 1} → statement M
 first-wordless-spec =

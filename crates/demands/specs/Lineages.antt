@@ -1,11 +1,11 @@
 -- Demand 2 in words, of the links: the one channel that a ping names, that channel's one sounder, and what asking gives. Assumes
 -- nothing.
 use mathlib.Core.Path.{_≡_}
-use mathlib.Core.Logic.{_⊎_}
-use mathlib.Core.Bool.{Bool}
+use mathlib.Core.Bool.{Bool, true}
 use mathlib.Core.List.{List, _∷_, _++_}
 use Prim.Native.Nat.{ℕ, _+_}
 use lib.ListN.{length}
+use Rattle.layout.specs.Families.{isPing}
 use Rattle.layout.specs.declared.Maker.{Maker}
 use Rattle.layout.specs.declared.Maker.the-variants.{Biosonics, Simrad}
 use Rattle.layout.specs.declared.SoftwareChannel.{SoftwareChannel}
@@ -35,7 +35,7 @@ pub record Sole (P : Tup → Type 0) (xs : List Tup) : Type 0 where
   pub is : P (one .it)
   pub only : (a : Among xs) → P (a .it) → a .before ≡ one .before
 
--- ---- a family
+-- ---- a lineage
 -- a channel tuple that declares c, and a sounder tuple that declares d
 pub record ChannelTuple (o : Bool) (c : SoftwareChannel) (t : Tup) : Type 0 where
   pub it : Channel
@@ -58,7 +58,7 @@ channelType Simrad = 2000
 
 -- the parents of what names a channel behind these tuples: the one tuple that declares it, and the one tuple before that which
 -- declares the sounder it names; both are of one maker, and so of that maker's types
-pub record Family (o : Bool) (xs : List Tup) (c : SoftwareChannel) : Type 0 where
+pub record Lineage (o : Bool) (xs : List Tup) (c : SoftwareChannel) : Type 0 where
   pub channel : Sole (ChannelTuple o c) xs
   pub sounder : Sole (SounderTuple o (channel .is .it .parent)) (channel .one .before)
   pub maker : Maker
@@ -72,7 +72,7 @@ channelIn q = record { 0 = numberAt (q .head) 2 }
 
 -- a ping of a listed type
 abbrev pub Listed : Tup → Type 0
-Listed t = (t .kind ≡ 10000) ⊎ (t .kind ≡ 10010)
+Listed t = isPing (t .kind) ≡ true
 
 -- ---- asking
 -- the place behind the mark and these tuples
@@ -80,15 +80,15 @@ abbrev pub placeAfter : Bool → List Tup → ℕ
 placeAfter o xs = 4 + length (frames o xs)
 
 -- the parents and their places, the channel's sampling rate and what its samples are, for the answer
-abbrev pub gives : {o : Bool} {xs : List Tup} {c : SoftwareChannel} → Family o xs c → Counts → Asked
+abbrev pub gives : {o : Bool} {xs : List Tup} {c : SoftwareChannel} → Lineage o xs c → Counts → Asked
 gives {o} {xs} {c} g n =
     let it = g .channel .is .it in
     Asked.Parents c (placeAfter o (g .channel .one .before)) (it .rate) (it .samples) (it .parent) (placeAfter o (g .sounder .one .before))
     n
 
--- what asking at a ping gives: the channel that it names, the channel's family, and the answer by these
+-- what asking at a ping gives: the channel that it names, the channel's lineage, and the answer by these
 pub record Answered (f : List ℕ) (a : Among (tuplesOf f)) (n : Counts) : Type 0 where
   pub channel : SoftwareChannel
   pub names : digest (isMsb f) (a .it) .link ≡ Link.names channel
-  pub family : Family (isMsb f) (a .before) channel
-  pub answer : askAt f (placeAfter (isMsb f) (a .before)) ≡ gives family n
+  pub lineage : Lineage (isMsb f) (a .before) channel
+  pub answer : askAt f (placeAfter (isMsb f) (a .before)) ≡ gives lineage n
