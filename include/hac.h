@@ -78,7 +78,9 @@ enum {
      of the other maker.
    - 14: the limits count both makers' together.
    - 17: a sounder's number of channels is the number of channels that name it.
-   All four are listed, so none of them gives 18. */
+   All four are listed, so none of them gives 18.
+
+   21, 22 and 26 are ping writers' alone, 26 the C-32 writer's: hac_write_c32 says more. */
 enum {
     HAC_ACCEPTED = 0,
     HAC_OVER_LIMIT = 1,          /* file over the limit */
@@ -102,10 +104,12 @@ enum {
     HAC_NO_ROOM = 19,            /* lent output too short */
     HAC_NORMAL_OVER_LIMIT = 20,  /* normal form over 16,777,216 */
     HAC_NO_WORD = 21,            /* C-32 writer: value in -65536..-1 or outside the limits */
-    HAC_NO_SAMPLES = 22,         /* writer: U-32 ping without samples */
+    HAC_NO_SAMPLES = 22,         /* writer: ping without samples, and, C-32, without a length */
     HAC_NOT_RISING = 23,         /* sample number not rising */
     HAC_BAD_WORD = 24,           /* word outside the limits */
-    HAC_MISCOUNTED = 25          /* number of samples wrong */
+    HAC_MISCOUNTED = 25,         /* number of samples wrong */
+    HAC_SHORT_LENGTH = 26        /* writer: a C-32 ping's length under its last sample number plus 2, or 0 where it has no
+                                    samples */
 };
 
 /* ---- type codes of the pings; those of the records stand in hac_records.h: HAC_TYPE_NAVIGATION .. */
@@ -177,11 +181,26 @@ enum { HAC_NORMALISE_TUPLE_ENTRIES = 5 };
 uint8_t hac_normalise_tuple(const uint8_t *file, size_t length, uint8_t *out, size_t out_length, uint64_t *answer,
     size_t entries);
 
-/* ---- pings, U-32 and C-32 */
+/* ---- pings, U-32 and C-32
 
-/* Header, attribute, kind and number of values. Refused as a forward step is, 3 at the end; 9 for another type; 9, 11, all at
-   the place; then 23, 24, 25 at their bytes. */
-enum { HAC_READ_PING_ENTRIES = 14 };
+   A ping's length is the number of its samples, those below threshold in its runs counted too: how far the water was sampled. A
+   C-32 ping has one where its last word is a run, so one without samples always has, and it is at least 1; a C-32 ping whose
+   last word is a value has none, and neither has a U-32 ping. The length is content: two pings are the same only where their
+   lengths are equal or both have none, and silent pings of different lengths differ. How runs are cut is no content. The normal
+   form of a ping with a length is C-32 in the fewest words, the silence behind its last value among them; of all others U-32.
+
+   Silence behind the last value said nothing before, and a ping without samples was one run of 1. What changes for a caller:
+   - hac_read_ping tells the length in two entries more, HAC_PING_HAS_LENGTH and HAC_PING_LENGTH: lend it HAC_READ_PING_ENTRIES,
+     which are 16. Those before them, and all its refusals, are the same. hac_read_samples is as it was.
+   - hac_write_c32 takes `has_length` and `ping_length` behind the values. Hand over false and any number for what it wrote before.
+   - hac_write_c32 of a ping without samples and without a length is HAC_NO_SAMPLES. Hand over true and 1 for the run of 1 that it
+     wrote before, or better how many samples were silent.
+   - hac_normalise and hac_normalise_tuple keep a ping that ends in a run as C-32. Normal forms made before, of files that have
+     such pings, are not those of today. */
+
+/* Header, attribute, kind, number of values and length. Refused as a forward step is, 3 at the end; 9 for another type; 9, 11,
+   all at the place; then 23, 24, 25 at their bytes. */
+enum { HAC_READ_PING_ENTRIES = 16 };
 
 enum { HAC_KIND_U32 = 0, HAC_KIND_C32 = 1 };
 
@@ -194,13 +213,15 @@ enum {
     HAC_PING_DETECTED_BOTTOM_RANGE = 10, /* int32_t */
     HAC_PING_TUPLE_ATTRIBUTE = 11,       /* int32_t */
     HAC_PING_KIND = 12,                  /* HAC_KIND_U32 or HAC_KIND_C32 */
-    HAC_PING_VALUES = 13                 /* the number of its samples */
+    HAC_PING_VALUES = 13,                /* the number of its samples that have values */
+    HAC_PING_HAS_LENGTH = 14,            /* 1 where the ping has a length, 0 where it has none */
+    HAC_PING_LENGTH = 15                 /* its length: all its samples, runs counted; 0 where it has none */
 };
 
 uint8_t hac_read_ping(const uint8_t *file, size_t length, size_t place, uint64_t *answer, size_t entries);
 
-/* The samples: an entry of both slices for each; entries past them stay. Length: how many. Refused as hac_read_ping; then by 19
-   at 0 where either slice is shorter than HAC_PING_VALUES. */
+/* The samples that have values: an entry of both slices for each; entries past them stay. Length: how many. Refused as
+   hac_read_ping; then by 19 at 0 where either slice is shorter than HAC_PING_VALUES. */
 enum { HAC_READ_SAMPLES_ENTRIES = 5 };
 
 uint8_t hac_read_samples(const uint8_t *file, size_t length, size_t place, uint32_t *numbers, size_t numbers_length,
@@ -211,18 +232,22 @@ uint8_t hac_read_samples(const uint8_t *file, size_t length, size_t place, uint3
 enum { HAC_WRITE_ENTRIES = 5 };
 
 /* A ping as pairs, or in the fewest words. Numbers rise strictly; both slices have the same length. Refused by 23 at the smaller
-   of unequal lengths; 11 (over HAC_VALUE_LIMIT values); 22 (U-32 without samples); 23 at the first number not above the one
-   before it; 21 at the first value that has no word (C-32 alone: only -2147418112 .. -65537 and 0 .. 2147418111 have words); 11
-   (the tuple over HAC_TUPLE_LIMIT); 19. The places of 23 and 21 are places in the list, from 0; all others are 0. */
+   of unequal lengths; 11 (over HAC_VALUE_LIMIT values); 22 (no samples, and, C-32, no length); 23 at the first number not above
+   the one before it; 21 at the first value that has no word (C-32 alone: only -2147418112 .. -65537 and 0 .. 2147418111 have
+   words); 26 (C-32 alone, where there is a length: under the last number plus 2, or 0 without samples); 11 (the tuple over
+   HAC_TUPLE_LIMIT); 19. The places of 23 and 21 are places in the list, from 0; all others are 0. */
 uint8_t hac_write_u32(uint16_t time_fraction, uint32_t time_cpu, uint16_t software_channel_identifier,
     uint16_t transmitter_mode, uint32_t ping_number, int32_t detected_bottom_range, int32_t tuple_attribute,
     const uint32_t *numbers, size_t numbers_length, const int32_t *values, size_t values_length, bool msb, uint8_t *out,
     size_t out_length, uint64_t *answer, size_t entries);
 
+/* With a length the ping ends in the runs that fill it, at least one sample of silence, so that it is read with this length.
+   Without one no run stands behind the last value, and `ping_length` is not looked at. The last number plus 2 is worked out in
+   more than 32 bits: where the last number is 4294967294 or 4294967295 every length is too short. */
 uint8_t hac_write_c32(uint16_t time_fraction, uint32_t time_cpu, uint16_t software_channel_identifier,
     uint16_t transmitter_mode, uint32_t ping_number, int32_t detected_bottom_range, int32_t tuple_attribute,
-    const uint32_t *numbers, size_t numbers_length, const int32_t *values, size_t values_length, bool msb, uint8_t *out,
-    size_t out_length, uint64_t *answer, size_t entries);
+    const uint32_t *numbers, size_t numbers_length, const int32_t *values, size_t values_length, bool has_length,
+    uint32_t ping_length, bool msb, uint8_t *out, size_t out_length, uint64_t *answer, size_t entries);
 
 /* ---- the records: what stands in a listed tuple that is no ping.
 

@@ -1,9 +1,9 @@
 //! The deposits that are timed: most just below the limit of a file, and some small.
 
 use hac::{
-    write_c32, write_u32, Attitude, Channel, DocumentId, FileEnd, Navigation, Order, PingHeader,
-    Position, Refusal, Signature, SoftwareChannel, Sounder, Transceiver, Walk, CHANNEL_LIMIT,
-    FILE_LIMIT, REMARK, TUPLE_LIMIT,
+    write_u32, Attitude, Channel, DocumentId, FileEnd, Navigation, Order, PingHeader, Position,
+    Refusal, Signature, SoftwareChannel, Sounder, Transceiver, Walk, CHANNEL_LIMIT, FILE_LIMIT,
+    REMARK, TUPLE_LIMIT,
 };
 
 /// The one sounder of a deposit, and the first of its channels.
@@ -14,9 +14,10 @@ const CHANNEL: SoftwareChannel = SoftwareChannel(3);
 /// round a tuple of another kind.
 const CRUISE_CHANNELS: u16 = 3;
 
-/// The bytes of a mixed cruise: its normal form is longer than it is, for its
-/// C-32 pings become U-32, and has to stay within the limit of a file.
-const CRUISE_LIMIT: usize = FILE_LIMIT / 4 * 3;
+/// The bytes of a deposit whose normal form is longer than it is, for its C-32 pings
+/// become U-32, and has to stay within the limit of a file: a mixed cruise, and pings
+/// that end in a value.
+const GROWING_LIMIT: usize = FILE_LIMIT / 4 * 3;
 
 /// The channels of a deposit with some, and of one with as many as may be.
 const SOME_CHANNELS: u16 = 64;
@@ -28,9 +29,13 @@ const KIB: usize = 1 << 10;
 /// Samples of a U-32 ping.
 const SAMPLES: u32 = 1000;
 
-/// Words of a C-32 ping; where its number of samples and its words stand; the
-/// bytes of a word, behind the words, and of a tuple's frame.
+/// Words of a C-32 ping, and of a short one; its type; where that, its number of
+/// samples and its words stand; the bytes of a word, behind the words, and of a tuple's
+/// frame.
 const WORDS: u32 = 2000;
+const FEW_WORDS: u32 = 20;
+const PING_C: u16 = 10010;
+const TYPE_AT: usize = 4;
 const COUNT_AT: usize = 24;
 const WORDS_AT: usize = 28;
 const WORD: usize = 4;
@@ -172,39 +177,106 @@ fn navigation(order: Order, count: u32, tuple: &mut [u8]) -> Result<usize, Refus
     told.write(order, tuple)
 }
 
-/// A number in LSB order, put at a place.
-fn put(tuple: &mut [u8], at: usize, number: usize) {
-    tuple[at..at + WORD].copy_from_slice(&(number as u32).to_le_bytes());
+/// A number, put at a place.
+fn put(order: Order, tuple: &mut [u8], at: usize, number: u32) {
+    let bytes = match order {
+        Order::Lsb => number.to_le_bytes(),
+        Order::Msb => number.to_be_bytes(),
+    };
+    tuple[at..at + WORD].copy_from_slice(&bytes);
 }
 
-/// C-32 pings in LSB order whose words are runs and values by chance: so many
-/// in sixteen are runs, each shorter than `longest`. Recorders cut silence as
-/// they like, so a run may follow a run.
-fn compressed(runs: u32, longest: u32) -> Result<Vec<u8>, Refusal> {
-    let mut chance = Chance(12345);
-    Draft::new(Order::Lsb, 1)?.fill(FILE_LIMIT, |order, count, tuple| {
-        let silent = write_c32(&header(CHANNEL, count), 0, &[], &[], order, tuple)?;
-        let tail = tuple[silent - TAIL..silent].to_vec();
-        let mut values = 0;
-        let mut at = WORDS_AT;
-        for _ in 0..WORDS {
-            let number = chance.next() >> 4;
-            let word = if chance.next() % 16 < runs {
-                SHORTEST_RUN + number % longest
-            } else {
-                values += 1;
-                number
-            };
-            put(tuple, at, word as usize);
-            at += WORD;
-        }
-        let length = at + TAIL;
-        tuple[at..length].copy_from_slice(&tail);
-        put(tuple, 0, length - FRAME);
-        put(tuple, COUNT_AT, values);
-        put(tuple, length - WORD, length);
-        Ok(length)
-    })
+/// A C-32 ping of these words. Recorders cut silence as they like, and the writer
+/// doesn't: so the words come between what a U-32 ping has around its one pair.
+fn words_ping(
+    header: &PingHeader,
+    words: &[u32],
+    order: Order,
+    tuple: &mut [u8],
+) -> Result<usize, Refusal> {
+    let single = write_u32(header, 0, &[0], &[0], order, tuple)?;
+    let code = match order {
+        Order::Lsb => PING_C.to_le_bytes(),
+        Order::Msb => PING_C.to_be_bytes(),
+    };
+    tuple[TYPE_AT..TYPE_AT + code.len()].copy_from_slice(&code);
+    let values = words.iter().filter(|word| **word < SHORTEST_RUN).count();
+    put(order, tuple, COUNT_AT, values as u32);
+    let end = WORDS_AT + WORD * words.len();
+    let length = end + TAIL;
+    tuple.copy_within(single - TAIL..single, end);
+    for (word, at) in words.iter().zip((WORDS_AT..).step_by(WORD)) {
+        put(order, tuple, at, *word);
+    }
+    put(order, tuple, 0, (length - FRAME) as u32);
+    put(order, tuple, length - WORD, length as u32);
+    Ok(length)
+}
+
+/// The last word of a ping: what comes by chance, or what is wanted there.
+#[derive(Clone, Copy)]
+enum Last {
+    Any,
+    Run,
+    Value,
+}
+
+/// C-32 pings whose words are runs and values by chance: so many words, of which so many
+/// in sixteen are runs, each shorter than `longest`. A run may follow a run.
+#[derive(Clone, Copy)]
+struct Words {
+    count: u32,
+    runs: u32,
+    longest: u32,
+    last: Last,
+}
+
+/// As many runs as values, short ones; and few values between long ones.
+const SHORT_RUNS: Words = Words {
+    count: WORDS,
+    runs: 8,
+    longest: 8,
+    last: Last::Any,
+};
+const LONG_RUNS: Words = Words {
+    runs: 15,
+    longest: 60_000,
+    ..SHORT_RUNS
+};
+
+impl Words {
+    fn draw(self, chance: &mut Chance) -> Vec<u32> {
+        let mut words: Vec<u32> = (0..self.count)
+            .map(|_| {
+                let number = chance.next() >> 4;
+                if chance.next() % 16 < self.runs {
+                    SHORTEST_RUN + number % self.longest
+                } else {
+                    number
+                }
+            })
+            .collect();
+        let number = words.last().copied().unwrap_or_default() % self.longest;
+        words.extend(match self.last {
+            Last::Any => None,
+            Last::Run => Some(SHORTEST_RUN + number),
+            Last::Value => Some(number),
+        });
+        words
+    }
+
+    /// A deposit of such pings.
+    fn pings(self, order: Order) -> Result<Vec<u8>, Refusal> {
+        let limit = match self.last {
+            Last::Value => GROWING_LIMIT,
+            Last::Any | Last::Run => FILE_LIMIT,
+        };
+        let mut chance = Chance(12345);
+        Draft::new(order, 1)?.fill(limit, |order, count, tuple| {
+            let words = self.draw(&mut chance);
+            words_ping(&header(CHANNEL, count), &words, order, tuple)
+        })
+    }
 }
 
 fn pairs(order: Order) -> Result<Vec<u8>, Refusal> {
@@ -214,6 +286,20 @@ fn pairs(order: Order) -> Result<Vec<u8>, Refusal> {
         let values: Vec<i32> = numbers.iter().map(|_| chance.next() as i32).collect();
         write_u32(&header(CHANNEL, count), 0, &numbers, &values, order, tuple)
     })
+}
+
+/// The fewest words of samples whose gaps one run can hold.
+fn words_of(numbers: &[u32], values: &[i32]) -> Vec<u32> {
+    let mut words = Vec::new();
+    let mut next = 0;
+    for (number, value) in numbers.iter().zip(values) {
+        if *number > next {
+            words.push(SHORTEST_RUN + (number - next - 1));
+        }
+        words.push(*value as u32);
+        next = number + 1;
+    }
+    words
 }
 
 /// Samples as an echogram has them: layers of some tens of neighbours with
@@ -236,17 +322,16 @@ fn layers(chance: &mut Chance) -> (Vec<u32>, Vec<i32>) {
 fn cruise(order: Order) -> Result<Vec<u8>, Refusal> {
     let mut chance = Chance(98765);
     let round = u32::from(CRUISE_CHANNELS) + 1;
-    Draft::new(order, CRUISE_CHANNELS)?.fill(CRUISE_LIMIT, |order, count, tuple| {
+    Draft::new(order, CRUISE_CHANNELS)?.fill(GROWING_LIMIT, |order, count, tuple| {
         let turn = (count % round) as u16;
         if turn < CRUISE_CHANNELS {
             let (numbers, values) = layers(&mut chance);
             let header = header(nth_channel(turn), count / round);
-            let write = if count.is_multiple_of(2) {
-                write_u32
+            return if count.is_multiple_of(2) {
+                write_u32(&header, 0, &numbers, &values, order, tuple)
             } else {
-                write_c32
+                words_ping(&header, &words_of(&numbers, &values), order, tuple)
             };
-            return write(&header, 0, &numbers, &values, order, tuple);
         }
         match count / round % 3 {
             0 => Position::default().write(order, tuple),
@@ -322,6 +407,50 @@ pub fn small() -> Result<Vec<Deposit>, Refusal> {
     ]))
 }
 
+/// Those that show what silence costs: C-32 pings that end in a run keep to C-32, so that
+/// the normal form's words have to be counted before they are written; beside them the
+/// same that end in a value. Dense and sparse ones, short ones, and silent ones of one
+/// run and of many.
+pub fn silence() -> Result<Vec<Deposit>, Refusal> {
+    let to_value = Words {
+        last: Last::Value,
+        ..SHORT_RUNS
+    };
+    let dense = Words {
+        runs: 1,
+        last: Last::Run,
+        ..SHORT_RUNS
+    };
+    let even = Words { runs: 8, ..dense };
+    let sparse = Words {
+        last: Last::Run,
+        ..LONG_RUNS
+    };
+    let short = Words {
+        count: FEW_WORDS,
+        ..even
+    };
+    let silent = Words { runs: 16, ..sparse };
+    let one_run = Words { count: 0, ..silent };
+    let [lsb, msb] = [Order::Lsb, Order::Msb];
+    Ok(taken([
+        ("C-32 to a value, LSB", to_value.pings(lsb)?),
+        ("C-32 to a value, MSB", to_value.pings(msb)?),
+        ("C-32 to a run, LSB", even.pings(lsb)?),
+        ("C-32 to a run, MSB", even.pings(msb)?),
+        ("C-32 to a run, dense, LSB", dense.pings(lsb)?),
+        ("C-32 to a run, dense, MSB", dense.pings(msb)?),
+        ("C-32 to a run, sparse, LSB", sparse.pings(lsb)?),
+        ("C-32 to a run, sparse, MSB", sparse.pings(msb)?),
+        ("C-32 to a run, short, LSB", short.pings(lsb)?),
+        ("C-32 to a run, short, MSB", short.pings(msb)?),
+        ("C-32 silent, LSB", silent.pings(lsb)?),
+        ("C-32 silent, MSB", silent.pings(msb)?),
+        ("C-32 silent, one run, LSB", one_run.pings(lsb)?),
+        ("C-32 silent, one run, MSB", one_run.pings(msb)?),
+    ]))
+}
+
 /// Those of every kind, each as long as may be.
 pub fn long() -> Result<Vec<Deposit>, Refusal> {
     let small = Draft::new(Order::Lsb, 1)?.fill(FILE_LIMIT, navigation)?;
@@ -332,8 +461,8 @@ pub fn long() -> Result<Vec<Deposit>, Refusal> {
             "28-byte tuples, MSB",
             Draft::new(Order::Msb, 1)?.fill(FILE_LIMIT, navigation)?,
         ),
-        ("C-32 pings, short runs", compressed(8, 8)?),
-        ("C-32 pings, long runs", compressed(15, 60_000)?),
+        ("C-32 pings, short runs", SHORT_RUNS.pings(Order::Lsb)?),
+        ("C-32 pings, long runs", LONG_RUNS.pings(Order::Lsb)?),
         ("U-32 pings, LSB", pairs(Order::Lsb)?),
         ("U-32 pings, MSB", pairs(Order::Msb)?),
         ("mixed cruise, LSB", cruise(Order::Lsb)?),

@@ -6,7 +6,7 @@
 use crate::answers::COMPARED;
 use crate::exports::Export;
 use crate::runner::Runner;
-use crate::tally::Tally;
+use crate::tally::{Silence, Tally};
 use second::Maker;
 use std::io;
 use std::mem;
@@ -308,6 +308,11 @@ impl Batch {
     /// A record of a type was read or written.
     pub fn met(&mut self, record: &'static str, written: bool) {
         self.tally.met(record, written);
+    }
+
+    /// Notes what was done with a ping that has a length.
+    pub fn met_length(&mut self, silence: Silence) {
+        self.tally.met_length(silence);
     }
 
     /// Notes that a channel of this maker named a sounder of the other.

@@ -1,14 +1,14 @@
 //! What is compared of a file: the check, the walks, pings and records read at many
 //! places, and the normal form.
 
-use crate::answers::{five, reply_numbers};
+use crate::answers::{five, reply_numbers, FIELDS};
 use crate::batch::{Batch, File, FILLED};
 use crate::exports::{export, Export};
 use crate::kinds::header_numbers;
 use crate::records;
-use crate::tally::Given;
+use crate::tally::{Given, Silence};
 use second::gen::{Case, Rng};
-use second::layout::{CHANNEL_LIMIT, FILE_LIMIT, VALUE_LIMIT};
+use second::layout::{CHANNEL_LIMIT, FILE_LIMIT, PING_C32, VALUE_LIMIT};
 use second::programs::normalise_tuple;
 use second::records::{Channel, Echosounder, Ek500Channel, Ek500Sounder, Ping, PingKind};
 use second::samples::read_samples;
@@ -59,6 +59,10 @@ const REFUSED_LENGTHS: usize = 200;
 
 /// A tuple is damaged in its mark, head or first fields: so many bytes.
 const DAMAGED: usize = 48;
+
+/// Where among a ping's numbers it is told whether it has a length: behind header,
+/// attribute, kind and number of values.
+const HAS_LENGTH: usize = FIELDS + 9;
 
 /// The code of a place where no ping starts.
 const OTHER_TYPE: u64 = 9;
@@ -121,7 +125,8 @@ fn ask_numbers(file: &[u8], place: u64) -> Vec<u64> {
     })
 }
 
-/// A ping's header, attribute, kind and number of values.
+/// A ping's header, attribute, kind and number of values, whether it has a length, and
+/// that one or 0.
 pub fn ping_numbers(file: &[u8], place: u64) -> Vec<u64> {
     reply_numbers(Ping::read(file, place), |ping| {
         let mut numbers = header_numbers(&ping.header, ping.tuple_attribute);
@@ -130,8 +135,14 @@ pub fn ping_numbers(file: &[u8], place: u64) -> Vec<u64> {
             PingKind::C32 => 1,
         };
         numbers.extend([kind, ping.values.into()]);
+        numbers.extend(length_numbers(ping.length));
         numbers
     })
+}
+
+/// A length as the archive tells it: whether there is one, and which; 0 for none.
+pub fn length_numbers(length: Option<u32>) -> [u64; 2] {
+    [length.is_some().into(), length.unwrap_or(0).into()]
 }
 
 /// A call at a place of a file, the second program's numbers beside it.
@@ -352,6 +363,9 @@ fn read_at(batch: &mut Batch, file: &mut File, place: u64) {
 /// A ping's fields at a place; gives the code.
 pub fn ping_at(batch: &mut Batch, file: &mut File, place: u64) -> u64 {
     let numbers = ping_numbers(file.bytes, place);
+    if numbers.get(HAS_LENGTH) == Some(&1) {
+        batch.met_length(Silence::Read);
+    }
     call_at(batch, export("read_ping"), file, place, &numbers);
     numbers[0]
 }
@@ -403,6 +417,9 @@ fn compare_normal(
     let whole = writer(file.bytes, &mut batch.scratch);
     let n = whole.length as usize;
     let normal = (n > 0 && n < LARGE).then(|| batch.scratch[..n].to_vec());
+    if normal.as_deref().is_some_and(has_silence) {
+        batch.met_length(Silence::Normalised);
+    }
     let lengths = if whole.is_accepted() {
         vec![n, n - 1, n + SPARE, 0]
     } else {
@@ -416,6 +433,18 @@ fn compare_normal(
         batch.rest()?;
     }
     Ok(normal)
+}
+
+/// Whether a normal form has a ping with a length: that one alone is C-32 there.
+fn has_silence(normal: &[u8]) -> bool {
+    let mut at = FIRST;
+    while let Step::Tuple { tuple, next } = forward(normal, at) {
+        if tuple.code == PING_C32 {
+            return true;
+        }
+        at = next;
+    }
+    false
 }
 
 /// A mark and one tuple, for each tuple of a file: as it stands, damaged, cut

@@ -8,7 +8,7 @@ use second::{Maker, Order};
 use std::collections::BTreeMap;
 
 /// The codes of 01 and 02, and 0 for acceptance.
-const CODES: usize = 26;
+const CODES: usize = 27;
 
 /// The most identifiers that one search compares. Only a number above it shows
 /// that searches among many were added up.
@@ -20,6 +20,22 @@ const MOST_STACK: u64 = 96 << 10;
 
 /// In the order in which they are counted.
 const MAKERS: [Maker; 2] = [Maker::Biosonics, Maker::Simrad];
+
+/// What can be done with a ping that has a length: it is read, it is written, it is in a
+/// normal form.
+#[derive(Clone, Copy, PartialEq, Eq)]
+pub enum Silence {
+    Read,
+    Written,
+    Normalised,
+}
+
+/// In the order in which they are counted, in words.
+const SILENCES: [(Silence, &str); 3] = [
+    (Silence::Read, "read"),
+    (Silence::Written, "written"),
+    (Silence::Normalised, "normalised"),
+];
 
 /// What an export can give, and so must: said by the module that compares it.
 #[derive(Clone, Copy)]
@@ -116,6 +132,8 @@ pub struct Tally {
     marked: [Marked; 2],
     /// The channels of each maker that were refused for naming a sounder of the other.
     other_maker: [u64; 2],
+    /// How often each of `SILENCES` was done.
+    lengths: [u64; 3],
     pub cases: u64,
     files: u64,
     bytes: u64,
@@ -129,6 +147,7 @@ impl Default for Tally {
             stack: vec![[0; 2]; EXPORTS.len()],
             marked: Default::default(),
             other_maker: [0; 2],
+            lengths: [0; 3],
             cases: 0,
             files: 0,
             bytes: 0,
@@ -162,6 +181,13 @@ impl Tally {
     pub fn other_maker(&mut self, channel: Maker) {
         for (maker, times) in MAKERS.iter().zip(&mut self.other_maker) {
             *times += u64::from(*maker == channel);
+        }
+    }
+
+    /// Counts what was done with a ping that has a length.
+    pub fn met_length(&mut self, silence: Silence) {
+        for ((known, _), times) in SILENCES.iter().zip(&mut self.lengths) {
+            *times += u64::from(*known == silence);
         }
     }
 
@@ -210,11 +236,14 @@ impl Tally {
         for (sum, times) in self.other_maker.iter_mut().zip(other.other_maker) {
             *sum += times;
         }
+        for (sum, times) in self.lengths.iter_mut().zip(other.lengths) {
+            *sum += times;
+        }
     }
 
     /// In words, a line each: cases and files; each export's calls with the codes
     /// that they gave and the identifiers compared; the records; the channels that
-    /// named a sounder of the other maker.
+    /// named a sounder of the other maker; the pings with a length.
     pub fn tell(&self) -> Vec<String> {
         let [lsb, msb] = &self.marked;
         let calls: u64 = self.exports.iter().map(Count::calls).sum();
@@ -248,6 +277,11 @@ impl Tally {
             "files refused for a sounder of the other maker: {biosonics} for Biosonics's channel, \
              {simrad} for Simrad's"
         ));
+        let lengths = SILENCES.iter().zip(self.lengths);
+        let told: Vec<String> = lengths
+            .map(|((_, what), times)| format!("{what} {times}"))
+            .collect();
+        lines.push(format!("pings with a length: {}", told.join(", ")));
         lines
     }
 
@@ -292,7 +326,7 @@ impl Tally {
 
     /// What was not compared: codes that no call gave; what an export or a record
     /// never did; files at the limit and past it in either order; a sounder of the
-    /// other maker named by a channel of either.
+    /// other maker named by a channel of either; a ping with a length.
     pub fn missing(&self, given: &[Given]) -> Vec<String> {
         let mut missing = Vec::new();
         for (export, count) in EXPORTS.iter().zip(&self.exports) {
@@ -319,6 +353,11 @@ impl Tally {
                 missing.push(format!(
                     "no channel of {maker:?} was refused for a sounder of the other maker"
                 ));
+            }
+        }
+        for ((_, what), times) in SILENCES.iter().zip(self.lengths) {
+            if times == 0 {
+                missing.push(format!("no ping with a length was {what}"));
             }
         }
         missing

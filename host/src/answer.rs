@@ -7,7 +7,7 @@ use std::fmt;
 macro_rules! codes {
     ($($number:literal $code:ident $words:literal)*) => {
         /// The rule that was broken. Document 01 has them in a table; 02 put 23, 24 and
-        /// 25 in the place of 10, which is no longer given.
+        /// 25 in the place of 10, which is no longer given, and added 26.
         #[derive(Clone, Copy, Debug, PartialEq, Eq, PartialOrd, Ord, Hash)]
         pub enum Code {
             $(#[doc = concat!(stringify!($number), ": ", $words, ".")] $code = $number,)*
@@ -56,10 +56,11 @@ codes! {
     19 NoRoom "lent output too short"
     20 NormalOverLimit "normal form over 16,777,216"
     21 NoWord "C-32 writer: value in -65536..-1 or outside the limits"
-    22 NoSamples "writer: U-32 ping without samples"
+    22 NoSamples "writer: ping without samples, and, C-32, without a length"
     23 NotRising "sample number not rising"
     24 BadWord "word outside the limits"
     25 Miscounted "number of samples wrong"
+    26 ShortLength "writer: a C-32 ping's length under its last sample number plus 2, or 0 where it has no samples"
 }
 
 impl Code {
@@ -98,15 +99,15 @@ mod tests {
     use super::*;
 
     #[test]
-    fn numbers_run_from_1_to_25_without_10() {
+    fn numbers_run_from_1_to_26_without_10() {
         let numbers: Vec<u8> = Code::ALL.iter().map(|code| code.number()).collect();
-        assert_eq!(numbers, (1..=9).chain(11..=25).collect::<Vec<u8>>());
+        assert_eq!(numbers, (1..=9).chain(11..=26).collect::<Vec<u8>>());
         for &code in Code::ALL {
             assert_eq!(Code::of(code.number()), Some(code));
         }
         assert_eq!(Code::of(0), None);
         assert_eq!(Code::of(10), None);
-        assert_eq!(Code::of(26), None);
+        assert_eq!(Code::of(27), None);
     }
 
     #[test]

@@ -50,6 +50,13 @@ macro_rules! numbers {
 
 numbers!(u16 as u16 i16 as u16 u32 as u32 i32 as u32);
 
+/// Whether there is what the next entry tells.
+impl Field for bool {
+    fn of(pattern: u64) -> bool {
+        pattern != 0
+    }
+}
+
 /// A number of tuples or of identifiers, a place or a length.
 impl Field for usize {
     fn of(pattern: u64) -> usize {

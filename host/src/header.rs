@@ -103,10 +103,11 @@ fn codes() {
     let text = words.join(" ");
     let holds = |line: &str| assert!(text.contains(line), "include/hac.h lacks: {line}");
     holds("HAC_ACCEPTED = 0,");
+    let last = Code::ALL.last();
     for code in Code::ALL {
         let name = capitals(&format!("{code:?}"));
         let (number, words) = (code.number(), code.words());
-        let comma = if number < 25 { "," } else { "" };
+        let comma = if Some(code) == last { "" } else { "," };
         holds(&format!("HAC_{name} = {number}{comma} /* {words} */"));
     }
     // a number that C programs may still name
@@ -123,6 +124,7 @@ fn declarations() {
         call.map(|call| call.entries)
     };
     assert_eq!(entries("check"), Some(5));
+    assert_eq!(entries("read_ping"), Some(16));
     assert_eq!(entries("read_record"), Some(7));
     assert_eq!(entries("write_record"), Some(5));
     assert_eq!(entries("read_navigation"), None);

@@ -3,9 +3,9 @@
 //!
 //! A file is a slice of bytes and may hold anything; a place is a byte offset
 //! in it. Every call accepts, or gives a [`Refusal`]: the first rule broken, in
-//! document 01's order, in which 02's codes follow in the place of 10. A refused
-//! call leaves lent memory as it was; an accepted one leaves what stands past what
-//! it wrote.
+//! document 01's order, in which 02's codes follow, 23 to 25 in the place of 10 and
+//! 26 behind 21. A refused call leaves lent memory as it was; an accepted one leaves
+//! what stands past what it wrote.
 //!
 //! ```
 //! use hac::{Navigation, Order};

@@ -45,8 +45,12 @@ pub struct Ping {
     pub attribute: i32,
     /// How the samples are stored.
     pub kind: PingKind,
-    /// The number of samples.
+    /// The number of samples that have values.
     pub values: usize,
+    /// The length: the number of all samples, runs counted. A C-32 ping has one where
+    /// its last word is a run, so one without samples always has, at least 1; a U-32
+    /// ping never has. It is content: silent pings of different lengths differ.
+    pub length: Option<u32>,
 }
 
 /// Reads the ping at a place. Refuses as a forward step is refused, by 3 at the
@@ -66,7 +70,14 @@ pub fn read_ping(file: &[u8], place: usize) -> Result<Ping, Refusal> {
         attribute: told(&answer, call::HAC_PING_TUPLE_ATTRIBUTE),
         kind: told(&answer, call::HAC_PING_KIND),
         values: told(&answer, call::HAC_PING_VALUES),
+        length: length_of(&answer),
     })
+}
+
+/// The length of the ping that an answer tells of.
+fn length_of(answer: &[u64]) -> Option<u32> {
+    let has_length: bool = told(answer, call::HAC_PING_HAS_LENGTH);
+    has_length.then(|| told(answer, call::HAC_PING_LENGTH))
 }
 
 /// Reads the samples of the ping at a place into lent slices, an entry of both
@@ -82,7 +93,7 @@ pub fn read_samples(
     Ok(told(&answer, HAC_LENGTH))
 }
 
-/// A ping's samples: the number of each, and its value.
+/// A ping's samples that have values: the number of each, and its value.
 #[derive(Clone, Debug, PartialEq, Eq)]
 pub struct Samples {
     /// The sample numbers, which rise strictly.
@@ -103,14 +114,17 @@ pub fn samples(file: &[u8], place: usize) -> Result<Samples, Refusal> {
     Ok(samples)
 }
 
+/// The writers, of which one takes a length. Where there is none, its number isn't
+/// looked at.
 macro_rules! writers {
-    ($($(#[$about:meta])* $write:ident)*) => {$(
+    ($($(#[$about:meta])* $write:ident($($length:ident)?))*) => {$(
         $(#[$about])*
         pub fn $write(
             header: &PingHeader,
             attribute: i32,
             numbers: &[u32],
             values: &[i32],
+            $($length: Option<u32>,)?
             order: Order,
             out: &mut [u8],
         ) -> Result<usize, Refusal> {
@@ -124,6 +138,7 @@ macro_rules! writers {
                 attribute,
                 numbers,
                 values,
+                $($length.is_some(), $length.unwrap_or_default(),)?
                 order.is_msb(),
                 out,
             )?;
@@ -133,13 +148,34 @@ macro_rules! writers {
 }
 
 writers! {
-    /// Writes a ping as pairs, and gives its length. Refuses by 23 at the smaller
-    /// of unequal counts; 11 (count); 22 without samples; 23 at the first number
-    /// not above the one before it; 11 (length); 19.
-    write_u32
+    /// Writes a ping as pairs, and gives how many bytes it has. Refuses by 23 at the
+    /// smaller of unequal counts; 11 (count); 22 without samples; 23 at the first
+    /// number not above the one before it; 11 (the tuple's bytes); 19.
+    write_u32()
 
-    /// Writes a ping in the fewest words, and gives its length. Refuses by 23 at
-    /// the smaller of unequal counts; 11 (count); 23 at the first number not above
-    /// the one before it; 21 at the first value that has no word; 11 (length); 19.
-    write_c32
+    /// Writes a ping in the fewest words, and gives how many bytes it has. With a
+    /// length it ends in the runs that fill it, and is read with this length; without
+    /// one no run stands behind its last value. Refuses by 23 at the smaller of
+    /// unequal counts; 11 (count); 22 with neither samples nor a length; 23 at the
+    /// first number not above the one before it; 21 at the first value that has no
+    /// word; 26 for a length under the last number plus 2, or of 0 without samples;
+    /// 11 (the tuple's bytes); 19.
+    ///
+    /// ```
+    /// use hac::{Code, Order, PingHeader};
+    ///
+    /// // A mark, and a silent ping of 1,200 samples.
+    /// let mut file = [0; hac::FIRST_PLACE + 40];
+    /// let (mark, tuple) = file.split_at_mut(hac::FIRST_PLACE);
+    /// mark.copy_from_slice(&Order::Lsb.mark());
+    /// let header = PingHeader::default();
+    /// hac::write_c32(&header, 0, &[], &[], Some(1200), Order::Lsb, tuple)?;
+    /// assert_eq!(hac::read_ping(&file, hac::FIRST_PLACE)?.length, Some(1200));
+    ///
+    /// // A value at 7 and a length of 8: no silence would stand behind the value.
+    /// let short = hac::write_c32(&header, 0, &[7], &[5], Some(8), Order::Lsb, &mut []);
+    /// assert_eq!(short.unwrap_err().code, Code::ShortLength);
+    /// # Ok::<(), hac::Refusal>(())
+    /// ```
+    write_c32(length)
 }

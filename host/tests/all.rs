@@ -9,6 +9,7 @@ mod deposit;
 mod face;
 mod json;
 mod known;
+mod lengths;
 mod links;
 mod makers;
 mod many;

@@ -177,9 +177,9 @@ fn tuples(known: &Known) -> Vec<Damaged> {
     ]
 }
 
-/// Damage to the samples of the sample's first U-32 ping, at 1072, whose fourth
+/// Damage to the samples of the sample's first U-32 ping, at 1084, whose fourth
 /// number becomes the third, and of its first C-32 ping, at 780, which has twelve
-/// values, three of them before its only run, which is of 837.
+/// values, three of them before its first run, which is of 837.
 fn samples(known: &Known) -> Vec<Damaged> {
     let draft = || Draft::of(known);
     let (pairs, words) = (draft().find(PING_U), draft().find(PING_C));
@@ -189,7 +189,7 @@ fn samples(known: &Known) -> Vec<Damaged> {
             23,
             pairs,
             (24 + 8 * 3, 840),
-            ": ping at 1072, pair 3 has number 840 behind 840",
+            ": ping at 1084, pair 3 has number 840 behind 840",
         ),
         draft().miswritten(
             "24-word",

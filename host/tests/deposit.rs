@@ -103,7 +103,7 @@ impl Deposit {
     }
 
     pub fn ping_c32(&mut self, channel: u16) -> usize {
-        self.put(|order, out| write_c32(&header(channel), 0, &[0], &[5], order, out))
+        self.put(|order, out| write_c32(&header(channel), 0, &[0], &[5], None, order, out))
     }
 
     pub fn threshold(&mut self, channel: u16) -> usize {

@@ -11,7 +11,7 @@ static uint8_t file[HAC_FILE_LIMIT];
 static size_t length;
 
 /* What the last call said, with the most fields that a call tells here; and the numbers of the last record read. */
-static uint64_t answer[HAC_ASK_ENTRIES];
+static uint64_t answer[HAC_READ_PING_ENTRIES];
 static uint32_t numbers[HAC_NUMBERS_MOST];
 
 static void print_counts(void) {
@@ -53,7 +53,17 @@ static const char *maker(size_t place) {
     return step[HAC_STEP_TYPE] == HAC_TYPE_EK500_CHANNEL ? "Simrad" : "Biosonics";
 }
 
-/* A ping's parents, their maker, what its channel says of its samples, and the sum of these. */
+/* A ping's length, where it ends in silence. */
+static void print_length(size_t place) {
+    accept(hac_read_ping(file, length, place, answer, HAC_READ_PING_ENTRIES));
+    if (answer[HAC_PING_HAS_LENGTH] == 1) {
+        printf("length %llu\n", (number)answer[HAC_PING_LENGTH]);
+    } else {
+        printf("no length\n");
+    }
+}
+
+/* A ping's parents, their maker, what its channel says of its samples, the sum of these, and its length. */
 static void print_ping(size_t place) {
     static uint32_t places[HAC_VALUE_LIMIT];
     static int32_t values[HAC_VALUE_LIMIT];
@@ -67,7 +77,8 @@ static void print_ping(size_t place) {
     for (size_t i = 0; i < answer[HAC_LENGTH]; i++) {
         sum += values[i];
     }
-    printf(": %llu samples, sum %lld\n", (number)answer[HAC_LENGTH], sum);
+    printf(": %llu samples, sum %lld, ", (number)answer[HAC_LENGTH], sum);
+    print_length(place);
 }
 
 static void print_tuple(size_t place, uint64_t type) {

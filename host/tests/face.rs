@@ -93,8 +93,8 @@ fn linked(room: &Room, name: &str, source: &Path) -> PathBuf {
     program
 }
 
-/// What face.c prints of a tuple; the n-th ping has the samples of the normal
-/// form's n-th.
+/// What face.c prints of a tuple; the n-th ping has the samples and the length of the
+/// normal form's n-th.
 fn printed(known: &Known, tuple: &Tuple, normal: &mut dyn Iterator<Item = &Tuple>) -> String {
     match tuple.kind() {
         30 => format!("heading {}\n", tuple.two(14) as i16),
@@ -118,15 +118,16 @@ fn printed(known: &Known, tuple: &Tuple, normal: &mut dyn Iterator<Item = &Tuple
                 1000 => "Biosonics",
                 _ => "Simrad",
             };
-            let pairs = match normal.kind() {
-                10000 => (normal.bytes.len() - 32) / 8,
-                _ => 0,
+            let values = normal.samples().values;
+            let count = values.len();
+            let sum: i64 = values.into_iter().map(i64::from).sum();
+            let length = match normal.length() {
+                Some(length) => format!("length {length}"),
+                None => "no length".into(),
             };
-            let values = (0..pairs).map(|nth| i64::from(normal.four(28 + 8 * nth) as i32));
-            let sum: i64 = values.sum();
             format!(
                 "ping of {number} of {sounder}, {maker}, rate {rate}, type {kind}: \
-                 {pairs} samples, sum {sum}\n"
+                 {count} samples, sum {sum}, {length}\n"
             )
         }
         _ => String::new(),
@@ -205,6 +206,37 @@ fn alter() {
         let ran = run(Command::new(&program).arg(&known.path));
         assert_eq!((ran.status, ran.out, ran.err), (0, expected, String::new()));
     }
+}
+
+/// What silence.c prints, by TR's Table 20 and documents 01 and 02: the header of E4 with
+/// no samples, one run of 1; with two runs, of 65,536 and 1; with a run of 2, two values
+/// and a run of 6, of 1 or none behind them.
+const SILENCE: [&str; 8] = [
+    "0000001e 271a 0000 0000003c 0001 0000 00000001 7fffffff \
+     00000000 ffff0000 00000000 00000028 length 1",
+    "00000022 271a 0000 0000003c 0001 0000 00000001 7fffffff \
+     00000000 ffffffff ffff0000 00000000 0000002c length 65537",
+    "refused 26 at 0",
+    "refused 22 at 0",
+    "0000002a 271a 0000 0000003c 0001 0000 00000001 7fffffff \
+     00000002 ffff0001 00000064 fffeee90 ffff0005 00000000 00000034 length 10",
+    "0000002a 271a 0000 0000003c 0001 0000 00000001 7fffffff \
+     00000002 ffff0001 00000064 fffeee90 ffff0000 00000000 00000034 length 5",
+    "refused 26 at 0",
+    "00000026 271a 0000 0000003c 0001 0000 00000001 7fffffff \
+     00000002 ffff0001 00000064 fffeee90 00000000 00000030 no length, 0 told",
+];
+
+/// Pings written in C with a length and without, and read back.
+#[test]
+fn silence() {
+    let room = Room::new();
+    let program = built(&room, "silence");
+    let ran = run(&mut Command::new(&program));
+    let spread = |line: &str| line.split_whitespace().collect::<String>();
+    let printed: Vec<String> = ran.lines().into_iter().map(spread).collect();
+    assert_eq!(printed, SILENCE.map(spread));
+    assert_eq!((ran.status, ran.err.as_str()), (0, ""));
 }
 
 fn hexadecimal(bytes: &[u8]) -> String {

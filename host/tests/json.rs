@@ -5,6 +5,7 @@ use std::str::Chars;
 
 #[derive(Clone, Debug, PartialEq)]
 pub enum Value {
+    Null,
     Number(i128),
     Text(String),
     Object(Vec<(String, Value)>),
@@ -31,6 +32,14 @@ impl Value {
         match self.get(key) {
             Value::Number(number) => *number,
             other => panic!("no number: {other:?}"),
+        }
+    }
+
+    /// A number, or none where there is null.
+    pub fn number_or_null(&self, key: &str) -> Option<i128> {
+        match self.get(key) {
+            Value::Null => None,
+            _ => Some(self.number(key)),
         }
     }
 
@@ -65,8 +74,14 @@ fn value(rest: &mut Rest) -> Value {
     match rest.peek() {
         Some('"') => Value::Text(text(rest)),
         Some('{') => object(rest),
+        Some('n') => null(rest),
         _ => number(rest),
     }
+}
+
+fn null(rest: &mut Rest) -> Value {
+    "null".chars().for_each(|c| expect(rest, c));
+    Value::Null
 }
 
 fn object(rest: &mut Rest) -> Value {

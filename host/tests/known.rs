@@ -1,7 +1,7 @@
 //! What is known of the samples and the vectors, from their lines alone: a tuple
 //! a line, the mark on the first.
 
-use hac::{Counts, Order};
+use hac::{Counts, Order, Samples};
 use std::fs;
 use std::path::{Path, PathBuf};
 
@@ -86,6 +86,62 @@ impl Tuple {
 
     pub fn is_ping(&self) -> bool {
         [10000, 10010].contains(&self.kind())
+    }
+
+    /// The numbers of four bytes from a place on, up to the attribute.
+    fn fours(&self, at: usize) -> Vec<u32> {
+        let places = (at..self.bytes.len() - 8).step_by(4);
+        places.map(|place| self.four(place)).collect()
+    }
+
+    /// A C-32 ping's words; none of a U-32 ping.
+    fn words(&self) -> Vec<u32> {
+        match self.kind() {
+            10010 => self.fours(28),
+            _ => Vec::new(),
+        }
+    }
+
+    /// A ping's samples: a U-32 ping's pairs, a C-32 ping's words that are no runs.
+    pub fn samples(&self) -> Samples {
+        if self.kind() == 10000 {
+            let pairs = self.fours(24);
+            return Samples {
+                numbers: pairs.iter().copied().step_by(2).collect(),
+                values: pairs[1..]
+                    .iter()
+                    .map(|word| *word as i32)
+                    .step_by(2)
+                    .collect(),
+            };
+        }
+        let (mut numbers, mut values, mut number) = (Vec::new(), Vec::new(), 0);
+        for word in self.words() {
+            if word < RUN {
+                numbers.push(number);
+                values.push(word as i32);
+            }
+            number += samples_of(word);
+        }
+        Samples { numbers, values }
+    }
+
+    /// A ping's length: all its samples, where its last word is a run.
+    pub fn length(&self) -> Option<u32> {
+        let words = self.words();
+        let is_silent_last = words.last().is_some_and(|word| *word >= RUN);
+        is_silent_last.then(|| words.into_iter().map(samples_of).sum())
+    }
+}
+
+/// The run of one sample, from which on all words are runs.
+pub const RUN: u32 = 0xFFFF_0000;
+
+/// How many samples a word of a C-32 ping stands for.
+fn samples_of(word: u32) -> u32 {
+    match word.checked_sub(RUN) {
+        Some(more) => more + 1,
+        None => 1,
     }
 }
 

@@ -6,23 +6,7 @@ use crate::known::{decode, e4, vector, Known, Tuple, COMPARED, NORMAL, SPELLINGS
 use crate::room::{hac, run};
 use hac::*;
 
-/// The samples that a U-32 ping of the normal form has in its line, none of a C-32.
-fn samples_of(tuple: &Tuple) -> Samples {
-    let pairs = match tuple.kind() {
-        10000 => (tuple.bytes.len() - 32) / 8,
-        _ => 0,
-    };
-    let pair = |nth: usize| 24 + 8 * nth;
-    Samples {
-        numbers: (0..pairs).map(|nth| tuple.four(pair(nth))).collect(),
-        values: (0..pairs)
-            .map(|nth| tuple.four(pair(nth) + 4) as i32)
-            .collect(),
-    }
-}
-
-/// In each spelling each ping has the samples of its normal form, which are stored
-/// as they are.
+/// In each spelling each ping has the samples and the length of its normal form.
 #[test]
 fn samples_of_all_spellings() {
     let normal = Known::sample(NORMAL);
@@ -31,14 +15,17 @@ fn samples_of_all_spellings() {
         let pings = known.pings();
         assert_eq!(pings.len(), normal.pings().len());
         for (ping, normal) in pings.into_iter().zip(normal.pings()) {
-            let expected = samples_of(normal);
+            let expected = normal.samples();
             assert_eq!(samples(&known.bytes, ping.place), Ok(expected.clone()));
             let count = expected.numbers.len();
             let read = read_ping(&known.bytes, ping.place).expect("a ping");
-            assert_eq!(read.values, count);
+            assert_eq!((read.values, read.length), (count, normal.length()));
             assert_eq!(read.kind == PingKind::C32, ping.kind() == 10010);
         }
     }
+    let lengths: Vec<_> = normal.pings().iter().map(|ping| ping.length()).collect();
+    let expected = [Some(1905), None, Some(140_003), Some(1905), None, None];
+    assert_eq!(lengths, expected);
 }
 
 /// Entries past the samples stay; a slice that is too short is 19 at 0, and
@@ -88,11 +75,20 @@ fn example_4() {
         attribute: 0,
         kind: PingKind::C32,
         values: 2,
+        length: None,
     };
     assert_eq!(ping, Ok(expected));
     let (numbers, values) = ([2, 3], [100, -70_000]);
     let mut out = [0; 60];
-    let written = write_c32(&e4_header(), 0, &numbers, &values, Order::Lsb, &mut out);
+    let written = write_c32(
+        &e4_header(),
+        0,
+        &numbers,
+        &values,
+        None,
+        Order::Lsb,
+        &mut out,
+    );
     assert_eq!(written, Ok(48));
     assert_eq!(out[..48], file[FIRST_PLACE..]);
     let pairs = decode(E4_PAIRS);
@@ -123,10 +119,18 @@ fn words() {
     assert_eq!((first(1), first(65_536)), (1, 65_536));
 }
 
-/// Every refusal of the ping writers, in their order, each with its place.
+/// A ping writer that is handed no length.
+type Writer = fn(&PingHeader, i32, &[u32], &[i32], Order, &mut [u8]) -> Result<usize, Refusal>;
+
+/// The C-32 writer without a length.
+const WITHOUT_LENGTH: Writer = |header, attribute, numbers, values, order, out| {
+    write_c32(header, attribute, numbers, values, None, order, out)
+};
+
+/// Every refusal of the ping writers without a length, in their order, each with its
+/// place.
 #[test]
 fn refused_writers() {
-    type Writer = fn(&PingHeader, i32, &[u32], &[i32], Order, &mut [u8]) -> Result<usize, Refusal>;
     let refuses = |write: Writer, numbers: &[u32], values: &[i32], code, place| {
         let mut out = [7; 30];
         let answer = write(&e4_header(), 0, numbers, values, Order::Msb, &mut out);
@@ -134,20 +138,20 @@ fn refused_writers() {
         assert_eq!(out, [7; 30]);
     };
     let many: Vec<u32> = (0..=VALUE_LIMIT as u32).collect();
-    for write in [write_u32 as Writer, write_c32] {
+    for write in [write_u32 as Writer, WITHOUT_LENGTH] {
         refuses(write, &[5, 4, 3], &[-1, -1], Code::NotRising, 2);
         refuses(write, &[], &[-1], Code::NotRising, 0);
         refuses(write, &many, &vec![0; many.len()], Code::Overfull, 0);
+        refuses(write, &[], &[], Code::NoSamples, 0);
         refuses(write, &[5, 6, 6], &[1, 1, 1], Code::NotRising, 2);
         refuses(write, &[5, 5, 4], &[-1, 1, 1], Code::NotRising, 1);
         refuses(write, &[0, 9, 10, 2], &[1; 4], Code::NotRising, 3);
         refuses(write, &[5], &[1], Code::NoRoom, 0);
     }
-    refuses(write_u32, &[], &[], Code::NoSamples, 0);
-    refuses(write_c32, &[5, 6], &[1, -1], Code::NoWord, 1);
-    refuses(write_c32, &[5, 6], &[i32::MAX, 1], Code::NoWord, 0);
+    refuses(WITHOUT_LENGTH, &[5, 6], &[1, -1], Code::NoWord, 1);
+    refuses(WITHOUT_LENGTH, &[5, 6], &[i32::MAX, 1], Code::NoWord, 0);
     // a gap of so many runs that the tuple would be too long
-    refuses(write_c32, &[u32::MAX], &[1], Code::Overfull, 0);
+    refuses(WITHOUT_LENGTH, &[u32::MAX], &[1], Code::Overfull, 0);
 }
 
 /// A ping of the most values is read; one of more is refused.
@@ -258,17 +262,22 @@ fn printed_samples() {
     let normal = Known::sample(NORMAL);
     let known = Known::sample("cruise-lsb-cut");
     for (ping, normal) in known.pings().into_iter().zip(normal.pings()) {
-        let Samples { numbers, values } = samples_of(normal);
+        let Samples { numbers, values } = normal.samples();
         let pairs: Vec<_> = numbers.into_iter().zip(values).collect();
+        let length = normal.length();
         let place = ping.place.to_string();
         let ran = run(hac(["samples"]).arg(&known.path).arg(&place));
         let lines = pairs
             .iter()
             .map(|(number, value)| format!("{number:>10}  {value:>11}"));
-        assert_eq!(ran.lines(), lines.collect::<Vec<_>>());
+        let last = length.map(|length| format!("length {length} samples, runs counted"));
+        assert_eq!(ran.lines(), lines.chain(last).collect::<Vec<_>>());
         assert_eq!((ran.status, ran.err.as_str()), (0, ""));
         let ran = run(hac(["--json", "samples"]).arg(&known.path).arg(&place));
-        let objects = json::objects(&ran.out);
+        let mut objects = json::objects(&ran.out);
+        let last = objects.pop().expect("the length");
+        assert_eq!(last.keys(), ["length"]);
+        assert_eq!(last.number_or_null("length"), length.map(i128::from));
         let told = objects
             .iter()
             .map(|object| (object.number("number"), object.number("value")));

@@ -5,15 +5,25 @@ use crate::layout::{self, class, Class};
 use crate::links::{ChannelLink, DocumentId, Links, Maker, SoftwareChannel, SounderLink};
 use crate::order::{four_at, two_at, Order};
 use crate::records::judge_fields;
-use crate::samples::{judge_ping, SILENT_LENGTH};
+use crate::samples::{fewest_of_words, has_length, judge_ping, pairs_length, words_of};
+use crate::samples::{BESIDE_WORDS, COUNT_AT};
 use crate::walk::{frame, mark, Tuple};
+
+/// What a survey is made for. The normaliser alone has to know how long the normal
+/// form is, and of a ping with a length that takes another look at each word.
+#[derive(Clone, Copy, PartialEq, Eq)]
+pub(crate) enum Purpose {
+    Check,
+    Normal,
+}
 
 /// What one pass over an accepted file finds out.
 pub(crate) struct Survey {
     pub order: Order,
     pub tuples: u64,
     pub links: Links,
-    /// Length of the normal form, mark and all.
+    purpose: Purpose,
+    /// Length of the normal form, mark and all, where the survey is made for that.
     pub normal_length: u64,
     /// Code 18: the first unlisted type outside the index class, in MSB order.
     pub not_turnable: Option<u64>,
@@ -76,16 +86,24 @@ fn judge_links(links: &mut Links, tuple: &Tuple, bytes: &[u8], order: Order) -> 
     }
 }
 
-/// Length of a tuple's normal form, 0 for the index class: 11 and 23 to 25 of
-/// a ping are judged on the way.
-pub(crate) fn normal_length(bytes: &[u8], code: u16, order: Order) -> Result<u64, Fault> {
+/// 11 and 23 to 25 of a framed tuple of fit length.
+pub(crate) fn judge_samples(bytes: &[u8], code: u16, order: Order) -> Result<(), Fault> {
     match code {
-        layout::PING_U32 | layout::PING_C32 => Ok(match judge_ping(bytes, code, order)? {
-            0 => SILENT_LENGTH,
-            values => 32 + 8 * values,
-        }),
-        _ if class(code) == Some(Class::Index) => Ok(0),
-        _ => Ok(bytes.len() as u64),
+        layout::PING_U32 | layout::PING_C32 => judge_ping(bytes, code, order).map(|_| ()),
+        _ => Ok(()),
+    }
+}
+
+/// Length of a judged tuple's normal form, 0 for the index class.
+pub(crate) fn normal_length(bytes: &[u8], code: u16, order: Order) -> u64 {
+    match code {
+        layout::PING_C32 if has_length(bytes, code, order) => {
+            BESIDE_WORDS + 4 * fewest_of_words(words_of(bytes), order)
+        }
+        // Judged before, the stated number of samples is the number of values.
+        layout::PING_C32 => pairs_length(four_at(order, bytes, COUNT_AT)),
+        _ if class(code) == Some(Class::Index) => 0,
+        _ => bytes.len() as u64,
     }
 }
 
@@ -95,12 +113,13 @@ pub(crate) fn not_turnable(code: u16, order: Order) -> bool {
 }
 
 /// The one pass: the check's refusals, or what it found.
-pub(crate) fn survey(file: &[u8]) -> Result<Survey, Answer> {
+pub(crate) fn survey(file: &[u8], purpose: Purpose) -> Result<Survey, Answer> {
     let order = mark(file).map_err(|code| Answer::refused(code, 0))?;
     let mut survey = Survey {
         order,
         tuples: 0,
         links: Links::default(),
+        purpose,
         normal_length: 4,
         not_turnable: None,
     };
@@ -147,7 +166,10 @@ impl Survey {
         }
         judge_fields(bytes, tuple.code, order)?;
         judge_links(&mut self.links, &tuple, bytes, order)?;
-        self.normal_length += normal_length(bytes, tuple.code, order)?;
+        judge_samples(bytes, tuple.code, order)?;
+        if self.purpose == Purpose::Normal {
+            self.normal_length += normal_length(bytes, tuple.code, order);
+        }
         if self.not_turnable.is_none() && not_turnable(tuple.code, order) {
             self.not_turnable = Some(tuple.place);
         }
@@ -159,7 +181,7 @@ impl Survey {
 
 /// Checks a whole file.
 pub fn check(file: &[u8]) -> Answer {
-    match survey(file) {
+    match survey(file, Purpose::Check) {
         Ok(survey) => survey.accepted(0),
         Err(refusal) => refusal,
     }

@@ -22,10 +22,12 @@ pub enum Entry {
         characters: Vec<u8>,
         attribute: i32,
     },
-    /// A 32-bit ping; U-32 and C-32 are one type.
+    /// A 32-bit ping; U-32 and C-32 are one type. It has a length where it ends in
+    /// silence, which only C-32 can say.
     Ping {
         header: PingHeader,
         samples: Vec<(u32, i32)>,
+        length: Option<u32>,
         attribute: i32,
     },
     /// An unlisted type: its data bytes, the attribute with them.
@@ -84,6 +86,7 @@ fn ping_entry(file: &[u8], place: u64) -> Result<Entry, Answer> {
     Ok(Entry::Ping {
         header: ping.header,
         samples: numbers.into_iter().zip(values).collect(),
+        length: ping.length,
         attribute: ping.tuple_attribute,
     })
 }

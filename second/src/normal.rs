@@ -1,17 +1,18 @@
 //! Chapter "Content and normal form": the normaliser.
 
 use crate::answer::Answer;
-use crate::check::survey;
+use crate::check::{survey, Purpose};
 use crate::layout::{self, class, Class, Field, FILE_LIMIT, HAC_IDENTIFIER, ROW_START};
 use crate::order::{four_at, put_four, put_two, two_at, Order};
-use crate::samples::{words_of, words_to_pairs, COUNT_AT, PAIRS_AT, SILENT_WORD, TAIL, WORDS_AT};
+use crate::samples::{has_length, pairs_length, words_of, words_to_pairs, write_fewest};
+use crate::samples::{COUNT_AT, PAIRS_AT, TAIL, WORDS_AT};
 use crate::walk::frame;
 
 /// Writes the normal form of a file. The check's refusals, then 18, 20, 19;
 /// a refusal leaves every byte of `out`, success leaves those past the length
 /// written. Two passes: the check, then the writing.
 pub fn normalise(file: &[u8], out: &mut [u8]) -> Answer {
-    let survey = match survey(file) {
+    let survey = match survey(file, Purpose::Normal) {
         Ok(survey) => survey,
         Err(refusal) => return refusal,
     };
@@ -47,7 +48,11 @@ pub(crate) fn write_normal(tuple: &[u8], code: u16, order: Order, out: &mut [u8]
         return 0;
     }
     if code == layout::PING_C32 {
-        return write_compressed(tuple, order, out);
+        return if has_length(tuple, code, order) {
+            write_words(tuple, order, out)
+        } else {
+            write_pairs(tuple, order, out)
+        };
     }
     let out = &mut out[..tuple.len()];
     match order {
@@ -108,25 +113,26 @@ fn turn_fours(from: &[u8], to: &mut [u8]) {
     }
 }
 
-/// A C-32 ping as U-32, or, without samples, as the one silent word.
-fn write_compressed(tuple: &[u8], order: Order, out: &mut [u8]) -> usize {
+/// A C-32 ping without a length as U-32.
+fn write_pairs(tuple: &[u8], order: Order, out: &mut [u8]) -> usize {
     // Judged before, the stated number of samples is the number of values.
-    let values = four_at(order, tuple, COUNT_AT) as usize;
-    let length = if values == 0 { 40 } else { 32 + 8 * values };
-    let out = &mut out[..length];
-    put_header(tuple, order, out);
-    if values == 0 {
-        put_two(Order::Lsb, out, 4, layout::PING_C32);
-        put_four(Order::Lsb, out, COUNT_AT, 0);
-        put_four(Order::Lsb, out, WORDS_AT, SILENT_WORD);
-        return length;
-    }
+    let length = pairs_length(four_at(order, tuple, COUNT_AT)) as usize;
+    put_header(tuple, order, &mut out[..length]);
     put_two(Order::Lsb, out, 4, layout::PING_U32);
     let pairs = &mut out[PAIRS_AT..length - TAIL];
     match order {
         Order::Lsb => words_to_pairs::<false>(words_of(tuple), pairs),
         Order::Msb => words_to_pairs::<true>(words_of(tuple), pairs),
     }
+    length
+}
+
+/// A C-32 ping with a length, in the fewest words.
+fn write_words(tuple: &[u8], order: Order, out: &mut [u8]) -> usize {
+    let length = WORDS_AT + write_fewest(words_of(tuple), order, &mut out[WORDS_AT..]) + TAIL;
+    put_header(tuple, order, &mut out[..length]);
+    put_two(Order::Lsb, out, 4, layout::PING_C32);
+    put_four(Order::Lsb, out, COUNT_AT, four_at(order, tuple, COUNT_AT));
     length
 }
 

@@ -1,7 +1,7 @@
 //! Chapter "Two programs": from input bytes to printed bytes.
 
 use crate::answer::Answer;
-use crate::check::{normal_length, not_turnable};
+use crate::check::{judge_samples, normal_length, not_turnable};
 use crate::normal::{normalise, write_normal};
 use crate::order::Order;
 use crate::records::judge_fields;
@@ -106,14 +106,14 @@ fn try_tuple(file: &[u8], out: &mut [u8]) -> Result<Answer, Answer> {
     let tuple = frame(file, order, 4).map_err(at_tuple)?;
     let bytes = tuple.bytes(file);
     judge_fields(bytes, tuple.code, order).map_err(at_tuple)?;
-    let length = normal_length(bytes, tuple.code, order).map_err(|fault| fault.at(4))?;
-    let length = 4 + length as usize;
+    judge_samples(bytes, tuple.code, order).map_err(|fault| fault.at(4))?;
     if tuple.end() < file.len() as u64 {
         return Err(Answer::refused(15, tuple.end()));
     }
     if not_turnable(tuple.code, order) {
         return Err(at_tuple(18));
     }
+    let length = 4 + normal_length(bytes, tuple.code, order) as usize;
     let out = out.get_mut(..length).ok_or(Answer::refused(19, 0))?;
     out[..4].copy_from_slice(&Order::Lsb.mark());
     write_normal(bytes, tuple.code, order, &mut out[4..]);

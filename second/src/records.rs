@@ -7,7 +7,7 @@ use crate::answer::{Answer, Reply};
 use crate::layout::{self, is_identifier, HAC_IDENTIFIER, PING_C32, PING_U32, TUPLE_LIMIT};
 use crate::links::{DocumentId, SoftwareChannel, TransceiverNumber};
 use crate::order::{four_at, put_four, put_two, two_at, Order};
-use crate::samples::judge_ping;
+use crate::samples::{judge_ping, ping_length};
 use crate::walk::{forward, mark, Step};
 
 /// Width of the remarks of sounders and channels.
@@ -517,6 +517,8 @@ pub struct Ping {
     pub kind: PingKind,
     /// The number of values, as counted.
     pub values: u32,
+    /// All its samples, runs counted, where it is C-32 and its last word is a run.
+    pub length: Option<u32>,
 }
 
 impl Ping {
@@ -534,6 +536,7 @@ impl Ping {
                 PingKind::C32
             },
             values: values as u32,
+            length: ping_length(tuple, code, order),
         };
         Ok((Answer::accepted(1, 0), ping))
     }

@@ -1,4 +1,4 @@
-//! Every code from 1 to 25 is really given by something, but for 10, which
+//! Every code from 1 to 26 is really given by something, but for 10, which
 //! request c of 02 took away.
 
 mod common;
@@ -50,13 +50,16 @@ fn every_code_is_seen() {
     seen.insert(normalise(&big_limit(5).bytes, &mut []).code);
     for (numbers, values) in [
         (&[0][..], &[-1][..]),
+        (&[0], &[0]),
         (&[], &[]),
         (&[3, 3], &[0, 0]),
         (&[3], &[]),
     ] {
-        for write in [write_u32, write_c32] {
-            seen.insert(write(&header, 0, numbers, values, Order::Lsb, &mut []).code);
+        seen.insert(write_u32(&header, 0, numbers, values, Order::Lsb, &mut []).code);
+        for length in [None, Some(1)] {
+            let out = &mut [];
+            seen.insert(write_c32(&header, 0, numbers, values, length, Order::Lsb, out).code);
         }
     }
-    assert_eq!(seen, (0..=25).filter(|code| *code != 10).collect());
+    assert_eq!(seen, (0..=26).filter(|code| *code != 10).collect());
 }

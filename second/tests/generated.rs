@@ -173,11 +173,22 @@ fn normal_form_holds(file: &[u8], name: &str) {
     for tuple in found {
         assert_ne!(class(tuple.code), Some(Class::Index), "{name}");
         if tuple.code == PING_C32 {
-            assert_eq!(tuple.length, 40, "{name}");
-            let bytes = tuple.bytes(&normal);
-            assert_eq!(bytes[24..32], [0, 0, 0, 0, 0, 0, 0xFF, 0xFF], "{name}");
+            assert!(ends_in_fewest_runs(tuple.bytes(&normal)), "{name}");
         }
     }
+}
+
+/// A C-32 ping of the normal form: its last word is a run, and a run behind which
+/// another comes is a full one.
+fn ends_in_fewest_runs(tuple: &[u8]) -> bool {
+    let words: Vec<u32> = tuple[28..tuple.len() - 8]
+        .chunks(4)
+        .map(|word| u32::from_le_bytes(word.try_into().unwrap()))
+        .collect();
+    let is_run = |word: &u32| word >> 16 == 0xFFFF;
+    let mut neighbours = words.windows(2);
+    let full_first = neighbours.all(|pair| !pair.iter().all(is_run) || pair[0] == u32::MAX);
+    words.last().is_some_and(is_run) && full_first
 }
 
 #[test]
@@ -478,23 +489,33 @@ fn a_ping_in_a_text_has_no_parents() {
     assert!(found);
 }
 
-/// The content of a file tells samples apart from silence, and one type for
-/// both kinds of ping.
+/// The content of a file tells samples apart from silence, has the length of what
+/// ends in silence, and one type for both kinds of ping.
 #[test]
 fn content_has_all_kinds() {
-    let (mut pings, mut silent, mut fields, mut unlisted) = (0, 0, 0, 0);
+    let (mut pings, mut silent, mut lengths, mut fields, mut unlisted) = (0, 0, 0, 0, 0);
     each_case(600, |case, _| {
         for entry in content(&case.bytes).unwrap_or_default() {
             match entry {
-                Entry::Ping { samples, .. } if samples.is_empty() => silent += 1,
-                Entry::Ping { samples, .. } => {
+                Entry::Ping {
+                    samples, length, ..
+                } if samples.is_empty() => {
+                    assert!(length.is_some_and(|length| length > 0));
+                    silent += 1;
+                }
+                Entry::Ping {
+                    samples, length, ..
+                } => {
                     assert!(samples.windows(2).all(|pair| pair[0].0 < pair[1].0));
+                    let last = samples.last().map(|(number, _)| *number);
+                    assert!(length.is_none() || length > last.map(|last| last + 1));
                     pings += 1;
+                    lengths += u64::from(length.is_some());
                 }
                 Entry::Fields { .. } => fields += 1,
                 Entry::Unlisted { .. } => unlisted += 1,
             }
         }
     });
-    assert!(pings > 100 && silent > 20 && fields > 500 && unlisted > 50);
+    assert!(pings > 100 && silent > 20 && lengths > 50 && fields > 500 && unlisted > 50);
 }

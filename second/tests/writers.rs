@@ -4,7 +4,7 @@
 mod common;
 
 use common::{count, lent, limit_case, seed, tuples};
-use second::gen::{sample_list, sound_drafts, Rng, Style, Wish};
+use second::gen::{any_length, sample_list, sound_drafts, Rng, Style, Wish};
 use second::layout;
 use second::records::*;
 use second::samples::*;
@@ -296,7 +296,6 @@ fn read_and_written_again() {
             printed: false,
             rubbish: false,
             cut: false,
-            trail: false,
             ..Style::any(&mut rng)
         };
         let file = second::gen::render(&drafts, &style, &mut rng).bytes;
@@ -385,18 +384,19 @@ fn write_again(file: &[u8], place: u64, code: u16, order: Order) -> Option<Vec<u
                 read_samples(file, place, &mut numbers, &mut values).length,
                 n as u64
             );
-            let write = match ping.kind {
-                PingKind::U32 => write_u32,
-                PingKind::C32 => write_c32,
-            };
-            write(
-                &ping.header,
-                ping.tuple_attribute,
-                &numbers,
-                &values,
-                order,
-                out_slice,
-            )
+            let (header, attribute) = (&ping.header, ping.tuple_attribute);
+            match ping.kind {
+                PingKind::U32 => write_u32(header, attribute, &numbers, &values, order, out_slice),
+                PingKind::C32 => write_c32(
+                    header,
+                    attribute,
+                    &numbers,
+                    &values,
+                    ping.length,
+                    order,
+                    out_slice,
+                ),
+            }
         }
         _ => return None,
     };
@@ -502,59 +502,64 @@ fn header() -> PingHeader {
     }
 }
 
-/// Both kinds of a list that suits both read the same, in both orders.
+/// Both kinds of a list that suits both read the same, in both orders, but for the
+/// length that C-32 alone can have.
 #[test]
 fn pings_of_both_kinds_read_the_same() {
     let seed = seed();
+    let mut with_length = 0;
     for index in 0..count(2000) {
         let mut rng = Rng::of_case(seed, index);
         let samples = sample_list(&mut rng, false);
+        let length = any_length(&mut rng, &samples);
         let name = format!("seed {seed} list {index}");
-        let (numbers, values): (Vec<u32>, Vec<i32>) = samples.iter().copied().unzip();
+        let (numbers, values): (Vec<u32>, Vec<i32>) = samples.into_iter().unzip();
         let n = numbers.len();
-        let words: u64 = fewest(&numbers);
+        with_length += u64::from(length.is_some());
         for order in Order::BOTH {
-            let c32 = written(36 + 4 * words as usize, |out| {
-                write_c32(&header(), -8, &numbers, &values, order, out)
-            });
-            assert_eq!(fewest_words(&numbers), words, "{name}");
-            read_back(
-                &behind_mark(order, &c32),
-                PingKind::C32,
-                &numbers,
-                &values,
-                &name,
-            );
+            // without its length, too, where there are samples
+            for length in [length, None].into_iter().take(1 + n.min(1)) {
+                let words = fewest(&numbers, length);
+                let c32 = written(36 + 4 * words as usize, |out| {
+                    write_c32(&header(), -8, &numbers, &values, length, order, out)
+                });
+                assert_eq!(fewest_words(&numbers, length), words, "{name}");
+                let file = behind_mark(order, &c32);
+                read_back(&file, (PingKind::C32, length), &numbers, &values, &name);
+            }
             if n > 0 {
                 let u32 = written(32 + 8 * n, |out| {
                     write_u32(&header(), -8, &numbers, &values, order, out)
                 });
-                read_back(
-                    &behind_mark(order, &u32),
-                    PingKind::U32,
-                    &numbers,
-                    &values,
-                    &name,
-                );
+                let file = behind_mark(order, &u32);
+                read_back(&file, (PingKind::U32, None), &numbers, &values, &name);
             }
         }
     }
+    assert!(with_length * 3 > count(2000), "{with_length}");
 }
 
-/// 01's formula: one word a value and each gap's full runs and remainder.
-fn fewest(numbers: &[u32]) -> u64 {
-    let mut words = 0;
-    let mut before = -1i64;
-    for number in numbers {
-        let gap = i64::from(*number) - before - 1;
-        words += 1 + (gap + 65_535) / 65_536;
-        before = i64::from(*number);
+/// 01's formula: one word a value and each gap's full runs and remainder; by request d
+/// of 02 the last gap ends at the length.
+fn fewest(numbers: &[u32], length: Option<u32>) -> u64 {
+    let mut words = numbers.len() as i64;
+    let mut before = -1;
+    let ends = numbers.iter().copied().chain(length).map(i64::from);
+    for end in ends {
+        words += (end - before - 1 + 65_535) / 65_536;
+        before = end;
     }
-    words.max(1) as u64
+    words as u64
 }
 
 /// A ping read with slices too short, just long enough and longer.
-fn read_back(file: &[u8], kind: PingKind, numbers: &[u32], values: &[i32], name: &str) {
+fn read_back(
+    file: &[u8],
+    (kind, length): (PingKind, Option<u32>),
+    numbers: &[u32],
+    values: &[i32],
+    name: &str,
+) {
     let n = numbers.len();
     let (answer, ping) = Ping::read(file, 4).unwrap();
     assert_eq!(answer, Answer::accepted(1, 0), "{name}");
@@ -563,6 +568,7 @@ fn read_back(file: &[u8], kind: PingKind, numbers: &[u32], values: &[i32], name:
         tuple_attribute: -8,
         kind,
         values: n as u32,
+        length,
     };
     assert_eq!(ping, expected, "{name}");
     for (more_numbers, more_values) in [(0, 0), (2, 0), (0, 3)] {
@@ -589,14 +595,6 @@ fn read_back(file: &[u8], kind: PingKind, numbers: &[u32], values: &[i32], name:
     }
 }
 
-#[test]
-fn a_silent_ping() {
-    let tuple = written(40, |out| write_c32(&header(), 0, &[], &[], Order::Lsb, out));
-    let expected = "1e000000 1a27 8813 3c000000 0100 0200 09000000 fdffffff
-        00000000 0000ffff 00000000 28000000";
-    assert_eq!(tuple, common::bytes(expected));
-}
-
 /// Gaps in their shortest form: full runs first, the remainder last.
 #[test]
 fn gaps_in_words() {
@@ -611,7 +609,7 @@ fn gaps_in_words() {
     ] {
         let length = 36 + common::bytes(words).len();
         let tuple = written(length, |out| {
-            write_c32(&header(), 0, &[number], &[1], Order::Lsb, out)
+            write_c32(&header(), 0, &[number], &[1], None, Order::Lsb, out)
         });
         assert_eq!(tuple[28..length - 8], common::bytes(words), "{number}");
         assert_eq!(tuple[24..28], [1, 0, 0, 0]);
@@ -629,10 +627,13 @@ fn refuses(writer: PingWriter, numbers: &[u32], values: &[i32], code: u32, place
 }
 
 /// 23 (unequal lists), 11 (count), 22, 23, 21, 11 (length), 19: each before
-/// the next.
+/// the next. What a length adds to these is in `lengths.rs`.
 #[test]
 fn ping_writers_in_order() {
-    let (u, c): (PingWriter, PingWriter) = (write_u32, write_c32);
+    let u: PingWriter = write_u32;
+    let c: PingWriter = |header, attribute, numbers, values, order, out| {
+        write_c32(header, attribute, numbers, values, None, order, out)
+    };
     let rising: Vec<u32> = (0..32_766).collect();
     let (fallen, minus) = (vec![0; 32_766], vec![-1; 32_766]);
 
@@ -650,8 +651,10 @@ fn ping_writers_in_order() {
         refuses(writer, &fallen[1..], &minus[1..], 11, 0);
         refuses(writer, &rising, &minus, 11, 0);
     }
-    // none, for U-32
-    refuses(u, &[], &[], 22, 0);
+    // none
+    for writer in [u, c] {
+        refuses(writer, &[], &[], 22, 0);
+    }
     // a number not above the one before it, before values without a word
     for writer in [u, c] {
         refuses(writer, &[4, 4], &[-1, 0], 23, 1);
@@ -688,7 +691,7 @@ fn ping_writers_in_order() {
     // 65,526 full runs and a value are 65,527 words, the most there is room for
     let last = 65_526 * 65_536;
     written(262_144, |out| {
-        write_c32(&header(), 0, &[last], &[0], Order::Lsb, out)
+        c(&header(), 0, &[last], &[0], Order::Lsb, out)
     });
     refuses(c, &[last + 1], &[0], 11, 0);
     // the most values of either kind, dense and with gaps
@@ -697,11 +700,11 @@ fn ping_writers_in_order() {
         write_u32(&header(), 0, &rising[..32_764], &values, Order::Lsb, out)
     });
     written(36 + 4 * 32_764, |out| {
-        write_c32(&header(), 0, &rising[..32_764], &values, Order::Lsb, out)
+        c(&header(), 0, &rising[..32_764], &values, Order::Lsb, out)
     });
     let odd: Vec<u32> = (0..32_764).map(|n| 2 * n).collect();
     written(36 + 4 * 65_527, |out| {
-        write_c32(&header(), 0, &odd, &values, Order::Msb, out)
+        c(&header(), 0, &odd, &values, Order::Msb, out)
     });
     // one more run: over the length
     let odder: Vec<u32> = (0..32_764).map(|n| 2 * n + 1).collect();

@@ -1,5 +1,7 @@
 -- The numbers by which an outcome is told. Assumes nothing.
+use mathlib.Core.Bool.{Bool, true, false}
 use mathlib.Core.List.{List, [], _∷_, _++_}
+use mathlib.Core.Option.{Option, some, none}
 use Prim.Native.Nat.{ℕ}
 use lib.IntN.{ℤ}
 use Rattle.layout.specs.declared.Answer.{Answer}
@@ -28,3 +30,8 @@ headerWith fraction time channel mode ping bottom =
       «ping_number» = ping;
       «detected_bottom_range» = bottom;
     }
+
+-- its length, handed over as whether there is one, and which
+abbrev pub handedBy : Bool → ℕ → Option ℕ
+handedBy true n = some n
+handedBy false n = none

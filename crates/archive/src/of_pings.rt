@@ -7,20 +7,21 @@ use layout::SoftwareChannel;
 use layout::codes;
 use pings::PingHeader;
 use pings::PingKind;
+use pings::PingLength;
 use pings::PingRead;
 ghost use mathlib.Core.Path.{_≡_};
 ghost use mathlib.Core.List.{List};
 ghost use Prim.Native.Nat.{ℕ, _+_, _≤_};
 ghost use lib.IntN.{ℤ};
-ghost use lib.ListN.{length};
+ghost use lib.ListN.{length, getD};
 ghost use lib.Seq.{sets};
 ghost use Rattle.layout.specs.declared.Answer.{Answer};
 ghost use Rattle.pings.specs.declared.PingRead.the-variants.{Read};
-ghost use Rattle.pings.specs.Fields.{pingNumbers, kindNumber, readFields, PingAt};
+ghost use Rattle.pings.specs.Fields.{pingNumbers, kindNumber, lengthNumbers, readFields, PingAt};
 ghost use Rattle.pings.specs.Readers.{SamplesRead};
-ghost use Rattle.pings.specs.Headers.{WrittenU, WrittenC};
+ghost use Rattle.pings.specs.Headers.{handedLength, WrittenU, WrittenC};
 ghost use Rattle.archive.specs.Saying.{head, Said, SaidAlone};
-ghost use Rattle.archive.specs.Numbers.{five, told, headerWith};
+ghost use Rattle.archive.specs.Numbers.{five, told, headerWith, handedBy};
 
 // The kinds of ping as numbers.
 const U32: u64 = 0;
@@ -28,7 +29,7 @@ const U32: u64 = 0;
 const C32: u64 = 1;
 
 // The entries of a ping's fields.
-const PING: usize = HEAD + 9;
+const PING: usize = HEAD + 11;
 
 fn kind_number(kind: PingKind) -> u64
     ensures { λ r. ⌜ r ≡ kindNumber kind ⌝ }
@@ -39,6 +40,26 @@ fn kind_number(kind: PingKind) -> u64
     }
 }
 
+// Whether a ping has a length, 1 or 0.
+fn has_number(length: PingLength) -> u64
+    ensures { λ r. ⌜ r ≡ getD (lengthNumbers length) 0 0 ⌝ }
+{
+    match length {
+        PingLength::Absent => 0,
+        PingLength::Samples(_) => 1,
+    }
+}
+
+// Its length, or 0.
+fn length_number(length: PingLength) -> u64
+    ensures { λ r. ⌜ r ≡ getD (lengthNumbers length) 1 0 ⌝ }
+{
+    match length {
+        PingLength::Absent => 0,
+        PingLength::Samples(all) => all as u64,
+    }
+}
+
 // Tells the fields of a ping.
 fn tell_ping(
     answer: &mut [u64],
@@ -46,11 +67,12 @@ fn tell_ping(
     attribute: i32,
     kind: PingKind,
     values: usize,
+    ping_length: PingLength,
 ) -> u8
-    requires { ⌜ head + 9 ≤ length (now answer) ⌝ }
+    requires { ⌜ head + 11 ≤ length (now answer) ⌝ }
     ensures { λ r. ⌜ r ≡ 0 ⌝ }
     ensures { λ _. ⌜ now (answer .exit)
-        ≡ sets (now (answer .entry)) 0 (told pingNumbers readFields (Read header attribute kind values)) ⌝ }
+        ≡ sets (now (answer .entry)) 0 (told pingNumbers readFields (Read header attribute kind values «ping_length»)) ⌝ }
 {
     let fields = [
         header.time_fraction as u64,
@@ -62,13 +84,15 @@ fn tell_ping(
         order::pattern4(attribute) as u64,
         kind_number(kind),
         values as u64,
+        has_number(ping_length),
+        length_number(ping_length),
     ];
     tell_found(answer, layout::accept(1, 0), &fields)
 }
 
 #[no_mangle]
 pub extern "C" fn hac_read_ping(file: &[u8], place: usize, answer: &mut [u64]) -> u8
-    ensures { λ r. ⌜ SaidAlone 9 (told pingNumbers readFields) (PingAt (now (file .entry)) place)
+    ensures { λ r. ⌜ SaidAlone 11 (told pingNumbers readFields) (PingAt (now (file .entry)) place)
         (now (answer .entry)) r (now (answer .exit)) ⌝ }
 {
     if answer.len() < PING {
@@ -80,7 +104,8 @@ pub extern "C" fn hac_read_ping(file: &[u8], place: usize, answer: &mut [u64]) -
             attribute,
             kind,
             values,
-        } => tell_ping(answer, header, attribute, kind, values),
+            length,
+        } => tell_ping(answer, header, attribute, kind, values, length),
         PingRead::Refused { code, place } => tell_refusal(answer, code, place),
     }
 }
@@ -143,6 +168,16 @@ pub extern "C" fn hac_write_u32(
     )
 }
 
+// The length that is handed over: its number is not looked at where there is none.
+fn handed_length(has_length: bool, ping_length: u32) -> PingLength
+    ensures { λ r. ⌜ handedLength r ≡ handedBy «has_length» «ping_length» ⌝ }
+{
+    if has_length {
+        return PingLength::Samples(ping_length);
+    }
+    PingLength::Absent
+}
+
 #[no_mangle]
 pub extern "C" fn hac_write_c32(
     time_fraction: u16,
@@ -154,6 +189,8 @@ pub extern "C" fn hac_write_c32(
     tuple_attribute: i32,
     numbers: &[u32],
     values: &[i32],
+    has_length: bool,
+    ping_length: u32,
     msb: bool,
     out: &mut [u8],
     answer: &mut [u64],
@@ -161,7 +198,7 @@ pub extern "C" fn hac_write_c32(
     ensures { λ r. ⌜ Said 0 five
         (WrittenC msb
         (headerWith «time_fraction» «time_cpu» «software_channel_identifier» «transmitter_mode» «ping_number» «detected_bottom_range»)
-        «tuple_attribute» (now (numbers .entry)) (now (values .entry)) (now (out .entry)))
+        «tuple_attribute» (now (numbers .entry)) (now (values .entry)) (handedBy «has_length» «ping_length») (now (out .entry)))
         (now (answer .entry)) (now (out .entry)) r (now (answer .exit)) (now (out .exit)) ⌝ }
 {
     if answer.len() < HEAD {
@@ -175,8 +212,9 @@ pub extern "C" fn hac_write_c32(
         ping_number,
         detected_bottom_range,
     };
+    let length = handed_length(has_length, ping_length);
     tell_answer(
         answer,
-        pings::write_c32(header, tuple_attribute, numbers, values, msb, out),
+        pings::write_c32(header, tuple_attribute, numbers, values, length, msb, out),
     )
 }

@@ -12,7 +12,7 @@ use Rattle.content.specs.Items.{Item, raw, itemBy, itemOf}
 use Rattle.content.specs.Forms.{formOf}
 use Rattle.content.proofs.Fine.{Sound, Kept, head-length, head-fine, inner-was, inner-fine, upward-least}
 use Rattle.content.proofs.Plain.{kept-plain}
-use Rattle.content.proofs.Pings.{good-U, good-C, kept-ping}
+use Rattle.content.proofs.Pings.{formed-U, formed-C, kept-ping}
 
 none-some : {A : Type 0} {B : Type 0} {a : A} → none ≡ some a → B
 none-some {a = a} e = absurd (let z : _≡_ {A = ℕ} 0 1 = cc in omega arith)
@@ -39,9 +39,9 @@ kept o t g i e = by-shape (shapeOf (t .kind)) refl
     by-shape pairs s =
         let n = upward-least 40 (lengthOf t) _ (head-length o t pairs s (g .head)) in
         subst Kept (cc (this pairs s))
-        (kept-ping (contentU o (t .body)) (good-U o t (g .framed) (omega arith) (inner-was o t pairs s (g .inner))))
+        (kept-ping (contentU o (t .body)) (formed-U o t (g .framed) (omega arith) (inner-was o t pairs s (g .inner))))
     by-shape words s =
         let n = upward-least 40 (lengthOf t) _ (head-length o t words s (g .head)) in
         subst Kept (cc (this words s))
-        (kept-ping (contentC o (t .body)) (good-C o t (g .framed) (omega arith) (inner-was o t words s (g .inner))))
+        (kept-ping (contentC o (t .body)) (formed-C o t (g .framed) (omega arith) (inner-was o t words s (g .inner))))
     by-shape unlisted s = subst Kept (cc (this unlisted s)) (kept-raw o t s g)

@@ -3,7 +3,7 @@
 use mathlib.Core.Path.{_≡_, refl, sym, ap, ap₂, subst, _∙_}
 use mathlib.Core.Bool.{Bool, false}
 use mathlib.Core.List.{List, [], _∷_, _++_, append-assoc}
-use mathlib.Core.Option.{some}
+use mathlib.Core.Option.{Option, some, none}
 use Prim.Native.Nat.{ℕ, _+_, _-_, _*_, _/_, _%_, _^_, _≤_, _<_}
 use native.Mathlib.Omega.{arith}
 use borrow.Author.Tests.{ltb-false, le-ltb, eq-eqb, le-leb}
@@ -12,6 +12,8 @@ use lib.ListN.{length, take, drop, length-append, length-drop}
 use lib.Seq.{length-take-le, take-at, drop-at}
 use Rattle.order.specs.Order.{numOf, bytesOf, Bytes}
 use Rattle.order.proofs.Laws.{length-bytesOf, numOf-bytesOf, numOf-bound, bytes-take, bytes-drop, bytes-append, bytes-ordered, bytes-lows}
+use Rattle.rules.specs.Rules.{AllPass}
+use Rattle.layout.specs.Families.{wide}
 use Rattle.layout.specs.declared.Verdict.the-variants.{Fine}
 use Rattle.layout.specs.Answers.{judged}
 use Rattle.layout.specs.Types.{pairs, words, listings, among, listingOf, pingRow}
@@ -22,11 +24,12 @@ use Rattle.frame.specs.Frames.{Tup, lengthOf, allowed, Framed}
 use Rattle.frame.proofs.Frames.{allowed-of, allowed-most}
 use Rattle.samples.specs.Words.{Sample, allWords, unwords, pairUp, unpair, Below}
 use Rattle.samples.specs.Words
-use Rattle.samples.specs.Runs.{radix, decode, decodeFrom, fewest, isRun, runLength, values, firstBad, isBad}
+use Rattle.samples.specs.Runs.{radix, decode, decodeFrom, pingLength, encodeFrom, fewest, values}
 use Rattle.samples.specs.Judging.{most, firstDrop, pairsAt, countAt, wordsAt, pairRules, wordRules}
 use Rattle.samples.proofs.Words.{Within, length-unwords, all-unwords, bytes-unwords, words-below, pair-unpair, length-unpair, within-below}
 use Rattle.samples.proofs.Words.{pairs-within, pairs-few}
-use Rattle.samples.proofs.Runs.{decode-fit}
+use Rattle.samples.proofs.Runs.{Lasting, decode-fit, gap-none, length-can, fewest-words, fewest-some}
+use Rattle.samples.proofs.Written.{Worded, below-fewest, words-back, length-there, words-pass, says-worded}
 use Rattle.samples.proofs.Values.{length-decode, decode-within}
 use Rattle.samples.proofs.Rising.{Rising, rising-all, rises, fit-rising}
 use Rattle.content.specs.Pings.{Ping, headU, headC, wordsIn, attributeIn, countIn, contentU, contentC, dataU, dataC}
@@ -75,6 +78,19 @@ pub record Good (c : Ping) : Type 0 where
   pub few : length (c .samples) ≤ most
   pub rising : Rising 0 (c .samples)
 
+-- and one of which the fewest words can be: each value has a word, its length can be had, and there are neither none nor too many
+pub record Packs (c : Ping) : Type 0 where
+  pub worded : Worded wide (c .samples)
+  pub lasting : Lasting (c .samples) (c .length)
+  pub some : 1 ≤ length (fewest radix (c .samples) (c .length))
+  pub short : length (fewest radix (c .samples) (c .length)) ≤ 65527
+
+-- its normal form: words where it has a length, samples where it has none
+pub record Formed (c : Ping) : Type 0 where
+  pub good : Good c
+  pub plain : c .length ≡ none → 0 < length (c .samples)
+  pub packed : (n : ℕ) → c .length ≡ some n → Packs c
+
 module _ (o : Bool) (c : Ping) (g : Good c) where
   h : List ℕ
   h = encode o pingRow (c .head)
@@ -90,10 +106,10 @@ module _ (o : Bool) (c : Ping) (g : Good c) where
   unfolding t
   length-t = length-bytesOf o 4 (c .attr)
 
-  -- U-32 data say what they were made from
-  pub content-U : contentU o (dataU o c) ≡ c
+  -- U-32 data of a ping without a length say what they were made from
+  pub content-U : c .length ≡ none → contentU o (dataU o c) ≡ c
   unfolding contentU dataU h t
-  content-U =
+  content-U e =
       let m = unwords 4 o (unpair (c .samples)) in
       λ i. record {
         head = head-of o (c .head) (m ++ t) (g .head) i;
@@ -102,6 +118,7 @@ module _ (o : Bool) (c : Ping) (g : Good c) where
             ∙ all-unwords 4 (lit< tt) o (unpair (c .samples)) (within-below (256 ^ 4) (c .samples) (g .within)))
             ∙ pair-unpair (c .samples))
             i;
+        length = sym e i;
         attr =
             (ap (attributeIn o) (sym (append-assoc h m t)) ∙ attribute-of o (h ++ m) t length-t ∙ numOf-bytesOf o 4 (c .attr) (g .attr)) i;
       }
@@ -132,13 +149,14 @@ module _ (o : Bool) (c : Ping) (g : Good c) where
         ∙ ap (numOf o) (take-at n r 4 (length-bytesOf o 4 (length (c .samples))))
         ∙ numOf-bytesOf o 4 (length (c .samples)) small
 
-    pub content-C : decode radix ws ≡ c .samples → contentC o (dataC o c ws) ≡ c
+    pub content-C : decode radix ws ≡ c .samples → pingLength radix ws ≡ c .length → contentC o (dataC o c ws) ≡ c
     unfolding contentC dataC h t n
-    content-C e =
+    content-C e f =
         let m = unwords 4 o ws in
         λ i. record {
           head = head-of o (c .head) (n ++ (m ++ t)) (g .head) i;
           samples = (ap (decode radix) words-C ∙ e) i;
+          length = (ap (pingLength radix) words-C ∙ f) i;
           attr = (ap (attributeIn o) (sym (append-assoc h n (m ++ t)) ∙ sym (append-assoc (h ++ n) m t))
               ∙ attribute-of o (h ++ n ++ m) t length-t ∙ numOf-bytesOf o 4 (c .attr) (g .attr)) i;
         }
@@ -180,7 +198,91 @@ module _ (o : Bool) (c : Ping) (g : Good c) where
       bytes-append h (m ++ t) (bytes-encode o (g .head) (g .lettered))
       (bytes-append m t (bytes-unwords 4 o (unpair (c .samples))) (bytes-ordered o _ (bytes-lows 4 (c .attr))))
 
+  -- so a ping without a length, with samples, is sound as U-32 and has that content
+  module _ (e : c .length ≡ none) where
+    pub sound-U : 0 < length (c .samples) → Sound o (tupleU o c)
+    unfolding listingOf among listings
+    sound-U any =
+        let v = tupleU o c in
+        let d = dataU o c in
+        let n = length-U in
+        let f = g .few in
+        record {
+          framed =
+              record {
+                kind = lit< tt;
+                bytes = bytes-U;
+                allowed = allowed-of (length d + 10) (omega arith) (omega arith) (omega arith);
+              };
+          head =
+              head-fine o v pairs refl (rw (le-leb 40 (length d + 10) (omega arith), eq-eqb ((length d + 10 - 40) % 8) 0 (omega arith)))
+              refl;
+          inner = inner-fine o v pairs refl (passed (pairRules (contentU o d .samples)) (
+            ap (λ (p : Ping). ltb (firstDrop 0 (p .samples)) (length (p .samples))) (content-U e)
+                ∙ le-ltb (firstDrop 0 (c .samples)) (length (c .samples)) (omega (arith, rising-all (c .samples) 0 (g .rising))),
+            tt,
+          ));
+        }
+
+    pub item-U : itemOf o (tupleU o c) ≡ some (ping c)
+    unfolding itemOf listingOf among listings
+    item-U = ap (λ (p : Ping). some (ping p)) (content-U e)
+
+  -- and one of which the fewest words can be written is sound as C-32
+  module _ (p : Packs c) where
+    abbrev ws : List ℕ
+    ws = fewest radix (c .samples) (c .length)
+
+    below : Below (256 ^ 4) ws
+    below = below-fewest (c .samples) (c .length) (g .within)
+
+    pub sound-C : Sound o (tupleC o c)
+    unfolding listingOf among listings
+    sound-C =
+        let v = tupleC o c in
+        let d = dataC o c ws in
+        let n = length-C ws below in
+        record {
+          framed =
+              record {
+                kind = lit< tt;
+                bytes = bytes-C ws below;
+                allowed = allowed-of (length d + 10) (omega arith) (omega (arith, p .some)) (omega (arith, p .short));
+              };
+          head =
+              head-fine o v words refl
+              (rw (le-leb 40 (length d + 10) (omega (arith, p .some)), eq-eqb ((length d + 10 - 40) % 4) 0 (omega (arith, p .some)))) refl;
+          inner = inner-fine o v words refl
+              (ap₂ (λ (k : ℕ) (us : List ℕ). judged (wordRules k us)) (count-C ws below) (words-C ws below)
+              ∙ words-pass (c .samples) (g .rising) (p .worded) (c .length) (g .few));
+        }
+
+    pub item-C : itemOf o (tupleC o c) ≡ some (ping c)
+    unfolding itemOf listingOf among listings
+    item-C =
+        ap (λ (q : Ping). some (ping q))
+        (content-C ws below (words-back (c .samples) (g .rising) (p .worded) (c .length))
+        (length-there (c .samples) (g .rising) (p .worded) (c .length) (p .lasting)))
+
 -- ---- what a sound ping holds
+none-some : {A : Type 0} {n : ℕ} → none ≡ some n → A
+none-some {n = n} e = absurd (let z : _≡_ {A = ℕ} 0 1 = cc in omega arith)
+
+pairs-some : (ws : List ℕ) → 2 ≤ length ws → 0 < length (pairUp ws)
+unfolding pairUp
+pairs-some [] h = absurd (omega arith)
+pairs-some (w ∷ []) h = absurd (omega arith)
+pairs-some (w ∷ v ∷ ws) h = omega arith
+
+-- without a length, a word is a sample's
+heard : (c : Ping) → 1 ≤ length (fewest radix (c .samples) (c .length)) → c .length ≡ none → 0 < length (c .samples)
+unfolding fewest encodeFrom
+heard c h e = by (c .samples) (ap (λ (l : Option ℕ). length (fewest radix (c .samples) l)) e)
+  where
+    by : (s : List Sample) → length (fewest radix (c .samples) (c .length)) ≡ length (fewest radix s none) → 0 < length s
+    by [] z = absurd (omega (arith, gap-none radix (lit< tt)))
+    by (x ∷ s) z = omega arith
+
 module _ (o : Bool) (t : Tup) (g : Framed t) (long : 30 ≤ length (t .body)) where
   most-body : length (t .body) ≤ 262134
   most-body = omega (arith, allowed-most (lengthOf t) (g .allowed))
@@ -227,109 +329,72 @@ module _ (o : Bool) (t : Tup) (g : Framed t) (long : 30 ≤ length (t .body)) wh
         rising = rises (pairUp ws) (p .0);
       }
 
-  pub good-C : judged (wordRules (countIn o (t .body)) (wordsIn headC o (t .body))) ≡ Fine → Good (contentC o (t .body))
-  unfolding contentC
-  good-C e =
-      let ws = wordsIn headC o (t .body) in
-      let w = inside 22 (omega arith) in
-      let p = passes (wordRules (countIn o (t .body)) ws) e in
-      record {
-        head = head-fits;
-        lettered = tt;
-        within = decode-within radix (lit< tt) (256 ^ 4) ws 0 (w .0) (omega (arith, w .1, most-body));
-        attr = attr-fits;
-        few = omega (arith, length-decode radix (lit< tt) ws 0, ltb-false most (values radix ws) (p .0));
-        rising = fit-rising radix (decodeFrom radix 0 ws) 0 (decode-fit radix (lit< tt) ws 0);
-      }
+  -- it has a sample
+  some-U : 0 < length (contentU o (t .body) .samples)
+  unfolding contentU
+  some-U = pairs-some (wordsIn headU o (t .body)) (omega (arith, inside 18 (omega arith) .1))
 
--- ---- its normal form
-module _ (c : Ping) (g : Good c) where
-  -- with samples
-  sound-U : 0 < length (c .samples) → Sound false (tupleU false c)
-  unfolding listingOf among listings
-  sound-U any =
-      let v = tupleU false c in
-      let d = dataU false c in
-      let n = length-U false c g in
-      let f = g .few in
-      record {
-        framed =
-            record {
-              kind = lit< tt;
-              bytes = bytes-U false c g;
-              allowed = allowed-of (length d + 10) (omega arith) (omega arith) (omega arith);
-            };
-        head =
-            head-fine false v pairs refl (rw (le-leb 40 (length d + 10) (omega arith), eq-eqb ((length d + 10 - 40) % 8) 0 (omega arith)))
-            refl;
-        inner = inner-fine false v pairs refl (passed (pairRules (contentU false d .samples)) (
-          ap (λ (p : Ping). ltb (firstDrop 0 (p .samples)) (length (p .samples))) (content-U false c g)
-              ∙ le-ltb (firstDrop 0 (c .samples)) (length (c .samples)) (omega (arith, rising-all (c .samples) 0 (g .rising))),
-          tt,
-        ));
-      }
+  pub formed-U : judged (pairRules (contentU o (t .body) .samples)) ≡ Fine → Formed (contentU o (t .body))
+  unfolding contentU
+  formed-U e = record { good = good-U e; plain = λ _. some-U; packed = λ n z. none-some z }
 
-  item-U : itemOf false (tupleU false c) ≡ some (ping c)
-  unfolding itemOf listingOf among listings
-  item-U = ap (λ (p : Ping). some (ping p)) (content-U false c g)
+  module _ (e : judged (wordRules (countIn o (t .body)) (wordsIn headC o (t .body))) ≡ Fine) where
+    ws-C : List ℕ
+    ws-C = wordsIn headC o (t .body)
 
-  -- without samples
-  one : List ℕ
-  one = 0xffff0000 ∷ []
+    kept-C : AllPass (wordRules (countIn o (t .body)) ws-C)
+    unfolding ws-C
+    kept-C = passes (wordRules (countIn o (t .body)) (wordsIn headC o (t .body))) e
 
-  below-one : Below (256 ^ 4) one
-  unfolding one
-  below-one = (lit< tt, tt)
+    many-C : (1 ≤ length ws-C) × (length ws-C ≤ 65527)
+    unfolding ws-C
+    many-C = let w = inside 22 (omega arith) in (omega (arith, w .1), omega (arith, w .1, most-body))
 
-  module _ (e : c .samples ≡ []) where
-    form-C : tupleC false c ≡ record { kind = 10010; body = dataC false c one }
-    unfolding one
-    form-C = ap (λ (s : List Sample). record { kind = 10010; body = dataC false c (fewest radix s) }) e
-
-    sound-C : Sound false (record { kind = 10010; body = dataC false c one })
-    unfolding listingOf among listings
-    sound-C =
-        let d = dataC false c one in
-        let v : Tup = record { kind = 10010; body = d } in
-        let n : length d ≡ 30 = length-C false c g one below-one ∙ unfold one in refl in
+    pub good-C : Good (contentC o (t .body))
+    unfolding contentC ws-C
+    good-C =
+        let ws = wordsIn headC o (t .body) in
+        let w = inside 22 (omega arith) in
         record {
-          framed =
-              record {
-                kind = lit< tt;
-                bytes = bytes-C false c g one below-one;
-                allowed = allowed-of (length d + 10) (omega arith) (omega arith) (omega arith);
-              };
-          head =
-              head-fine false v words refl (rw (le-leb 40 (length d + 10) (omega arith), eq-eqb ((length d + 10 - 40) % 4) 0 (omega arith)))
-              refl;
-          inner = inner-fine false v words refl
-              (ap₂ (λ (k : ℕ) (ws : List ℕ). judged (wordRules k ws)) (count-C false c g one below-one ∙ ap length e)
-              (words-C false c g one below-one)
-              ∙ unfold values firstBad isRun isBad one in
-              refl);
+          head = head-fits;
+          lettered = tt;
+          within = decode-within radix (lit< tt) (256 ^ 4) ws 0 (w .0) (omega (arith, w .1, most-body));
+          attr = attr-fits;
+          few = omega (arith, length-decode radix (lit< tt) ws 0, ltb-false most (values radix ws) (kept-C .0));
+          rising = fit-rising radix (decodeFrom radix 0 ws) 0 (decode-fit radix (lit< tt) ws 0);
         }
 
-    item-C : itemOf false (record { kind = 10010; body = dataC false c one }) ≡ some (ping c)
-    unfolding itemOf listingOf among listings
-    item-C = ap (λ (p : Ping). some (ping p)) (content-C false c g one below-one (unfold one decodeFrom isRun runLength in sym e))
+    packs-C : Packs (contentC o (t .body))
+    unfolding contentC ws-C
+    packs-C =
+        let ws = wordsIn headC o (t .body) in
+        record {
+          worded = says-worded wide (lit< tt) ws (kept-C .1 .0);
+          lasting = length-can radix (lit< tt) ws;
+          some = fewest-some radix (lit< tt) ws (many-C .0);
+          short = omega (arith, fewest-words radix (lit< tt) ws, many-C .1);
+        }
 
+    pub formed-C : Formed (contentC o (t .body))
+    formed-C = record { good = good-C; plain = heard (contentC o (t .body)) (packs-C .some); packed = λ n z. packs-C }
+
+-- ---- its normal form
+module _ (c : Ping) (f : Formed c) where
   -- a ping that can be written is kept
   pub kept-ping : Kept (ping c)
   unfolding formOf
-  kept-ping = by-samples (c .samples) refl
+  kept-ping = by-length (c .length) refl
     where
-      by-samples : (s : List Sample) → c .samples ≡ s → Kept (ping c)
-      by-samples [] e =
-          let f : pingForm (c .samples) c ≡ record { kind = 10010; body = dataC false c one } = ap (λ (s : List Sample). pingForm s c) e
-          ∙ form-C e in
+      by-length : (l : Option ℕ) → c .length ≡ l → Kept (ping c)
+      by-length none e =
+          let z : pingForm (c .length) c ≡ tupleU false c = ap (λ (m : Option ℕ). pingForm m c) e in
           record {
-            sound = subst (Sound false) (sym f) (sound-C e);
-            item = subst (λ (t : Tup). itemOf false t ≡ some (ping c)) (sym f) (item-C e);
+            sound = subst (Sound false) (sym z) (sound-U false c (f .good) e (f .plain e));
+            item = subst (λ (t : Tup). itemOf false t ≡ some (ping c)) (sym z) (item-U false c (f .good) e);
           }
-      by-samples (x ∷ s) e =
-          let any : 0 < length (c .samples) = omega (arith, ap length e) in
-          let f : pingForm (c .samples) c ≡ tupleU false c = ap (λ (s : List Sample). pingForm s c) e in
+      by-length (some n) e =
+          let z : pingForm (c .length) c ≡ tupleC false c = ap (λ (m : Option ℕ). pingForm m c) e in
           record {
-            sound = subst (Sound false) (sym f) (sound-U any);
-            item = subst (λ (t : Tup). itemOf false t ≡ some (ping c)) (sym f) item-U;
+            sound = subst (Sound false) (sym z) (sound-C false c (f .good) (f .packed n e));
+            item = subst (λ (t : Tup). itemOf false t ≡ some (ping c)) (sym z) (item-C false c (f .good) (f .packed n e));
           }

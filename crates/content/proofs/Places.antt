@@ -28,7 +28,7 @@ use Rattle.frame.proofs.Places.{Whole, body-place}
 use Rattle.links.specs.Links.{Link, Digest}
 use Rattle.links.specs.Links
 use Rattle.samples.specs.Words.{allWords, pairUp}
-use Rattle.samples.specs.Runs.{radix, decode}
+use Rattle.samples.specs.Runs.{radix, decode, pingLength}
 use Rattle.samples.specs.Judging.{pairRules, wordRules, judgedPairs, judgedWords}
 use Rattle.layout.specs.declared.Verdict.the-variants.{Fine}
 use Rattle.layout.specs.Answers.{judged}
@@ -199,7 +199,7 @@ module _ (o : Bool) (f : List ℕ) (at n : ℕ) (w : Whole o f at n) where
       ∙ ap (λ (i : ℕ). numOf o (take 4 (drop (at + i) f))) z
 
   -- the words between a header of a bytes and the attribute
-  words-place : (a : ℕ) → a + 14 ≤ n → wordsIn a o (t .body) ≡ allWords 4 o (take (n - 14 - a) (drop (at + (6 + a)) f))
+  pub words-place : (a : ℕ) → a + 14 ≤ n → wordsIn a o (tupAt o (drop at f) .body) ≡ allWords 4 o (take (n - 14 - a) (drop (at + (6 + a)) f))
   unfolding wordsIn t
   words-place a h =
       let e : length (t .body) - (a + 4) ≡ n - 14 - a = omega (arith, length-body) in
@@ -284,10 +284,12 @@ module _ (o : Bool) (f : List ℕ) (at n : ℕ) (w : Whole o f at n) where
 
   -- the words of a ping stand behind its header
   words-U : 40 ≤ n → wordsIn 18 o (t .body) ≡ allWords 4 o (take (n - 32) (drop (at + 24) f))
+  unfolding t
   words-U h = let z : n - 14 - 18 ≡ n - 32 = omega arith in
       words-place 18 (omega arith) ∙ ap (λ (i : ℕ). allWords 4 o (take i (drop (at + 24) f))) z
 
   words-C : 40 ≤ n → wordsIn 22 o (t .body) ≡ allWords 4 o (take (n - 36) (drop (at + 28) f))
+  unfolding t
   words-C h = let z : n - 14 - 22 ≡ n - 36 = omega arith in
       words-place 22 (omega arith) ∙ ap (λ (i : ℕ). allWords 4 o (take i (drop (at + 28) f))) z
 
@@ -304,18 +306,25 @@ module _ (o : Bool) (f : List ℕ) (at n : ℕ) (w : Whole o f at n) where
       ap (λ (k : ℕ). judged (innerBy (shapeOf k) o t)) e
       ∙ ap₂ (λ (i : ℕ) (ws : List ℕ). judged (wordRules i ws)) (ap (numOf o) (field-place 18 4 (omega arith))) (words-C h)
 
-  -- and say its samples
+  -- and say its samples and its length
   pub samples-U : kindAt o (drop at f) ≡ 10000 → 40 ≤ n
       → (q : Ping) × (itemOf o (tupAt o (drop at f)) ≡ some (ping q))
       × (q .samples ≡ pairUp (allWords 4 o (take (n - 32) (drop (at + 24) f))))
+      × (q .length ≡ none)
   unfolding listingOf among listings itemOf contentU t
-  samples-U e h = (contentU o (t .body), ap (λ (k : ℕ). itemBy (shapeOf k) o t) e, ap pairUp (words-U h))
+  samples-U e h = (contentU o (t .body), ap (λ (k : ℕ). itemBy (shapeOf k) o t) e, ap pairUp (words-U h), refl)
 
   pub samples-C : kindAt o (drop at f) ≡ 10010 → 40 ≤ n
       → (q : Ping) × (itemOf o (tupAt o (drop at f)) ≡ some (ping q))
       × (q .samples ≡ decode radix (allWords 4 o (take (n - 36) (drop (at + 28) f))))
+      × (q .length ≡ pingLength radix (allWords 4 o (take (n - 36) (drop (at + 28) f))))
   unfolding listingOf among listings itemOf contentC t
-  samples-C e h = (contentC o (t .body), ap (λ (k : ℕ). itemBy (shapeOf k) o t) e, ap (decode radix) (words-C h))
+  samples-C e h = (
+    contentC o (t .body),
+    ap (λ (k : ℕ). itemBy (shapeOf k) o t) e,
+    ap (decode radix) (words-C h),
+    ap (pingLength radix) (words-C h),
+  )
 
 -- ---- codes of no concern to a rule
 module _ (o : Bool) (t : Tup) where

@@ -7,7 +7,6 @@ use Rattle.layout.specs.Families.{wide}
 use Rattle.layout.specs.Types.{Shape, indexed, row, pairs, words, unlisted, shapeOf}
 use Rattle.turning.specs.Rows.{Value, encode}
 use Rattle.frame.specs.Frames.{Tup, frames}
-use Rattle.samples.specs.Words.{Sample}
 use Rattle.samples.specs.Runs.{radix, fewest}
 use Rattle.content.specs.Pings.{Ping, dataU, dataC}
 use Rattle.content.specs.Items.{Item, plain, ping, raw, rowIn, itemOf}
@@ -29,17 +28,17 @@ tupleU o p = record { kind = wide .plain; body = dataU o p }
 
 -- C-32 in the fewest words
 abbrev pub tupleC : Bool → Ping → Tup
-tupleC o p = record { kind = wide .packed; body = dataC o p (fewest radix (p .samples)) }
+tupleC o p = record { kind = wide .packed; body = dataC o p (fewest radix (p .samples) (p .length)) }
 
 -- ---- the normal form
--- each 32-bit ping as U-32; one without samples is C-32 with number of samples 0 and the one word FFFF0000
-abbrev pub pingForm : List Sample → Ping → Tup
-pingForm [] p = tupleC false p
-pingForm (x ∷ s) p = tupleU false p
+-- a 32-bit ping with a length as C-32 in the fewest words, every other as U-32
+abbrev pub pingForm : Option ℕ → Ping → Tup
+pingForm none p = tupleU false p
+pingForm (some n) p = tupleC false p
 
 unfoldable pub formOf : Item → Tup
 formOf (plain k vs) = plainTuple false k vs
-formOf (ping p) = pingForm (p .samples) p
+formOf (ping p) = pingForm (p .length) p
 formOf (raw k d) = record { kind = k; body = d }
 
 -- the normal tuples of a tuple: one, or none for the index class, and their bytes

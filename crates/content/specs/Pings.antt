@@ -2,18 +2,20 @@
 use Prim.Native.Nat.{ℕ, _+_, _-_}
 use mathlib.Core.Bool.{Bool}
 use mathlib.Core.List.{List, _++_}
+use mathlib.Core.Option.{Option, none}
 use lib.ListN.{length, take, drop}
 use Rattle.order.specs.Order.{numOf, bytesOf}
 use Rattle.layout.specs.Fields.{size}
 use Rattle.layout.specs.Types.{pingRow}
 use Rattle.turning.specs.Rows.{Value, valuesOf, encode}
 use Rattle.samples.specs.Words.{Sample, allWords, unwords, pairUp, unpair}
-use Rattle.samples.specs.Runs.{radix, decode}
+use Rattle.samples.specs.Runs.{radix, decode, pingLength}
 
--- the content of a 32-bit ping is its header fields, attribute and a list of (sample number, value)
+-- the content of a 32-bit ping is its header fields, attribute, a list of (sample number, value), and its length where it ends in a run
 pub record Ping : Type 0 where
   pub head : List Value
   pub samples : List Sample
+  pub length : Option ℕ
   pub attr : ℕ
 
 -- ---- the parts of a ping's data d: a header of a bytes, the words, four bytes of attribute
@@ -34,13 +36,15 @@ unfoldable pub countIn : Bool → List ℕ → ℕ
 countIn o d = numOf o (take 4 (drop headU d))
 
 -- ---- content
--- U-32: pairs as stored
+-- U-32: pairs as stored, and no length
 unfoldable pub contentU : Bool → List ℕ → Ping
-contentU o d = record { head = valuesOf o pingRow d; samples = pairUp (wordsIn headU o d); attr = attributeIn o d }
+contentU o d = record { head = valuesOf o pingRow d; samples = pairUp (wordsIn headU o d); length = none; attr = attributeIn o d }
 
 -- C-32: runs count, the number of samples is no content
 unfoldable pub contentC : Bool → List ℕ → Ping
-contentC o d = record { head = valuesOf o pingRow d; samples = decode radix (wordsIn headC o d); attr = attributeIn o d }
+contentC o d =
+    let ws = wordsIn headC o d in
+    record { head = valuesOf o pingRow d; samples = decode radix ws; length = pingLength radix ws; attr = attributeIn o d }
 
 -- ---- data
 unfoldable pub dataU : Bool → Ping → List ℕ

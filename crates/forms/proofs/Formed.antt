@@ -1,7 +1,7 @@
 -- The normal form of a tuple that keeps its own rules, by the tuple's shape: its bytes part by part, and how many they are.
 -- Assumes nothing.
 use mathlib.Core.Path.{_≡_, refl, sym, ap, ap₂, _∙_}
-use mathlib.Core.Bool.{Bool, true, false}
+use mathlib.Core.Bool.{Bool, true, false, cond}
 use mathlib.Core.List.{List, [], _∷_, _++_, append-nil, append-assoc}
 use mathlib.Core.Option.{Option, some, none}
 use Prim.Native.Nat.{ℕ, _+_, _-_, _*_, _/_, _%_, _≤_, _<_}
@@ -23,20 +23,22 @@ use Rattle.frame.specs.Frames.{Tup, lengthOf, frame, frames}
 use Rattle.frame.specs.inner.Framing.{openBytes, openingBytes, closeBytes}
 use Rattle.frame.proofs.Frames.{length-frame}
 use Rattle.rules.proofs.Bools.{both-true}
-use Rattle.samples.specs.Words.{Sample, unwords, pairUp, unpair}
-use Rattle.samples.specs.Runs.{radix, isRun, values, decode, fewest}
+use Rattle.samples.specs.Words.{unwords, pairUp, unpair}
+use Rattle.samples.specs.Runs.{radix, isRun, values, decode, samplesFrom, endsFrom}
+use Rattle.samples.specs.inner.Packing.{packed}
 use Rattle.samples.specs.Judging.{wordRules}
 use Rattle.samples.proofs.Words.{length-unwords, length-unpair}
 use Rattle.samples.proofs.Turning.{length-all, pairs-even}
 use Rattle.samples.proofs.Runs.{by-bool}
+use Rattle.samples.proofs.Lengths.{length-by}
+use Rattle.samples.proofs.Packed.{packed-fewest, packed-few}
 use Rattle.samples.proofs.Values.{length-decode, values-run, values-value}
-use Rattle.content.specs.Pings.{Ping, headU, headC, wordsIn, attributeIn, countIn, contentU, contentC, dataU, dataC}
+use Rattle.content.specs.Pings.{headU, headC, wordsIn, attributeIn, countIn, contentU, contentC, dataU, dataC}
 use Rattle.content.specs.Items.{rowIn, itemBy, itemOf, headRules, innerRules}
-use Rattle.content.specs.Forms.{encodeBy, tupleU, pingForm, formOf, formsOf, formBytes}
+use Rattle.content.specs.Forms.{encodeBy, tupleU, tupleC, pingForm, formOf, formsOf, formBytes}
 use Rattle.content.proofs.Fine.{head-length, inner-was, upward-least}
 use Rattle.content.proofs.Plain.{encode-any}
 use Rattle.intake.specs.inner.Tallies.{ownVerdict}
-use Rattle.forms.specs.inner.Parts.{silence}
 
 -- ---- how many words a ping's data hold, and how many values words do
 length-in : (a : ℕ) (o : Bool) (d : List ℕ) → a + 4 ≤ length d → length (wordsIn a o d) ≡ (length d - (a + 4)) / 4
@@ -44,10 +46,6 @@ unfolding wordsIn
 length-in a o d h =
     length-all 4 o (take (length d - (a + 4)) (drop a d))
     ∙ ap (λ (n : ℕ). n / 4) (length-take-le (length d - (a + 4)) (drop a d) (simp length-drop (omega arith)))
-
-empty : (s : List Sample) → length s ≡ 0 → s ≡ []
-empty [] h = refl
-empty (x ∷ s) h = absurd (omega arith)
 
 values-few : (R : ℕ) (ws : List ℕ) → values R ws ≤ length ws
 values-few R [] = unfold values in omega arith
@@ -93,11 +91,6 @@ module _ (o : Bool) (fs : List Field) (d : List ℕ) where
       (append-nil _
       ∙ ap (λ (l : List ℕ). bytesOf false 4 (numOf o (take 4 l))) (drop-drop w (size fs) d)
       ∙ ap (bytesOf false 4) (last-four o d (size fs + w) (omega arith)))
-
--- one word behind other bytes
-one-word : (b : List ℕ) (w : ℕ) (a : List ℕ) → b ++ (unwords 4 false (w ∷ []) ++ a) ≡ b ++ bytesOf false 4 w ++ a
-unfolding unwords
-one-word b w a = ap (λ (l : List ℕ). b ++ (l ++ a)) (append-nil (bytesOf false 4 w)) ∙ sym (append-assoc b (bytesOf false 4 w) a)
 
 -- ---- a frame by its parts
 regroup : (s k h m a b : List ℕ) → s ++ (k ++ ((h ++ (m ++ a)) ++ b)) ≡ s ++ k ++ h ++ (m ++ (a ++ b))
@@ -149,33 +142,22 @@ module _ (o : Bool) (t : Tup) where
       ∙ ap (λ (b : List ℕ). frame false (record { kind = t .kind; body = b }))
       (ap (λ (q : Shape). encodeBy false q vs) e ∙ encode-any false fs x 0 (length (t .body)) vs ∙ sym (turned-encode o gs (t .body)))
 
-  -- a ping with samples is U-32
-  sampled : (p : Ping) → 0 < length (p .samples) → pingForm (p .samples) p ≡ tupleU false p
-  sampled p h = by (p .samples) h
-    where
-      by : (s : List Sample) → 0 < length s → pingForm s p ≡ tupleU false p
-      by [] h = absurd (omega arith)
-      by (x ∷ s) h = refl
+  -- a ping without a length is U-32
+  form-U : shapeOf (t .kind) ≡ pairs → formBytes o t ≡ frame false (tupleU false (contentU o (t .body)))
+  unfolding formOf contentU
+  form-U e = by-shape pairs e ∙ append-nil _
 
-  form-U : shapeOf (t .kind) ≡ pairs → 0 < length (contentU o (t .body) .samples)
-      → formBytes o t ≡ frame false (tupleU false (contentU o (t .body)))
+  form-C : shapeOf (t .kind) ≡ words → contentC o (t .body) .length ≡ none → formBytes o t ≡ frame false (tupleU false (contentC o (t .body)))
   unfolding formOf
-  form-U e h = by-shape pairs e ∙ append-nil _ ∙ ap (frame false) (sampled (contentU o (t .body)) h)
+  form-C e h =
+      by-shape words e ∙ append-nil _ ∙ ap (λ (l : Option ℕ). frame false (pingForm l (contentC o (t .body)))) h
 
-  form-C : shapeOf (t .kind) ≡ words → 0 < length (contentC o (t .body) .samples)
-      → formBytes o t ≡ frame false (tupleU false (contentC o (t .body)))
+  -- one with a length is C-32
+  form-packed : shapeOf (t .kind) ≡ words → (n : ℕ) → contentC o (t .body) .length ≡ some n
+      → formBytes o t ≡ frame false (tupleC false (contentC o (t .body)))
   unfolding formOf
-  form-C e h = by-shape words e ∙ append-nil _ ∙ ap (frame false) (sampled (contentC o (t .body)) h)
-
-  -- one without samples is C-32, with the one word of a run of 1
-  silent : (p : Ping) → p .samples ≡ [] → pingForm (p .samples) p ≡ record { kind = 10010; body = dataC false p (0xffff0000 ∷ []) }
-  silent p e =
-      ap (λ (s : List Sample). pingForm s p) e ∙ ap (λ (s : List Sample). record { kind = 10010; body = dataC false p (fewest radix s) }) e
-
-  form-silent : shapeOf (t .kind) ≡ words → length (contentC o (t .body) .samples) ≡ 0
-      → formBytes o t ≡ frame false (record { kind = 10010; body = dataC false (contentC o (t .body)) (0xffff0000 ∷ []) })
-  unfolding formOf
-  form-silent e h = by-shape words e ∙ append-nil _ ∙ ap (frame false) (silent (contentC o (t .body)) (empty _ h))
+  form-packed e n h =
+      by-shape words e ∙ append-nil _ ∙ ap (λ (l : Option ℕ). frame false (pingForm l (contentC o (t .body)))) h
 
   -- ---- its parts, where the tuple keeps its own rules
   module _ (own : ownVerdict o t ≡ Fine) where
@@ -231,7 +213,7 @@ module _ (o : Bool) (t : Tup) where
           let d = t .body in
           let ws = wordsIn headU o d in
           parted (formBytes o t) (lengthOf t) 10000 (turned o pingRow d) (unwords 4 false ws) (attributeIn o d)
-          (form-U e (omega (arith, all-pairs .1, long-U))
+          (form-U e
           ∙ ap (λ (b : List ℕ). frame false (record { kind = 10000; body = b }))
           (head-turned (unwords 4 false (unpair (pairUp ws))) (attributeIn o d)
           ∙ ap (λ (us : List ℕ). turned o pingRow d ++ (unwords 4 false us ++ bytesOf false 4 (attributeIn o d))) (all-pairs .0)))
@@ -263,7 +245,13 @@ module _ (o : Bool) (t : Tup) where
           let ws = wordsIn headC o (t .body) in
           omega (arith, length-decode radix (lit< tt) ws 0, values-few radix ws, length-in 22 o (t .body) (omega (arith, long-C)), long-C)
 
-      pub parts-C : (n : ℕ) → n ≡ 32 + 8 * length (contentC o (t .body) .samples) → 0 < length (contentC o (t .body) .samples)
+      -- its length, by whether the last word is a run
+      length-by-end : (b : Bool) → endsFrom radix false (wordsIn headC o (t .body)) ≡ b
+          → contentC o (t .body) .length ≡ cond b (some (samplesFrom radix 0 (wordsIn headC o (t .body)))) none
+      unfolding contentC
+      length-by-end b h = length-by (wordsIn headC o (t .body)) b h
+
+      pub parts-C : (n : ℕ) → n ≡ 32 + 8 * length (contentC o (t .body) .samples) → endsFrom radix false (wordsIn headC o (t .body)) ≡ false
           → Parts (formBytes o t) n 10000 (turned o pingRow (t .body)) (unwords 4 false (unpair (decode radix (wordsIn headC o (t .body)))))
           (attributeIn o (t .body))
       unfolding contentC dataU
@@ -271,22 +259,42 @@ module _ (o : Bool) (t : Tup) where
           let d = t .body in
           let s = decode radix (wordsIn headC o d) in
           parted (formBytes o t) n 10000 (turned o pingRow d) (unwords 4 false (unpair s)) (attributeIn o d)
-          (form-C e h
+          (form-C e (length-by-end false h)
           ∙ ap (λ (b : List ℕ). frame false (record { kind = 10000; body = b }))
           (head-turned (unwords 4 false (unpair s)) (attributeIn o d)))
           (omega (arith, length-turned o pingRow d (omega (arith, long-C)), length-unwords 4 false (unpair s), length-unpair s))
 
-      pub parts-silent : length (contentC o (t .body) .samples) ≡ 0
-          → Parts (formBytes o t) 40 10010 (turned o pingRow (t .body)) silence (attributeIn o (t .body))
-      unfolding contentC dataC silence
-      parts-silent h =
+      -- its number of samples and its words, packed
+      abbrev pub packedPart : List ℕ
+      packedPart = bytesOf false 4 (countIn o (t .body)) ++ unwords 4 false (packed radix (wordsIn headC o (t .body)))
+
+      pub parts-packed : (n : ℕ) → n ≡ 36 + 4 * length (packed radix (wordsIn headC o (t .body)))
+          → endsFrom radix false (wordsIn headC o (t .body)) ≡ true
+          → Parts (formBytes o t) n 10010 (turned o pingRow (t .body)) packedPart (attributeIn o (t .body))
+      unfolding contentC dataC
+      parts-packed n size h =
           let d = t .body in
-          let p = contentC o d in
-          let a = bytesOf false 4 (attributeIn o d) in
-          parted (formBytes o t) 40 10010 (turned o pingRow d) (bytesOf false 4 0 ++ bytesOf false 4 0xffff0000) (attributeIn o d)
-          (form-silent e h
+          let ws = wordsIn headC o d in
+          let c = bytesOf false 4 (countIn o d) in
+          let u = unwords 4 false (packed radix ws) in
+          parted (formBytes o t) n 10010 (turned o pingRow d) (c ++ u) (attributeIn o d)
+          (form-packed e _ (length-by-end true h)
           ∙ ap (λ (b : List ℕ). frame false (record { kind = 10010; body = b }))
-          (ap (λ (i : ℕ). encode false pingRow (p .head) ++ (bytesOf false 4 i ++ (unwords 4 false (0xffff0000 ∷ []) ++ a))) h
-          ∙ ap (λ (l : List ℕ). encode false pingRow (p .head) ++ l) (one-word (bytesOf false 4 0) 0xffff0000 a)
-          ∙ head-turned (bytesOf false 4 0 ++ bytesOf false 4 0xffff0000) (attributeIn o d)))
-          (omega (arith, length-turned o pingRow d (omega (arith, long-C))))
+          (ap₂ (λ (i : ℕ) (us : List ℕ).
+          encode false pingRow (valuesOf o pingRow d) ++ (bytesOf false 4 i ++ (unwords 4 false us ++ bytesOf false 4 (attributeIn o d))))
+          (sym count-C) (sym (packed-fewest radix (lit< tt) ws))
+          ∙ ap (λ (l : List ℕ). encode false pingRow (valuesOf o pingRow d) ++ l) (sym (append-assoc c u (bytesOf false 4 (attributeIn o d))))
+          ∙ head-turned (c ++ u) (attributeIn o d)))
+          (omega (
+            arith,
+            length-turned o pingRow d (omega (arith, long-C)),
+            length-append c u,
+            length-bytesOf false 4 (countIn o d),
+            length-unwords 4 false (packed radix ws),
+          ))
+
+      -- which are no more than they were
+      pub few-packed : 4 * length (packed radix (wordsIn headC o (t .body))) + 36 ≤ lengthOf t
+      few-packed =
+          let ws = wordsIn headC o (t .body) in
+          omega (arith, packed-few radix (lit< tt) ws, length-in 22 o (t .body) (omega (arith, long-C)), long-C)

@@ -1,26 +1,27 @@
 -- Runs of bytes stored one behind the other are one run: those of a normal form are its bytes. Assumes nothing.
-use mathlib.Core.Path.{_≡_, sym, _∙_}
-use mathlib.Core.Bool.{false}
-use mathlib.Core.List.{List, _++_}
-use Prim.Native.Nat.{ℕ, _+_}
+use mathlib.Core.Path.{_≡_, ap, _∙_}
+use mathlib.Core.Bool.{Bool, false}
+use mathlib.Core.List.{List, [], _∷_, _++_}
+use Prim.Native.Nat.{ℕ, suc, _+_}
 use native.Mathlib.Omega.{arith}
-use lib.ListN.{length, length-append}
+use lib.ListN.{length, set, length-append}
 use lib.Seq.{sets}
 use Rattle.order.specs.Order.{bytesOf}
-use Rattle.order.proofs.Stores.{stored-behind, store-step}
+use Rattle.order.proofs.Laws.{length-bytesOf}
+use Rattle.order.proofs.Stores.{stored-behind}
 use Rattle.frame.specs.inner.Framing.{openBytes, openingBytes, closeBytes}
 use Rattle.frame.proofs.Framing.{length-open, length-opening}
-use Rattle.samples.specs.Runs.{radix, shortestRun}
-use Rattle.forms.specs.inner.Parts.{silence}
+use Rattle.samples.proofs.Turning.{set-past}
 
-pub length-silence : length silence ≡ 8
-unfolding silence
-length-silence = length-append (bytesOf false 4 0) (bytesOf false 4 (shortestRun radix))
+-- a run before another, which was stored first
+pub stored-before : (x y l : List ℕ) (i q : ℕ) → q ≡ i + length x → sets (sets l q y) i x ≡ sets l i (x ++ y)
+stored-before [] y l i q e = let z : i + 0 ≡ i = omega arith in ap (λ (j : ℕ). sets l j y) (e ∙ z)
+stored-before (a ∷ x) y l i q e =
+    ap (λ (k : List ℕ). sets k (suc i) x) (set-past y l i q a (omega arith)) ∙ stored-before x y (set l i a) (suc i) q (omega arith)
 
-pub silence-stored : (out : List ℕ) (to : ℕ)
-    → sets (sets out to (bytesOf false 4 0)) (to + 4) (bytesOf false 4 (shortestRun radix)) ≡ sets out to silence
-unfolding silence
-silence-stored out to = sym (store-step false 4 0 out (bytesOf false 4 (shortestRun radix)) to)
+pub length-close : (o : Bool) (n a : ℕ) → length (closeBytes o n a) ≡ 8
+unfolding closeBytes
+length-close o n a = length-append (bytesOf o 4 a) (bytesOf o 4 n) ∙ omega (arith, length-bytesOf o 4 a, length-bytesOf o 4 n)
 
 -- what follows the fields stands at p, attribute and backlink at q
 module _ (out : List ℕ) (to n k : ℕ) where

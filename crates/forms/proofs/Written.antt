@@ -1,14 +1,16 @@
 -- The writers of the normal form of a sound tuple at a place: what each stores, one run behind the other, is its bytes. Assumes
 -- nothing.
 use mathlib.Core.Path.{_≡_, refl, sym, ap, ap₂, _∙_}
-use mathlib.Core.Bool.{Bool, false}
+use mathlib.Core.Bool.{Bool, true, false}
 use mathlib.Core.List.{List, _++_, append-assoc}
 use mathlib.Core.Option.{Option}
 use Prim.Native.Nat.{ℕ, _+_, _-_, _*_, _≤_, _<_}
 use native.Mathlib.Omega.{arith}
-use lib.ListN.{length, take, drop, length-drop}
+use lib.ListN.{length, take, drop, length-drop, length-append}
 use lib.Seq.{sets, drop-drop, length-take-le}
 use Rattle.order.specs.Order.{numOf, bytesOf}
+use Rattle.order.proofs.Laws.{length-bytesOf}
+use Rattle.order.proofs.Stores.{stored-behind}
 use Rattle.layout.specs.Fields.{Field, size}
 use Rattle.layout.specs.Types.{row, unlisted, shapeOf, pingRow}
 use Rattle.layout.specs.inner.Codes.{placeIn}
@@ -16,21 +18,23 @@ use Rattle.turning.specs.Rows.{turned}
 use Rattle.turning.proofs.Contents.{within-take, turned-take, length-turned}
 use Rattle.frame.specs.Frames.{Tup, frame, sizeAt, tupAt}
 use Rattle.frame.specs.inner.Framing.{openBytes, openingBytes, closeBytes}
-use Rattle.frame.proofs.Frames.{allowed-4, allowed-most}
+use Rattle.frame.proofs.Frames.{allowed-4}
+use Rattle.frame.proofs.Framing.{length-opening}
 use Rattle.frame.proofs.Places.{body-place}
 use Rattle.samples.specs.Words.{allWords, unwords, unpair}
-use Rattle.samples.specs.Runs.{radix, decode}
+use Rattle.samples.specs.Runs.{radix, decode, endsFrom}
+use Rattle.samples.specs.inner.Packing.{packed, PackedAt}
 use Rattle.samples.proofs.Words.{length-unwords, length-unpair}
 use Rattle.samples.proofs.Turning.{length-all}
 use Rattle.content.specs.Pings.{wordsIn, attributeIn, contentC}
 use Rattle.content.specs.Forms.{formBytes}
 use Rattle.content.proofs.Places.{fieldAt, length-body}
 use Rattle.forms.specs.inner.Sound.{SoundHere}
-use Rattle.forms.specs.inner.Parts.{silence, listedFields}
-use Rattle.forms.proofs.Formed.{last-four, form-raw, least-row, parts-row, parts-U, parts-C, parts-silent}
-use Rattle.forms.proofs.Placed.{there, shape-of, size-of, pairs-shape, long-pairs, words-shape, long-words, count-of}
+use Rattle.forms.specs.inner.Parts.{wordsAt, listedFields}
+use Rattle.forms.proofs.Formed.{last-four, form-raw, least-row, parts-row, parts-U, count-C, parts-C, parts-packed}
+use Rattle.forms.proofs.Placed.{there, shape-of, size-of, words-there, pairs-shape, long-pairs, words-shape, long-words, count-of, words-here}
 use Rattle.forms.proofs.Texts.{ping-fields}
-use Rattle.forms.proofs.Stored.{length-silence, closed, enclosed}
+use Rattle.forms.proofs.Stored.{stored-before, length-close, closed, enclosed}
 
 -- the frame of a type and data
 raw-frame : (k : ℕ) (d : List ℕ)
@@ -70,27 +74,10 @@ module _ {o : Bool} {f : List ℕ} {at n k : ℕ} (s : SoundHere o f at n k) whe
       ∙ ap (numOf o) (part-place (n - 14) 4 (omega arith))
       ∙ ap (λ (i : ℕ). numOf o (take 4 (drop i f))) p
 
-  -- the words between a header of a bytes and the attribute
-  words-place : (a : ℕ) → a + 14 ≤ n → wordsIn a o (t .body) ≡ allWords 4 o (take (at + (n - 8) - (at + (6 + a))) (drop (at + (6 + a)) f))
-  unfolding wordsIn
-  words-place a h =
-      let w : length (t .body) - (a + 4) ≡ at + (n - 8) - (at + (6 + a)) = omega (arith, size-body) in
-      ap (λ (i : ℕ). allWords 4 o (take i (drop a (t .body)))) w
-      ∙ ap (allWords 4 o) (part-place a (at + (n - 8) - (at + (6 + a))) (omega arith))
-
-  -- a C-32 ping counts the samples of its words, and they are few
-  pub spread-count : k ≡ 10010
-      → fieldAt o f at 4 24 ≡ length (decode radix (allWords 4 o (take (at + (n - 8) - (at + 28)) (drop (at + 28) f))))
+  -- a C-32 ping counts the samples of its words
+  pub spread-count : k ≡ 10010 → fieldAt o f at 4 24 ≡ length (decode radix (wordsAt o f at n))
   unfolding contentC
-  spread-count e = count-of s e ∙ ap (λ (ws : List ℕ). length (decode radix ws)) (words-place 22 (omega (arith, long-words s e)))
-
-  pub spread-few : 40 ≤ n → length (take (at + (n - 8) - (at + 28)) (drop (at + 28) f)) ≤ 262108
-  spread-few long =
-      omega (
-        arith,
-        length-take-le (at + (n - 8) - (at + 28)) (drop (at + 28) f) (simp length-drop (omega (arith, there s .fits))),
-        allowed-most n (there s .allowed),
-      )
+  spread-count e = count-of s e ∙ ap (λ (ws : List ℕ). length (decode radix ws)) (words-here s e)
 
   -- ---- its form by parts h, m and the attribute, each by its place
   moved : {i j c e : ℕ} {h g m l : List ℕ} → i ≡ j → c ≡ e → h ≡ g → m ≡ l
@@ -194,38 +181,73 @@ module _ {o : Bool} {f : List ℕ} {at n k : ℕ} (s : SoundHere o f at n k) whe
         (parts-U o t (s .own) shape .are
         ∙ ap₂ (λ (i : ℕ) (l : List ℕ). openingBytes false i 10000 (turned o pingRow (t .body))
         ++ (unwords 4 false l ++ closeBytes false i (attributeIn o (t .body))))
-        (size-of s) (words-place 18 (omega arith)))
+        (size-of s) (words-there s 18 (omega arith)))
         w
 
-    -- a C-32 ping, of j bytes as U-32
-    pub words-written : (e : k ≡ 10010) (j : ℕ) → j ≡ 24 + 8 * fieldAt o f at 4 24 + 8 → 0 < fieldAt o f at 4 24
+    -- a C-32 ping without a length, of j bytes as U-32
+    pub words-written : (e : k ≡ 10010) (j : ℕ) → j ≡ 24 + 8 * fieldAt o f at 4 24 + 8 → endsFrom radix false (wordsAt o f at n) ≡ false
         → left
         ≡ sets
         (sets (sets out to (openingBytes false j 10000 (turned o (listedFields (placeIn 10000)) (drop (at + 6) f)))) (to + 24)
-        (unwords 4 false (unpair (decode radix (allWords 4 o (take (at + (n - 8) - (at + 28)) (drop (at + 28) f))))))) (to + (j - 8))
+        (unwords 4 false (unpair (decode radix (wordsAt o f at n))))) (to + (j - 8))
         (closeBytes false j (numOf o (take 4 (drop (at + (n - 8)) f))))
         → left ≡ sets out to (formBytes o (tupAt o (drop at f)))
-    words-written e j z any w =
+    words-written e j z ends w =
         let shape = words-shape s e in
         let long = long-words s e in
         let count = count-of s e in
-        let x = decode radix (allWords 4 o (take (at + (n - 8) - (at + 28)) (drop (at + 28) f))) in
+        let x = decode radix (wordsAt o f at n) in
         ping-written long j 10000 (unwords 4 false (unpair x)) (to + (j - 8))
         (omega (arith, length-unwords 4 false (unpair x), length-unpair x, spread-count e))
-        (parts-C o t (s .own) shape j (omega arith) (omega arith) .are
+        (parts-C o t (s .own) shape j (omega arith) (ap (endsFrom radix false) (words-here s e) ∙ ends) .are
         ∙ ap (λ (l : List ℕ). openingBytes false j 10000 (turned o pingRow (t .body))
         ++ (unwords 4 false (unpair (decode radix l)) ++ closeBytes false j (attributeIn o (t .body))))
-        (words-place 22 (omega arith)))
+        (words-here s e))
         w
 
-    -- one without samples
-    pub silent-written : k ≡ 10010 → fieldAt o f at 4 24 ≡ 0
+    -- one with a length: its words stand at to + 28 first, then attribute and backlink behind them, then what is before them
+    pub packed-written : (e : k ≡ 10010) (j c q : ℕ) (l : List ℕ) → q ≡ to + 28 + 4 * length (packed radix (wordsAt o f at n))
+        → j ≡ q - to + 8
+        → c ≡ fieldAt o f at 4 24
+        → endsFrom radix false (wordsAt o f at n) ≡ true
+        → PackedAt out (to + 28) (packed radix (wordsAt o f at n)) l q
         → left
-        ≡ sets (sets (sets out to (openingBytes false 40 10010 (turned o (listedFields (placeIn 10000)) (drop (at + 6) f)))) (to + 24)
-        silence)
-        (to + 32)
-        (closeBytes false 40 (numOf o (take 4 (drop (at + (n - 8)) f))))
+        ≡ sets
+        (sets (sets l q (closeBytes false j (numOf o (take 4 (drop (at + (n - 8)) f))))) to
+        (openingBytes false j 10010 (turned o (listedFields (placeIn 10000)) (drop (at + 6) f)))) (to + 24)
+        (bytesOf false 4 c)
         → left ≡ sets out to (formBytes o (tupAt o (drop at f)))
-    silent-written e zero w =
-        ping-written (long-words s e) 40 10010 silence (to + 32) (omega (arith, length-silence))
-        (parts-silent o t (s .own) (words-shape s e) (omega (arith, count-of s e)) .are) w
+    packed-written e j c q l place z count ends there-packed w =
+        let shape = words-shape s e in
+        let long = long-words s e in
+        let ws = wordsAt o f at n in
+        let u = unwords 4 false (packed radix ws) in
+        let b = bytesOf false 4 c in
+        let g = openingBytes false j 10010 (turned o (listedFields (placeIn 10000)) (drop (at + 6) f)) in
+        let tail = closeBytes false j (numOf o (take 4 (drop (at + (n - 8)) f))) in
+        let size : length g ≡ 24 =
+        length-opening false j 10010 _
+        ∙ omega (
+          arith,
+          length-turned o pingRow (drop (at + 6) f) (simp length-drop (omega (arith, there s .fits))),
+          ap (λ (us : List Field). length (turned o us (drop (at + 6) f))) (ping-fields refl),
+        ) in
+        let four = length-bytesOf false 4 c in
+        let grouped : g ++ b ++ (u ++ tail) ≡ g ++ (b ++ u) ++ tail = simp append-assoc in
+        ping-written long j 10010 (b ++ u) q
+        (omega (arith, length-append b u, length-unwords 4 false (packed radix ws)))
+        (parts-packed o t (s .own) shape j
+        (omega (arith, ap (λ (l : List ℕ). length (packed radix l)) (words-here s e)))
+        (ap (endsFrom radix false) (words-here s e) ∙ ends)
+        .are
+        ∙ ap₂ (λ (i : ℕ) (l : List ℕ). openingBytes false j 10010 (turned o pingRow (t .body))
+        ++ (bytesOf false 4 i ++ unwords 4 false (packed radix l) ++ closeBytes false j (attributeIn o (t .body))))
+        (count-C o t (s .own) shape ∙ sym (count-of s e) ∙ sym count) (words-here s e))
+        (w
+        ∙ ap (λ (x : List ℕ). sets (sets x to g) (to + 24) b) (there-packed tail (length-close false j _))
+        ∙ stored-behind g b (sets out (to + 28) (u ++ tail)) to (to + 24) (omega (arith, size))
+        ∙ stored-before (g ++ b) (u ++ tail) out to (to + 28) (omega (arith, size, length-append g b))
+        ∙ ap (sets out to) grouped
+        ∙ sym (ap (λ (x : List ℕ). sets x q tail) (stored-behind g (b ++ u) out to (to + 24) (omega (arith, size)))
+        ∙ stored-behind (g ++ (b ++ u)) tail out to q
+        (omega (arith, size, length-append g (b ++ u), length-append b u, length-unwords 4 false (packed radix ws)))))

@@ -3,7 +3,7 @@ use frame::DATA;
 use layout::FIELDS;
 use layout::types;
 ghost use mathlib.Core.Path.{_≡_};
-ghost use mathlib.Core.Bool.{false};
+ghost use mathlib.Core.Bool.{true, false};
 ghost use Prim.Native.Nat.{_+_, _*_, _^_, _≤_, _<_};
 ghost use lib.ListN.{length, take, drop};
 ghost use lib.Seq.{sets};
@@ -14,25 +14,39 @@ ghost use Rattle.layout.specs.inner.Codes.{placeIn};
 ghost use Rattle.turning.specs.Rows.{turned};
 ghost use Rattle.frame.specs.Frames.{tupAt};
 ghost use Rattle.frame.specs.inner.Framing.{openingBytes, closeBytes};
+ghost use Rattle.samples.specs.Runs.{radix, endsFrom};
 ghost use Rattle.content.specs.Forms.{formBytes};
 ghost use Rattle.intake.specs.inner.Tallies.{Fits};
 ghost use Rattle.forms.specs.inner.Sound.{SoundHere};
-ghost use Rattle.forms.specs.inner.Parts.{silence, listedFields, firstListings, Rowed};
+ghost use Rattle.forms.specs.inner.Parts.{wordsAt, listedFields, firstListings, Rowed};
 
 // The places of an event's characters and of an end of file's data bytes.
 const EVENT_TEXT: usize = 12;
 
 const END_DATA: usize = 14;
 
-// The bytes of a word and of a pair, and of the form of a ping without samples.
+// The bytes of a word and of a pair.
 const WORD: usize = 4;
 
 const PAIR: usize = 8;
 
-const SILENT: usize = 40;
+// How many bytes the normal form of a C-32 ping has. One with a length is measured by its words; any other counts its samples itself,
+// so that they are not read.
+fn ping_length(file: &[u8], at: usize, msb: bool, whole: usize) -> usize
+    requires { ⌜ SoundHere msb (now file) at whole 10010 ⌝ }
+    ensures { λ r. ⌜ r ≡ length (formBytes msb (tupAt msb (drop at (now (file .entry))))) ⌝ }
+    ensures { λ r. ⌜ r ≤ 2 * whole ⌝ }
+{
+    let tail = whole - frame::TAIL;
+    let words = &file[at + samples::WORDS..at + tail];
+    if samples::ends_in_run(words, msb) {
+        return samples::WORDS + WORD * samples::packing::count_packed(words, msb) + frame::TAIL;
+    }
+    let count = order::read4(file, at + samples::COUNT, msb) as usize;
+    samples::PAIRS + PAIR * count + frame::TAIL
+}
 
-// How many bytes the normal form of the tuple at a place has: none for the index class. A C-32 ping counts its samples itself, so
-// that they are not read.
+// How many bytes the normal form of the tuple at a place has: none for the index class.
 pub fn form_length(file: &[u8], at: usize, msb: bool, whole: usize, code: u16) -> usize
     requires { ⌜ SoundHere msb (now file) at whole code ⌝ }
     ensures { λ r. ⌜ r ≡ length (formBytes msb (tupAt msb (drop at (now (file .entry))))) ⌝ }
@@ -44,11 +58,7 @@ pub fn form_length(file: &[u8], at: usize, msb: bool, whole: usize, code: u16) -
     if code != types::PING_C {
         return whole;
     }
-    let count = order::read4(file, at + samples::COUNT, msb) as usize;
-    if count == 0 {
-        return SILENT;
-    }
-    samples::PAIRS + PAIR * count + frame::TAIL
+    ping_length(file, at, msb, whole)
 }
 
 // Writes the fields of a tuple of a listed type, by its listing. Each arm names its row by a constant, and how many fields it has before
@@ -193,37 +203,28 @@ fn write_u(file: &[u8], at: usize, msb: bool, whole: usize, out: &mut [u8], to: 
     close_form(file, at + tail, msb, out, to + tail, whole);
 }
 
-// Writes the number of samples and the one word of a ping without samples.
-fn write_silence(out: &mut [u8], to: usize)
-    requires { ⌜ to + 8 ≤ length (now out) ⌝ }
-    ensures { λ _. ⌜ now (out .exit) ≡ sets (now (out .entry)) to silence ⌝ }
-{
-    order::store4(out, to, false, 0);
-    order::store4(out, to + WORD, false, samples::SHORTEST_RUN);
-}
-
-// Writes the form of a C-32 ping without samples: number of samples 0 and the one word of a run of 1.
-fn write_silent(file: &[u8], at: usize, msb: bool, whole: usize, out: &mut [u8], to: usize)
+// Writes the form of a C-32 ping with a length: its words packed, then what stands behind them and before them; and says how many bytes
+// it has.
+fn write_packed(file: &[u8], at: usize, msb: bool, whole: usize, out: &mut [u8], to: usize) -> usize
     requires { ⌜ SoundHere msb (now file) at whole 10010 ⌝ }
-    requires { ⌜ numOf msb (take 4 (drop (at + 24) (now file))) ≡ 0 ⌝ }
-    requires { ⌜ to + 40 ≤ length (now out) ⌝ }
+    requires { ⌜ endsFrom radix false (wordsAt msb (now file) at whole) ≡ true ⌝ }
+    requires { ⌜ to + length (formBytes msb (tupAt msb (drop at (now file)))) ≤ length (now out) ⌝ }
+    ensures { λ r. ⌜ r ≡ length (formBytes msb (tupAt msb (drop at (now (file .entry))))) ⌝ }
     ensures { λ _. ⌜ now (out .exit) ≡ sets (now (out .entry)) to (formBytes msb (tupAt msb (drop at (now (file .entry))))) ⌝ }
 {
     let tail = whole - frame::TAIL;
+    let words = &file[at + samples::WORDS..at + tail];
+    let end = samples::packing::pack_words(words, msb, out, to + samples::WORDS);
+    let bytes = end - to + frame::TAIL;
+    close_form(file, at + tail, msb, out, end, bytes);
     let listing = layout::listing_of(types::PING_U);
-    open_form(file, at, msb, listing, out, to, SILENT, types::PING_C);
-    write_silence(out, to + samples::COUNT);
-    close_form(
-        file,
-        at + tail,
-        msb,
-        out,
-        to + (SILENT - frame::TAIL),
-        SILENT,
-    );
+    open_form(file, at, msb, listing, out, to, bytes, types::PING_C);
+    let count = order::read4(file, at + samples::COUNT, msb);
+    order::store4(out, to + samples::COUNT, false, count);
+    bytes
 }
 
-// Writes the form of a C-32 ping with samples, as many as it counts: U-32, each sample a pair.
+// Writes the form of a C-32 ping without a length, of as many samples as it counts: U-32, each sample a pair.
 fn write_sampled(
     file: &[u8],
     at: usize,
@@ -234,7 +235,7 @@ fn write_sampled(
     to: usize,
 )
     requires { ⌜ SoundHere msb (now file) at whole 10010 ⌝ }
-    requires { ⌜ 0 < numOf msb (take 4 (drop (at + 24) (now file))) ⌝ }
+    requires { ⌜ endsFrom radix false (wordsAt msb (now file) at whole) ≡ false ⌝ }
     requires { ⌜ bytes ≡ 24 + 8 * numOf msb (take 4 (drop (at + 24) (now file))) + 8 ⌝ }
     requires { ⌜ to + bytes ≤ length (now out) ⌝ }
     ensures { λ _. ⌜ now (out .exit) ≡ sets (now (out .entry)) to (formBytes msb (tupAt msb (drop at (now (file .entry))))) ⌝ }
@@ -253,18 +254,18 @@ fn write_sampled(
     close_form(file, at + tail, msb, out, end, bytes);
 }
 
-// Writes the form of a C-32 ping, by its number of samples, and says how many bytes it has.
+// Writes the form of a C-32 ping, by whether it has a length, and says how many bytes it has.
 fn write_c(file: &[u8], at: usize, msb: bool, whole: usize, out: &mut [u8], to: usize) -> usize
     requires { ⌜ SoundHere msb (now file) at whole 10010 ⌝ }
     requires { ⌜ to + length (formBytes msb (tupAt msb (drop at (now file)))) ≤ length (now out) ⌝ }
     ensures { λ r. ⌜ r ≡ length (formBytes msb (tupAt msb (drop at (now (file .entry))))) ⌝ }
     ensures { λ _. ⌜ now (out .exit) ≡ sets (now (out .entry)) to (formBytes msb (tupAt msb (drop at (now (file .entry))))) ⌝ }
 {
-    let count = order::read4(file, at + samples::COUNT, msb) as usize;
-    if count == 0 {
-        write_silent(file, at, msb, whole, out, to);
-        return SILENT;
+    let tail = whole - frame::TAIL;
+    if samples::ends_in_run(&file[at + samples::WORDS..at + tail], msb) {
+        return write_packed(file, at, msb, whole, out, to);
     }
+    let count = order::read4(file, at + samples::COUNT, msb) as usize;
     let bytes = samples::PAIRS + PAIR * count + frame::TAIL;
     write_sampled(file, at, msb, whole, bytes, out, to);
     bytes

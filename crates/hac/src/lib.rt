@@ -33,11 +33,14 @@ pub use frame::Walk;
 pub use intake::Asked;
 pub use intake::ask;
 
-// read_ping(file, place): header, attribute, kind and number of values of a listed ping. Refuses as a forward step does, 3 at the end;
-// then 9 for another type; 9, 11; 23 at the byte of the first number that doesn't rise, or 24 at that of the first word outside the
-// limits, 25 at the number of samples. Promise: `PingAt`, crates/pings/specs/Fields.antt.
+// read_ping(file, place): header, attribute, kind, number of values and length of a listed ping. The length is the number of all samples,
+// runs counted, of a C-32 ping that ends in a run, so that one without samples always has it; a U-32 ping, and a C-32 ping that ends in a
+// value, have none. Refuses as a forward step does, 3 at the end; then 9 for another type; 9, 11; 23 at the byte of the first number that
+// doesn't rise, or 24 at that of the first word outside the limits, 25 at the number of samples. Promise: `PingAt`,
+// crates/pings/specs/Fields.antt.
 pub use pings::PingHeader;
 pub use pings::PingKind;
+pub use pings::PingLength;
 pub use pings::PingRead;
 pub use pings::read_ping;
 
@@ -50,9 +53,13 @@ pub use pings::of_words;
 // Refuses as read_ping does, then by 19 at 0 where either slice is short. Promise: `SamplesRead`, crates/pings/specs/Readers.antt.
 pub use pings::read_samples;
 
-// write_u32 and write_c32(header, attribute, numbers, values, msb, out): a ping as pairs, or in the fewest words. Refuse by 23 at the
-// smaller of unequal counts; 11 (count); 22 (U-32 without samples); 23 at the first number not above the one before it; 21 at the
-// first value that has no word (C-32); 11 (length); 19. Promises: `WrittenU`, `WrittenC`, crates/pings/specs/Headers.antt.
+// write_u32(header, attribute, numbers, values, msb, out): a ping as pairs. Refuses by 23 at the smaller of unequal counts; 11 (count); 22
+// without samples; 23 at the first number not above the one before it; 11 (the tuple's bytes); 19. Promise: `WrittenU`,
+// crates/pings/specs/Headers.antt.
+// write_c32(header, attribute, numbers, values, length, msb, out): a ping in the fewest words, with a length up to it in runs behind the
+// last value, without one none there. Refuses by 23 at the smaller of unequal counts; 11 (count); 22 with neither samples nor a length;
+// 23 at the first number not above the one before it; 21 at the first value that has no word; 26 for a length under the last number
+// plus 2, or of 0 without samples; 11 (the tuple's bytes); 19. Promise: `WrittenC`, crates/pings/specs/Headers.antt.
 pub use pings::write_c32;
 pub use pings::write_u32;
 
@@ -105,9 +112,9 @@ pub use threshold::Threshold;
 pub use threshold::ThresholdRead;
 // up to here
 
-// normalise(file, out): the file's normal form. Refuses as the check does; then by 18 at the first unlisted tuple, index class apart, of
-// an MSB file; 20 where the normal form is over the limit of a file; 19. Accepts with the file's tuples, the bytes written and
-// the identifiers compared in the file handed in.
+// normalise(file, out): the file's normal form, in which a ping with a length is C-32 in the fewest words and all others are U-32.
+// Refuses as the check does; then by 18 at the first unlisted tuple, index class apart, of an MSB file; 20 where the normal form is over
+// the limit of a file; 19. Accepts with the file's tuples, the bytes written and the identifiers compared in the file handed in.
 // Promise: `Normalised`, crates/normal/specs/Normaliser.antt; demand 3: crates/normal/specs/Demand.antt.
 pub use normal::normalise;
 

@@ -15,6 +15,8 @@ use Rattle.layout.specs.Types.{pingRow, listings, among, listingOf}
 use Rattle.frame.specs.Files.{isMsb}
 use Rattle.frame.proofs.Places.{Whole}
 use Rattle.turning.specs.Rows.{valuesOf}
+use Rattle.samples.specs.Words.{allWords}
+use Rattle.samples.specs.Runs.{radix, pingLength}
 use Rattle.turning.proofs.Contents.{values-at}
 use Rattle.content.specs.Pings.{Ping, attributeIn, contentU, contentC}
 use Rattle.content.specs.Items.{Item, plain, ping, raw, itemBy, itemOf}
@@ -24,13 +26,16 @@ use Rattle.tuples.proofs.Reading.{stands, here}
 use Rattle.pings.specs.declared.PingHeader.{PingHeader}
 use Rattle.pings.specs.declared.PingKind.{PingKind}
 use Rattle.pings.specs.declared.PingKind.the-variants.{U32, C32}
+use Rattle.pings.specs.declared.PingLength.{PingLength}
+use Rattle.pings.specs.declared.PingLength.the-variants.{Absent}
 use Rattle.pings.specs.declared.PingRead.{PingRead}
 use Rattle.pings.specs.declared.PingRead.the-variants.{Read}
 use Rattle.pings.specs.Readers.{samplesBy, samplesAt}
+use Rattle.pings.specs.Headers.{toldLength}
 use Rattle.pings.specs.inner.Handing.{SoundPing}
 use Rattle.pings.specs.Fields.{headerOf, pingBy, kindOfPing, pingFields, answerOf, answered, PingAt}
 use Rattle.pings.proofs.Handing.{length-pairs}
-use Rattle.pings.proofs.Reading.{whole-there, pairs-there, words-there, count-there}
+use Rattle.pings.proofs.Reading.{whole-there, pairs-there, words-there, count-there, length-there}
 
 same-samples : (x : Option Item) → samplesBy x ≡ pingBy x .samples
 same-samples none = refl
@@ -63,18 +68,21 @@ module _ {f : List ℕ} {p n k : ℕ} {o : Bool} (s : SoundPing f p o n k) where
   -- what is read at the places is what the reader hands over
   module _ (h : PingHeader) (a : ℤ) (v : ℕ) (eh : h ≡ headerOf (valuesOf o pingRow (drop (p + 6) f)))
       (ea : a ≡ signedOf 4 (numOf o (take 4 (drop (p + (n - 8)) f)))) where
-    by-content : (q : Ping) (t : PingKind) → pingBy (readItem f p) ≡ q → q .head ≡ valuesOf (isMsb f) pingRow (tupleThere f p .body)
+    by-content : (q : Ping) (t : PingKind) (l : PingLength) → pingBy (readItem f p) ≡ q
+        → q .head ≡ valuesOf (isMsb f) pingRow (tupleThere f p .body)
         → q .attr ≡ attributeIn (isMsb f) (tupleThere f p .body)
-        → t ≡ kindOfPing (tupleThere f p .kind) → v ≡ length (samplesAt f p) → Read h a t v ≡ pingFields f p
+        → t ≡ kindOfPing (tupleThere f p .kind) → v ≡ length (samplesAt f p) → l ≡ toldLength (pingBy (readItem f p) .length)
+        → Read h a t v l ≡ pingFields f p
     unfolding pingFields
-    by-content q t e eq-head eq-attr et ev =
+    by-content q t l e eq-head eq-attr et ev el =
         λ i. Read
         ((eh ∙ ap headerOf (sym (ap (λ (x : Ping). x .head) e ∙ eq-head ∙ head-there))) i)
         ((ea ∙ ap (signedOf 4) (sym (ap (λ (x : Ping). x .attr) e ∙ eq-attr ∙ attr-there))) i)
         (et i)
         ((ev ∙ ap length (same-samples (readItem f p))) i)
+        (el i)
 
-    pub fields-U : k ≡ 10000 → v ≡ (n - 24 - 8) / 8 → Read h a U32 v ≡ pingFields f p
+    pub fields-U : k ≡ 10000 → v ≡ (n - 24 - 8) / 8 → Read h a U32 v Absent ≡ pingFields f p
     unfolding contentU
     fields-U e ev =
         let r = whole-there s in
@@ -82,16 +90,23 @@ module _ {f : List ℕ} {p n k : ℕ} {o : Bool} (s : SoundPing f p o n k) where
         let long : length (take (p + n - 8 - (p + 24)) (drop (p + 24) f))
         ≡ n - 24 - 8 = length-take-le (p + n - 8 - (p + 24)) (drop (p + 24) f) (simp length-drop (omega (arith, r .0, r .2)))
         ∙ omega (arith, r .0) in
-        by-content (contentU (isMsb f) (tupleThere f p .body)) U32 (item-U e) refl refl
+        by-content (contentU (isMsb f) (tupleThere f p .body)) U32 Absent (item-U e) refl refl
         (sym (ap kindOfPing (here (s .found) .kind ∙ e)))
         (ev ∙ ap (λ (i : ℕ). i / 8) (sym long) ∙ length-pairs (isMsb f) part ∙ ap length (sym (pairs-there s e)))
+        (sym (ap (λ (x : Ping). toldLength (x .length)) (item-U e)))
 
-    pub fields-C : k ≡ 10010 → v ≡ numOf o (take 4 (drop (p + 24) f)) → Read h a C32 v ≡ pingFields f p
+    pub fields-C : (l : PingLength) → k ≡ 10010 → v ≡ numOf o (take 4 (drop (p + 24) f))
+        → l ≡ toldLength (pingLength radix (allWords 4 o (take (p + n - 8 - (p + 28)) (drop (p + 28) f))))
+        → Read h a C32 v l ≡ pingFields f p
     unfolding contentC
-    fields-C e ev =
-        by-content (contentC (isMsb f) (tupleThere f p .body)) C32 (item-C e) refl refl
+    fields-C l e ev el =
+        let part = take (p + n - 8 - (p + 28)) (drop (p + 28) f) in
+        by-content (contentC (isMsb f) (tupleThere f p .body)) C32 l (item-C e) refl refl
         (sym (ap kindOfPing (here (s .found) .kind ∙ e)))
         (ev ∙ ap (λ (b : Bool). numOf b (take 4 (drop (p + 24) f))) (s .msb) ∙ count-there s e ∙ ap length (sym (words-there s e)))
+        (el
+        ∙ ap (λ (b : Bool). toldLength (pingLength radix (allWords 4 b part))) (s .msb)
+        ∙ ap toldLength (sym (length-there s e)))
 
   -- what the field reader promises of it
   pub read-fields : (r : PingRead) → r ≡ pingFields f p → PingAt f p r

@@ -1,11 +1,12 @@
 -- What the ping writers answer, by the rule that is the first one broken, and the bytes that they leave. Assumes nothing.
-use mathlib.Core.Path.{_≡_, sym, ap, _∙_}
+use mathlib.Core.Path.{_≡_, refl, sym, ap, _∙_}
 use mathlib.Core.Bool.{Bool, true, false, not}
 use mathlib.Core.List.{List, [], _∷_, _++_, append-assoc}
+use mathlib.Core.Option.{Option, some, none as absent}
 use Prim.Native.Nat.{ℕ, _+_, _-_, _*_, _≤_, _<_, min}
 use native.Mathlib.Omega.{arith}
 use borrow.Author.Tests.{lt-ltb, le-ltb, eq-eqb, ne-eqb}
-use lib.Dec.{ltb, eqb}
+use lib.Dec.{ltb, eqb, lit<}
 use lib.IntN.{ℤ}
 use lib.ListN.{length, length-append}
 use lib.Seq.{sets}
@@ -27,10 +28,10 @@ use Rattle.frame.proofs.Framing.{length-opening}
 use Rattle.samples.specs.Words.{unwords, unpair}
 use Rattle.samples.specs.Lists.{paired}
 use Rattle.samples.specs.inner.Lists.{numbered, valued}
-use Rattle.samples.specs.Runs.{radix, fewest}
-use Rattle.samples.specs.Judging.{most, firstDrop, firstWordless}
+use Rattle.samples.specs.Runs.{radix, encodeFrom, quiet, fewest}
+use Rattle.samples.specs.Judging.{most, firstDrop, firstWordless, tooShort}
 use Rattle.samples.proofs.Words.{length-unwords, length-unpair}
-use Rattle.samples.proofs.Apart.{length-paired, drop-numbered, wordless-valued}
+use Rattle.samples.proofs.Apart.{length-paired, drop-numbered, wordless-valued, behind-numbered, count-numbered}
 use Rattle.samples.proofs.Rising.{drop-most}
 use Rattle.content.specs.Pings.{dataU, dataC}
 use Rattle.content.specs.Forms.{tupleU, tupleC}
@@ -38,9 +39,9 @@ use Rattle.pings.specs.declared.PingHeader.{PingHeader}
 use Rattle.tuples.specs.Writers.{writeAnswer, Written, tooLong}
 use Rattle.tuples.proofs.Storing.{length-three, in-three, length-four, in-four}
 use Rattle.tuples.proofs.Writing.{unwritten, all-written}
-use Rattle.pings.specs.Writers.{countRules, risingRule, rulesU, bytesU, rulesC, bytesC}
+use Rattle.pings.specs.Writers.{countRules, risingRule, empty, rulesU, bytesU, rulesC, bytesC}
 use Rattle.pings.specs.Headers.{headOf, handedPing}
-use Rattle.pings.specs.inner.Sound.{SoundList}
+use Rattle.pings.specs.inner.Sound.{SoundList, bytesBy}
 
 -- ---- the header's row has 18 bytes
 length-head : (o : Bool) (h : PingHeader) → length (encode o pingRow (headOf h)) ≡ 18
@@ -116,13 +117,13 @@ module _ (ns : List ℕ) (vs : List ℤ) (e : length ns ≡ length vs) (i : ℕ)
 -- ---- the U-32 writer
 module _ (o : Bool) (h : PingHeader) (a : ℤ) (ns : List ℕ) (vs : List ℤ) (out : List ℕ) where
   abbrev ownU : List (Rule Answer)
-  ownU = (eqb (length ns) 0 ⇒ Refused 22 0) ∷ risingRule (paired ns vs) ∷ tooLong (tupleU o (handedPing h a ns vs)) ∷ []
+  ownU = (eqb (length ns) 0 ⇒ Refused 22 0) ∷ risingRule (paired ns vs) ∷ tooLong (tupleU o (handedPing h a ns vs absent)) ∷ []
 
   abbrev bytes : List ℕ
-  bytes = bytesU o (handedPing h a ns vs)
+  bytes = bytesU o (handedPing h a ns vs absent)
 
   abbrev U : Answer → List ℕ → Type 0
-  U r left = Written (rulesU ns vs (tupleU o (handedPing h a ns vs))) (bytesU o (handedPing h a ns vs)) out r left
+  U r left = Written (rulesU ns vs (tupleU o (handedPing h a ns vs absent))) (bytesU o (handedPing h a ns vs absent)) out r left
 
   pub unequal-U : (length ns ≡ length vs → ⊥) → U (Refused 23 (min (length ns) (length vs))) out
   unequal-U = unequal ns vs ownU bytes out
@@ -136,13 +137,13 @@ module _ (o : Bool) (h : PingHeader) (a : ℤ) (ns : List ℕ) (vs : List ℤ) (
       silent z = refuse ns vs ownU bytes out e m 22 0 (here (eq-eqb (length ns) 0 z))
 
       module _ (z : length ns ≡ 0 → ⊥) (i : ℕ) (d : i ≡ firstDrop 0 (numbered ns)) where
-        some : eqb (length ns) 0 ≡ false
-        some = ne-eqb (length ns) 0 z
+        heard : eqb (length ns) 0 ≡ false
+        heard = ne-eqb (length ns) 0 z
 
         pub drops : i < length ns → U (Refused 23 i) out
         drops l =
             rw (first-there ns vs e i d)
-            (refuse ns vs ownU bytes out e m 23 (firstDrop 0 (paired ns vs)) (pass some (here (drop-there ns vs e i d l))))
+            (refuse ns vs ownU bytes out e m 23 (firstDrop 0 (paired ns vs)) (pass heard (here (drop-there ns vs e i d l))))
 
         module _ (l : length ns ≤ i) where
           -- its bytes: 24 before the pairs, 8 behind them
@@ -150,7 +151,7 @@ module _ (o : Bool) (h : PingHeader) (a : ℤ) (ns : List ℕ) (vs : List ℤ) (
           length-pairs =
               omega (arith, length-unwords 4 o (unpair (paired ns vs)), length-unpair (paired ns vs), length-paired ns vs (sym e))
 
-          length-body : length (dataU o (handedPing h a ns vs)) ≡ 22 + 8 * length ns
+          length-body : length (dataU o (handedPing h a ns vs absent)) ≡ 22 + 8 * length ns
           unfolding dataU
           length-body =
               let w : 18 + 8 * length ns + 4 ≡ 22 + 8 * length ns = omega arith in
@@ -158,29 +159,29 @@ module _ (o : Bool) (h : PingHeader) (a : ℤ) (ns : List ℕ) (vs : List ℤ) (
               (8 * length ns) 4 (length-head o h) length-pairs (length-bytesOf o 4 (patternOf 4 a))
               ∙ w
 
-          fits : ltb 262144 (lengthOf (tupleU o (handedPing h a ns vs))) ≡ false
-          fits = le-ltb 262144 (lengthOf (tupleU o (handedPing h a ns vs))) (omega (arith, length-body, m))
+          fits : ltb 262144 (lengthOf (tupleU o (handedPing h a ns vs absent))) ≡ false
+          fits = le-ltb 262144 (lengthOf (tupleU o (handedPing h a ns vs absent))) (omega (arith, length-body, m))
 
-          length-bytes : length (bytesU o (handedPing h a ns vs)) ≡ 32 + 8 * length ns
-          length-bytes = length-frame o (tupleU o (handedPing h a ns vs)) ∙ omega (arith, length-body)
+          length-bytes : length (bytesU o (handedPing h a ns vs absent)) ≡ 32 + 8 * length ns
+          length-bytes = length-frame o (tupleU o (handedPing h a ns vs absent)) ∙ omega (arith, length-body)
 
           pub no-room : length out < 32 + 8 * length ns → U (Refused 19 0) out
           no-room r =
               refuse ns vs ownU bytes out e m 19 0
-              (pass some (pass (no-drop ns vs e i d l)
+              (pass heard (pass (no-drop ns vs e i d l)
               (pass fits (here (lt-ltb (length out) (length bytes) (omega (arith, length-bytes, r)))))))
 
           -- the three runs of stores are one
           stored : sets (sets (sets out 0 (openingBytes o (32 + 8 * length ns) 10000 (encode o pingRow (headOf h)))) 24
               (unwords 4 o (unpair (paired ns vs))))
               (24 + 8 * length ns) (closeBytes o (32 + 8 * length ns) (patternOf 4 a))
-              ≡ sets out 0 (bytesU o (handedPing h a ns vs))
+              ≡ sets out 0 (bytesU o (handedPing h a ns vs absent))
           unfolding frame openBytes openingBytes closeBytes dataU
           stored =
               let enc = encode o pingRow (headOf h) in
               let us = unwords 4 o (unpair (paired ns vs)) in
-              let size : 32 + 8 * length ns - 10 ≡ length (dataU o (handedPing h a ns vs)) = omega (arith, length-body) in
-              let whole : 32 + 8 * length ns ≡ lengthOf (tupleU o (handedPing h a ns vs)) = omega (arith, length-body) in
+              let size : 32 + 8 * length ns - 10 ≡ length (dataU o (handedPing h a ns vs absent)) = omega (arith, length-body) in
+              let whole : 32 + 8 * length ns ≡ lengthOf (tupleU o (handedPing h a ns vs absent)) = omega (arith, length-body) in
               in-three (openingBytes o (32 + 8 * length ns) 10000 (encode o pingRow (headOf h))) us
               (closeBytes o (32 + 8 * length ns) (patternOf 4 a)) out 24 (8 * length ns) (length-start o (32 + 8 * length ns) 10000 h)
               length-pairs
@@ -191,14 +192,14 @@ module _ (o : Bool) (h : PingHeader) (a : ℤ) (ns : List ℕ) (vs : List ℤ) (
               ++ ((enc ++ (us ++ bytesOf o 4 (patternOf 4 a))) ++ bytesOf o 4 (32 + 8 * length ns)))))
               size
               ∙ ap (λ (n : ℕ). sets out 0
-              (bytesOf o 4 (length (dataU o (handedPing h a ns vs)))
+              (bytesOf o 4 (length (dataU o (handedPing h a ns vs absent)))
               ++ (bytesOf o 2 10000 ++ ((enc ++ (us ++ bytesOf o 4 (patternOf 4 a))) ++ bytesOf o 4 n))))
               whole
 
           done : (left : List ℕ) → 32 + 8 * length ns ≤ length out → left ≡ sets out 0 bytes → U (accepting 1 (32 + 8 * length ns)) left
           done left r =
               accept ns vs ownU bytes out e m (32 + 8 * length ns) left length-bytes r
-              (pass some (pass (no-drop ns vs e i d l)
+              (pass heard (pass (no-drop ns vs e i d l)
               (pass fits (pass (le-ltb (length out) (length bytes) (omega (arith, length-bytes, r))) none))))
 
           pub written : (n : ℕ) → n ≡ 32 + 8 * length ns → (left : List ℕ) → n ≤ length out
@@ -224,135 +225,183 @@ module _ (o : Bool) (h : PingHeader) (a : ℤ) (ns : List ℕ) (vs : List ℤ) (
 regroup-C : (s k e c u t b : List ℕ) → s ++ (k ++ ((e ++ (c ++ (u ++ t))) ++ b)) ≡ ((s ++ k) ++ e) ++ (c ++ (u ++ (t ++ b)))
 regroup-C s k e c u t b = simp append-assoc
 
+-- what a length asks of numbers alone it asks of samples that have them
+module _ (ns : List ℕ) (vs : List ℤ) (e : length ns ≡ length vs) where
+  quiet-numbered : (l : Option ℕ) → quiet (numbered ns) l ≡ quiet (paired ns vs) l
+  quiet-numbered absent = refl
+  quiet-numbered (some n) = ap (λ (k : ℕ). n - k) (behind-numbered ns vs 0 (sym e))
+
+  short-numbered : (l : Option ℕ) → tooShort (numbered ns) l ≡ tooShort (paired ns vs) l
+  short-numbered absent = refl
+  short-numbered (some n) = ap (λ (k : ℕ). ltb n (k + 1)) (behind-numbered ns vs 0 (sym e))
+
 module _ (o : Bool) (h : PingHeader) (a : ℤ) (ns : List ℕ) (vs : List ℤ) where
-  abbrev ws : List ℕ
-  ws = fewest radix (paired ns vs)
-
-  length-words : length (unwords 4 o (fewest radix (paired ns vs))) ≡ 4 * length (fewest radix (paired ns vs))
-  length-words = length-unwords 4 o (fewest radix (paired ns vs))
-
-  length-body-C : length (dataC o (handedPing h a ns vs) (fewest radix (paired ns vs))) ≡ 26 + 4 * length (fewest radix (paired ns vs))
+  length-body-C : (l : Option ℕ) (ws : List ℕ) → length (dataC o (handedPing h a ns vs l) ws) ≡ 26 + 4 * length ws
   unfolding dataC
-  length-body-C =
+  length-body-C l ws =
       let w : 18 + 4 + 4 * length ws + 4 ≡ 26 + 4 * length ws = omega arith in
       length-four (encode o pingRow (headOf h)) (bytesOf o 4 (length (paired ns vs))) (unwords 4 o ws) (bytesOf o 4 (patternOf 4 a)) 18 4
       (4 * length ws) 4
-      (length-head o h) (length-bytesOf o 4 (length (paired ns vs))) length-words (length-bytesOf o 4 (patternOf 4 a))
+      (length-head o h) (length-bytesOf o 4 (length (paired ns vs))) (length-unwords 4 o ws) (length-bytesOf o 4 (patternOf 4 a))
       ∙ w
 
-  pub length-bytes-C : length (bytesC o (handedPing h a ns vs)) ≡ 36 + 4 * length (fewest radix (paired ns vs))
-  length-bytes-C = length-frame o (tupleC o (handedPing h a ns vs)) ∙ omega (arith, length-body-C)
-
   -- its four runs of stores are one
-  pub stored-C : (n room : ℕ) (out : List ℕ) → SoundList ns vs n room
-      → sets (sets (sets (sets out 0 (openingBytes o n 10010 (encode o pingRow (headOf h)))) 24 (bytesOf o 4 (length ns))) 28
-      (unwords 4 o (fewest radix (paired ns vs))))
-      (n - 8) (closeBytes o n (patternOf 4 a))
-      ≡ sets out 0 (bytesC o (handedPing h a ns vs))
-  unfolding frame openBytes openingBytes closeBytes dataC
-  stored-C n room out g =
-      let enc = encode o pingRow (headOf h) in
-      let us = unwords 4 o ws in
-      let last : n - 8 ≡ 24 + 4 + 4 * length ws = omega (arith, g .size) in
-      let count : length ns ≡ length (paired ns vs) = sym (length-paired ns vs (g .equal)) in
-      let size : n - 10 ≡ length (dataC o (handedPing h a ns vs) ws) = omega (arith, length-body-C, g .size) in
-      let whole : n ≡ lengthOf (tupleC o (handedPing h a ns vs)) = omega (arith, length-body-C, g .size) in
-      ap (λ (i : ℕ).
-      sets (sets (sets (sets out 0 (openingBytes o n 10010 (encode o pingRow (headOf h)))) 24 (bytesOf o 4 (length ns))) 28 us)
-      i (closeBytes o n (patternOf 4 a)))
-      last
-      ∙ in-four (openingBytes o n 10010 (encode o pingRow (headOf h))) (bytesOf o 4 (length ns)) us (closeBytes o n (patternOf 4 a))
-      out 24 4 (4 * length ws)
-      (length-start o n 10010 h) (length-bytesOf o 4 (length ns)) length-words
-      ∙ ap (sets out 0) (sym (regroup-C (bytesOf o 4 (n - 10)) (bytesOf o 2 10010) enc (bytesOf o 4 (length ns)) us
-      (bytesOf o 4 (patternOf 4 a)) (bytesOf o 4 n)))
-      ∙ ap (λ (i : ℕ). sets out 0
-      (bytesOf o 4 (n - 10) ++ (bytesOf o 2 10010
-      ++ ((enc ++ (bytesOf o 4 i ++ (us ++ bytesOf o 4 (patternOf 4 a)))) ++ bytesOf o 4 n))))
-      count
-      ∙ ap (λ (i : ℕ). sets out 0
-      (bytesOf o 4 i ++ (bytesOf o 2 10010
-      ++ ((enc ++ (bytesOf o 4 (length (paired ns vs)) ++ (us ++ bytesOf o 4 (patternOf 4 a)))) ++ bytesOf o 4 n))))
-      size
-      ∙ ap (λ (i : ℕ). sets out 0
-      (bytesOf o 4 (length (dataC o (handedPing h a ns vs) ws))
-      ++ (bytesOf o 2 10010 ++ ((enc ++ (bytesOf o 4 (length (paired ns vs)) ++ (us ++ bytesOf o 4 (patternOf 4 a))))
-      ++ bytesOf o 4 i))))
-      whole
+  module _ (quiet n room : ℕ) (out : List ℕ) where
+    abbrev ws : List ℕ
+    ws = encodeFrom radix 0 (paired ns vs) quiet
 
-  module _ (out : List ℕ) where
-    abbrev ownC : List (Rule Answer)
-    ownC =
-        risingRule (paired ns vs) ∷ (ltb (firstWordless wide (paired ns vs)) (length (paired ns vs)) ⇒ Refused 21 (firstWordless wide (paired ns vs)))
-        ∷ tooLong (tupleC o (handedPing h a ns vs)) ∷ []
+    pub stored-C : SoundList ns vs quiet n room
+        → sets (sets (sets (sets out 0 (openingBytes o n 10010 (encode o pingRow (headOf h)))) 24 (bytesOf o 4 (length ns))) 28
+        (unwords 4 o (encodeFrom radix 0 (paired ns vs) quiet)))
+        (n - 8) (closeBytes o n (patternOf 4 a))
+        ≡ sets out 0 (bytesBy o h a ns vs quiet)
+    unfolding frame openBytes openingBytes closeBytes dataC
+    stored-C g =
+        let enc = encode o pingRow (headOf h) in
+        let us = unwords 4 o ws in
+        let body = length-body-C absent ws in
+        let last : n - 8 ≡ 24 + 4 + 4 * length ws = omega (arith, g .size) in
+        let count : length ns ≡ length (paired ns vs) = sym (length-paired ns vs (g .equal)) in
+        let size : n - 10 ≡ length (dataC o (handedPing h a ns vs absent) ws) = omega (arith, body, g .size) in
+        let whole : n ≡ length (dataC o (handedPing h a ns vs absent) ws) + 10 = omega (arith, body, g .size) in
+        ap (λ (i : ℕ).
+        sets (sets (sets (sets out 0 (openingBytes o n 10010 (encode o pingRow (headOf h)))) 24 (bytesOf o 4 (length ns))) 28 us)
+        i (closeBytes o n (patternOf 4 a)))
+        last
+        ∙ in-four (openingBytes o n 10010 (encode o pingRow (headOf h))) (bytesOf o 4 (length ns)) us (closeBytes o n (patternOf 4 a))
+        out 24 4 (4 * length ws)
+        (length-start o n 10010 h) (length-bytesOf o 4 (length ns)) (length-unwords 4 o ws)
+        ∙ ap (sets out 0) (sym (regroup-C (bytesOf o 4 (n - 10)) (bytesOf o 2 10010) enc (bytesOf o 4 (length ns)) us
+        (bytesOf o 4 (patternOf 4 a)) (bytesOf o 4 n)))
+        ∙ ap (λ (i : ℕ). sets out 0
+        (bytesOf o 4 (n - 10) ++ (bytesOf o 2 10010
+        ++ ((enc ++ (bytesOf o 4 i ++ (us ++ bytesOf o 4 (patternOf 4 a)))) ++ bytesOf o 4 n))))
+        count
+        ∙ ap (λ (i : ℕ). sets out 0
+        (bytesOf o 4 i ++ (bytesOf o 2 10010
+        ++ ((enc ++ (bytesOf o 4 (length (paired ns vs)) ++ (us ++ bytesOf o 4 (patternOf 4 a)))) ++ bytesOf o 4 n))))
+        size
+        ∙ ap (λ (i : ℕ). sets out 0
+        (bytesOf o 4 (length (dataC o (handedPing h a ns vs absent) ws))
+        ++ (bytesOf o 2 10010 ++ ((enc ++ (bytesOf o 4 (length (paired ns vs)) ++ (us ++ bytesOf o 4 (patternOf 4 a))))
+        ++ bytesOf o 4 i))))
+        whole
 
-    abbrev bytes-of : List ℕ
-    bytes-of = bytesC o (handedPing h a ns vs)
+  module _ (l : Option ℕ) where
+    -- the data are those of the words alone: the length is in them
+    by-words : bytesBy o h a ns vs (quiet (paired ns vs) l) ≡ bytesC o (handedPing h a ns vs l)
+    unfolding dataC fewest
+    by-words = refl
 
-    abbrev C : Answer → List ℕ → Type 0
-    C r left = Written (rulesC ns vs (tupleC o (handedPing h a ns vs))) (bytesC o (handedPing h a ns vs)) out r left
+    pub length-bytes-C : length (bytesC o (handedPing h a ns vs l)) ≡ 36 + 4 * length (fewest radix (paired ns vs) l)
+    length-bytes-C = length-frame o (tupleC o (handedPing h a ns vs l)) ∙ omega (arith, length-body-C l (fewest radix (paired ns vs) l))
 
-    pub unequal-C : (length ns ≡ length vs → ⊥) → C (Refused 23 (min (length ns) (length vs))) out
-    unequal-C = unequal ns vs ownC bytes-of out
+    module _ (out : List ℕ) where
+      abbrev ownC : List (Rule Answer)
+      ownC =
+          (empty ns l ⇒ Refused 22 0)
+          ∷ risingRule (paired ns vs)
+          ∷ (ltb (firstWordless wide (paired ns vs)) (length (paired ns vs)) ⇒ Refused 21 (firstWordless wide (paired ns vs)))
+          ∷ (tooShort (paired ns vs) l ⇒ Refused 26 0)
+          ∷ tooLong (tupleC o (handedPing h a ns vs l)) ∷ []
 
-    module _ (e : length ns ≡ length vs) where
-      pub overfull-C : 32764 < length ns → C (Refused 11 0) out
-      overfull-C = overfull ns vs ownC bytes-of out e
+      abbrev bytes-of : List ℕ
+      bytes-of = bytesC o (handedPing h a ns vs l)
 
-      module _ (m : length ns ≤ 32764) (i : ℕ) (d : i ≡ firstDrop 0 (numbered ns)) where
-        pub drops-C : i < length ns → C (Refused 23 i) out
-        drops-C l =
-            rw (first-there ns vs e i d)
-            (refuse ns vs ownC bytes-of out e m 23 (firstDrop 0 (paired ns vs)) (here (drop-there ns vs e i d l)))
+      abbrev C : Answer → List ℕ → Type 0
+      C r left = Written (rulesC ns vs l (tupleC o (handedPing h a ns vs l))) (bytesC o (handedPing h a ns vs l)) out r left
 
-        module _ (l : length ns ≤ i) (j : ℕ) (v : j ≡ firstWordless wide (valued vs)) where
-          first-wordless : j ≡ firstWordless wide (paired ns vs)
-          first-wordless = v ∙ wordless-valued wide ns vs (sym e)
+      pub unequal-C : (length ns ≡ length vs → ⊥) → C (Refused 23 (min (length ns) (length vs))) out
+      unequal-C = unequal ns vs ownC bytes-of out
 
-          rises : ltb (firstDrop 0 (paired ns vs)) (length (paired ns vs)) ≡ false
-          rises = no-drop ns vs e i d l
+      module _ (e : length ns ≡ length vs) where
+        pub overfull-C : 32764 < length ns → C (Refused 11 0) out
+        overfull-C = overfull ns vs ownC bytes-of out e
 
-          pub wordless-C : j < length ns → C (Refused 21 j) out
-          wordless-C q =
-              rw first-wordless
-              (refuse ns vs ownC bytes-of out e m 21 (firstWordless wide (paired ns vs))
-              (pass rises (here (lt-ltb (firstWordless wide (paired ns vs)) (length (paired ns vs))
-              (omega (arith, length-paired ns vs (sym e), first-wordless))))))
+        module _ (m : length ns ≤ 32764) where
+          pub empty-C : empty ns l ≡ true → C (Refused 22 0) out
+          empty-C z = refuse ns vs ownC bytes-of out e m 22 0 (here z)
 
-          module _ (q : length ns ≤ j) (n : ℕ) (z : n ≡ 36 + 4 * length (fewest radix (paired ns vs))) where
-            worded : ltb (firstWordless wide (paired ns vs)) (length (paired ns vs)) ≡ false
-            worded =
-                le-ltb (firstWordless wide (paired ns vs)) (length (paired ns vs)) (omega (arith, length-paired ns vs (sym e), first-wordless))
+          module _ (z : empty ns l ≡ false) (i : ℕ) (d : i ≡ firstDrop 0 (numbered ns)) where
+            pub drops-C : i < length ns → C (Refused 23 i) out
+            drops-C r =
+                rw (first-there ns vs e i d)
+                (refuse ns vs ownC bytes-of out e m 23 (firstDrop 0 (paired ns vs)) (pass z (here (drop-there ns vs e i d r))))
 
-            pub long-C : 262144 < n → C (Refused 11 0) out
-            long-C b =
-                refuse ns vs ownC bytes-of out e m 11 0
-                (pass rises (pass worded
-                (here (lt-ltb 262144 (lengthOf (tupleC o (handedPing h a ns vs))) (omega (arith, length-body-C, z))))))
+            module _ (r : length ns ≤ i) (j : ℕ) (v : j ≡ firstWordless wide (valued vs)) where
+              first-wordless : j ≡ firstWordless wide (paired ns vs)
+              first-wordless = v ∙ wordless-valued wide ns vs (sym e)
 
-            module _ (b : n ≤ 262144) where
-              fits-C : ltb 262144 (lengthOf (tupleC o (handedPing h a ns vs))) ≡ false
-              fits-C = le-ltb 262144 (lengthOf (tupleC o (handedPing h a ns vs))) (omega (arith, length-body-C, z))
+              rises : ltb (firstDrop 0 (paired ns vs)) (length (paired ns vs)) ≡ false
+              rises = no-drop ns vs e i d r
 
-              pub no-room-C : length out < n → C (Refused 19 0) out
-              no-room-C r =
-                  refuse ns vs ownC bytes-of out e m 19 0
-                  (pass rises (pass worded (pass fits-C (here (lt-ltb (length out) (length bytes-of) (omega (arith, length-bytes-C, z)))))))
+              pub wordless-C : j < length ns → C (Refused 21 j) out
+              wordless-C q =
+                  rw first-wordless
+                  (refuse ns vs ownC bytes-of out e m 21 (firstWordless wide (paired ns vs))
+                  (pass z (pass rises (here (lt-ltb (firstWordless wide (paired ns vs)) (length (paired ns vs))
+                  (omega (arith, length-paired ns vs (sym e), first-wordless)))))))
 
-              module _ (r : n ≤ length out) where
-                pub sound-C : SoundList ns vs n (length out)
-                sound-C =
-                    record {
-                      equal = sym e;
-                      rising = omega (arith, first-there ns vs e i d, drop-most (paired ns vs) 0, length-paired ns vs (sym e));
-                      few = m;
-                      size = z;
-                      short = b;
-                      fits = r;
-                    }
+              module _ (q : length ns ≤ j) where
+                worded : ltb (firstWordless wide (paired ns vs)) (length (paired ns vs)) ≡ false
+                worded =
+                    le-ltb (firstWordless wide (paired ns vs)) (length (paired ns vs))
+                    (omega (arith, length-paired ns vs (sym e), first-wordless))
 
-                pub written-C : (left : List ℕ) → left ≡ sets out 0 (bytesC o (handedPing h a ns vs)) → C (accepting 1 n) left
-                written-C left =
-                    accept ns vs ownC bytes-of out e m n left (length-bytes-C ∙ sym z) r
-                    (pass rises (pass worded
-                    (pass fits-C (pass (le-ltb (length out) (length bytes-of) (omega (arith, length-bytes-C, z))) none))))
+                pub short-C : tooShort (numbered ns) l ≡ true → C (Refused 26 0) out
+                short-C t =
+                    refuse ns vs ownC bytes-of out e m 26 0 (pass z (pass rises (pass worded (here (sym (short-numbered ns vs e l) ∙ t)))))
+
+                -- t quiet samples behind the last; n bytes, by the words counted
+                module _ (u : tooShort (numbered ns) l ≡ false) (t : ℕ) (y : t ≡ quiet (numbered ns) l)
+                    (n : ℕ) (x : n ≡ 36 + 4 * length (encodeFrom radix 0 (numbered ns) t)) where
+                  long : tooShort (paired ns vs) l ≡ false
+                  long = sym (short-numbered ns vs e l) ∙ u
+
+                  behind-last : t ≡ quiet (paired ns vs) l
+                  behind-last = y ∙ quiet-numbered ns vs e l
+
+                  counted : n ≡ 36 + 4 * length (encodeFrom radix 0 (paired ns vs) t)
+                  counted = omega (arith, x, count-numbered radix (lit< tt) ns vs 0 t (sym e))
+
+                  size : n ≡ 36 + 4 * length (fewest radix (paired ns vs) l)
+                  unfolding fewest
+                  size = counted ∙ ap (λ (k : ℕ). 36 + 4 * length (encodeFrom radix 0 (paired ns vs) k)) behind-last
+
+                  length-tuple : lengthOf (tupleC o (handedPing h a ns vs l)) ≡ n
+                  length-tuple = omega (arith, length-body-C l (fewest radix (paired ns vs) l), size)
+
+                  pub long-C : 262144 < n → C (Refused 11 0) out
+                  long-C b =
+                      refuse ns vs ownC bytes-of out e m 11 0
+                      (pass z (pass rises (pass worded (pass long
+                      (here (lt-ltb 262144 (lengthOf (tupleC o (handedPing h a ns vs l))) (omega (arith, length-tuple))))))))
+
+                  module _ (b : n ≤ 262144) where
+                    fits-C : ltb 262144 (lengthOf (tupleC o (handedPing h a ns vs l))) ≡ false
+                    fits-C = le-ltb 262144 (lengthOf (tupleC o (handedPing h a ns vs l))) (omega (arith, length-tuple))
+
+                    pub no-room-C : length out < n → C (Refused 19 0) out
+                    no-room-C w =
+                        refuse ns vs ownC bytes-of out e m 19 0
+                        (pass z (pass rises (pass worded (pass long (pass fits-C
+                        (here (lt-ltb (length out) (length bytes-of) (omega (arith, length-bytes-C, size)))))))))
+
+                    module _ (w : n ≤ length out) where
+                      pub sound-C : SoundList ns vs t n (length out)
+                      sound-C =
+                          record {
+                            equal = sym e;
+                            rising = omega (arith, first-there ns vs e i d, drop-most (paired ns vs) 0, length-paired ns vs (sym e));
+                            few = m;
+                            size = counted;
+                            short = b;
+                            fits = w;
+                          }
+
+                      pub written-C : (left : List ℕ) → left ≡ sets out 0 (bytesBy o h a ns vs t) → C (accepting 1 n) left
+                      written-C left s =
+                          accept ns vs ownC bytes-of out e m n left (length-bytes-C ∙ sym size) w
+                          (pass z (pass rises (pass worded (pass long (pass fits-C
+                          (pass (le-ltb (length out) (length bytes-of) (omega (arith, length-bytes-C, size))) none))))))
+                          (s ∙ ap (λ (k : ℕ). sets out 0 (bytesBy o h a ns vs k)) behind-last ∙ ap (sets out 0) by-words)

@@ -1,17 +1,19 @@
 -- The sample reader's answer, by the reader's; and the samples of a sound ping by their places in the file. Assumes nothing.
-use mathlib.Core.Path.{_≡_, refl, sym, ap, _∙_}
-use mathlib.Core.Bool.{Bool, true}
+use mathlib.Core.Path.{_≡_, refl, sym, ap, subst, _∙_}
+use mathlib.Core.Bool.{Bool}
 use mathlib.Core.Logic.{_⊎_, inl, inr}
 use mathlib.Core.List.{List}
-use mathlib.Core.Option.{some}
-use Prim.Native.Nat.{ℕ, _+_, _-_, _≤_}
+use mathlib.Core.Option.{Option, some}
+use Prim.Native.Nat.{ℕ, _+_, _-_, _%_, _≤_}
 use native.Mathlib.Omega.{arith}
 use borrow.Author.Tests.{eqb-true, ltb-false, not-false}
-use lib.Dec.{eqb, lit<}
+use lib.Dec.{leb, eqb, lit<}
 use lib.IntN.{ℤ}
 use lib.ListN.{length, take, drop, length-drop}
 use lib.Seq.{length-take-le}
 use Rattle.rules.specs.Rules.{AllPass}
+use Rattle.rules.proofs.Bools.{both-true}
+use Rattle.layout.specs.Types.{listings, among, listingOf}
 use Rattle.layout.proofs.Families.{ping-kind}
 use Rattle.layout.specs.declared.Answer.{Answer}
 use Rattle.layout.specs.declared.Answer.the-variants.{Refused}
@@ -20,18 +22,19 @@ use Rattle.layout.specs.Answers.{both, tells, accepting}
 use Rattle.layout.proofs.Verdicts.{both-left, both-right, passes}
 use Rattle.frame.specs.Files.{isMsb}
 use Rattle.samples.specs.Words.{allWords, pairUp}
-use Rattle.samples.specs.Runs.{radix, decode}
+use Rattle.samples.specs.Runs.{radix, decode, pingLength}
 use Rattle.samples.specs.Judging.{wordRules, judgedWords}
 use Rattle.samples.proofs.Values.{length-decode}
 use Rattle.content.specs.Pings.{Ping}
-use Rattle.content.specs.Items.{ping, itemOf}
+use Rattle.content.specs.Items.{Item, ping, itemOf}
 use Rattle.content.proofs.Places.{fieldAt, samples-U, samples-C}
 use Rattle.intake.specs.inner.Tallies.{Here, Fits, innerVerdict, headVerdict}
 use Rattle.intake.proofs.Judges.{head-fits, own-parts, long-U, long-C, inner-words}
 use Rattle.layout.specs.Families.{isPing}
-use Rattle.tuples.specs.Readers.{tupleThere, readAnswer}
+use Rattle.tuples.specs.Readers.{tupleThere, readAnswer, readItem}
 use Rattle.tuples.proofs.Reading.{stands, here, most}
 use Rattle.pings.specs.Readers.{samplesBy, samplesAt, sampleAnswer, SamplesRead}
+use Rattle.pings.specs.Fields.{pingBy}
 use Rattle.pings.specs.inner.Handing.{Handed, SoundPing}
 use Rattle.pings.proofs.Handing.{length-pairs}
 
@@ -75,6 +78,17 @@ module _ {f : List ℕ} {p n k : ℕ} {o : Bool} (s : SoundPing f p o n k) where
       let z : n - 36 ≡ p + n - 8 - (p + 28) = omega (arith, long) in
       taken (q .0) (q .1) ∙ q .2 ∙ ap (λ (i : ℕ). decode radix (allWords 4 (isMsb f) (take i (drop (p + 28) f)))) z
 
+  -- its words say its length too
+  pub length-there : k ≡ 10010
+      → pingBy (readItem f p) .length ≡ pingLength radix (allWords 4 (isMsb f) (take (p + n - 8 - (p + 28)) (drop (p + 28) f)))
+  length-there e =
+      let long = long-C h fits e in
+      let q = samples-C (isMsb f) f p n (stands (s .found) .whole) (h .kind ∙ e) long in
+      let z : n - 36 ≡ p + n - 8 - (p + 28) = omega (arith, long) in
+      ap (λ (x : Option Item). pingBy x .length) (q .1)
+      ∙ q .3
+      ∙ ap (λ (i : ℕ). pingLength radix (allWords 4 (isMsb f) (take i (drop (p + 28) f)))) z
+
   -- its words keep the rules
   kept : k ≡ 10010 → AllPass (wordRules (fieldAt (isMsb f) f p 4 24) (allWords 4 (isMsb f) (take (p + n - 8 - (p + 28)) (drop (p + 28) f))))
   unfolding judgedWords
@@ -103,6 +117,16 @@ module _ {f : List ℕ} {p n k : ℕ} {o : Bool} (s : SoundPing f p o n k) where
   words-few =
       let r = whole-there in
       omega (arith, length-take-le (p + n - 8 - (p + 28)) (drop (p + 28) f) (simp length-drop (omega arith)))
+
+  -- a C-32 ping has a word at least, and no part of one
+  pub words-whole : k ≡ 10010
+      → (4 ≤ length (take (p + n - 8 - (p + 28)) (drop (p + 28) f))) × (length (take (p + n - 8 - (p + 28)) (drop (p + 28) f)) % 4 ≡ 0)
+  unfolding listingOf among listings
+  words-whole e =
+      let r = whole-there in
+      let step : (n - 40) % 4 ≡ 0 = eqb-true ((n - 40) % 4) 0 (both-true (leb 40 n) _ (subst (Fits n) e fits) .1) in
+      let long = length-take-le (p + n - 8 - (p + 28)) (drop (p + 28) f) (simp length-drop (omega arith)) in
+      (omega (arith, long), omega (arith, long))
 
   -- a listed ping of the one kind or the other
   pub other-kind : (k ≡ 10000 → ⊥) → k ≡ 10010

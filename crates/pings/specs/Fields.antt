@@ -16,7 +16,9 @@ use Rattle.content.specs.Pings.{Ping}
 use Rattle.content.specs.Items.{Item, plain, ping, raw, numberAt}
 use Rattle.layout.specs.Families.{wide, isPing}
 use Rattle.tuples.specs.Readers.{tupleThere, readAnswer, readItem}
-use Rattle.pings.specs.Headers.{headOf}
+use Rattle.pings.specs.Headers.{headOf, toldLength}
+use Rattle.pings.specs.declared.PingLength.{PingLength}
+use Rattle.pings.specs.declared.PingLength.the-variants.{Absent, Samples}
 use Rattle.pings.specs.declared.PingHeader.{PingHeader}
 use Rattle.pings.specs.declared.PingKind.{PingKind}
 use Rattle.pings.specs.declared.PingKind.the-variants.{U32, C32}
@@ -37,36 +39,40 @@ headerOf vs =
 
 -- the ping there
 abbrev pub pingBy : Option Item → Ping
-pingBy none = record { head = []; samples = []; attr = 0 }
-pingBy (some (plain k vs)) = record { head = []; samples = []; attr = 0 }
+pingBy none = record { head = []; samples = []; length = none; attr = 0 }
+pingBy (some (plain k vs)) = record { head = []; samples = []; length = none; attr = 0 }
 pingBy (some (ping q)) = q
-pingBy (some (raw k d)) = record { head = []; samples = []; attr = 0 }
+pingBy (some (raw k d)) = record { head = []; samples = []; length = none; attr = 0 }
 
 abbrev pub kindOfPing : ℕ → PingKind
 kindOfPing k = cond (eqb k (wide .plain)) U32 C32
 
--- its fields: header, attribute, kind and number of values
+-- its fields: header, attribute, kind, number of values and length
 abbrev pub fieldsBy : Ping → ℕ → PingRead
-fieldsBy q k = Read (headerOf (q .head)) (signedOf 4 (q .attr)) (kindOfPing k) (length (q .samples))
+fieldsBy q k = Read (headerOf (q .head)) (signedOf 4 (q .attr)) (kindOfPing k) (length (q .samples)) (toldLength (q .length))
 
 unfoldable pub pingFields : List ℕ → ℕ → PingRead
 pingFields f p = fieldsBy (pingBy (readItem f p)) (tupleThere f p .kind)
 
 -- ---- 01's answer in each case, and the promise, which settles the outcome
 abbrev pub answerOf : PingRead → Answer
-answerOf (Read h a k n) = accepting 1 0
+answerOf (Read h a k n l) = accepting 1 0
 answerOf (Refused c p) = answer.Refused c p
 
 abbrev pub pingNumbers : PingRead → Numbers
 pingNumbers r = numbers (answerOf r)
 
--- what it hands over, as numbers: the header's fields, the attribute, the kind, the number of values
+-- what it hands over, as numbers: the header's fields, the attribute, the kind, the number of values; whether it has a length, and which
 abbrev pub kindNumber : PingKind → ℕ
 kindNumber U32 = 0
 kindNumber C32 = 1
 
+abbrev pub lengthNumbers : PingLength → List ℕ
+lengthNumbers Absent = 0 ∷ 0 ∷ []
+lengthNumbers (Samples n) = 1 ∷ n ∷ []
+
 abbrev pub readFields : PingRead → List ℕ
-readFields (Read h a k n) = numbersIn (headOf h) ++ (patternOf 4 a ∷ kindNumber k ∷ []) ++ (n ∷ [])
+readFields (Read h a k n l) = numbersIn (headOf h) ++ (patternOf 4 a ∷ kindNumber k ∷ []) ++ (n ∷ lengthNumbers l)
 readFields (Refused c p) = []
 
 abbrev pub answered : Answer → PingRead → PingRead

@@ -9,11 +9,14 @@ use layout::codes;
 use layout::types;
 use tuples::Opened;
 ghost use mathlib.Core.Path.{_≡_};
-ghost use Prim.Native.Nat.{_+_, _-_, _^_, _≤_, _<_, min};
+ghost use mathlib.Core.Bool.{false};
+ghost use Prim.Native.Nat.{_+_, _-_, _%_, _^_, _≤_, _<_, min};
 ghost use lib.ListN.{length, drop};
 ghost use lib.Seq.{sets};
 ghost use Rattle.samples.specs.Words.{allWords, pairUp};
-ghost use Rattle.samples.specs.Runs.{radix, decode};
+ghost use Rattle.samples.specs.Runs.{radix, decode, pingLength, quiet};
+ghost use Rattle.samples.specs.Judging.{tooShort};
+ghost use Rattle.samples.specs.inner.Lists.{numbered};
 ghost use Rattle.pings.specs.Readers.{samplesAt, SamplesRead};
 ghost use Rattle.pings.specs.inner.Handing.{Handed, SoundPing};
 ghost use Rattle.layout.specs.Types.{pingRow};
@@ -21,9 +24,9 @@ ghost use Rattle.rows.specs.Places.{placesFrom};
 ghost use Rattle.turning.specs.Rows.{valuesOf, encode};
 ghost use Rattle.frame.specs.inner.Framing.{openingBytes};
 ghost use Rattle.pings.specs.Fields.{headerOf, pingFields, PingAt};
-ghost use Rattle.pings.specs.Writers.{bytesC};
-ghost use Rattle.pings.specs.Headers.{headOf, handedPing, WrittenU, WrittenC};
-ghost use Rattle.pings.specs.inner.Sound.{SoundList};
+ghost use Rattle.pings.specs.Writers.{empty};
+ghost use Rattle.pings.specs.Headers.{headOf, handedLength, toldLength, WrittenU, WrittenC};
+ghost use Rattle.pings.specs.inner.Sound.{SoundList, bytesBy};
 
 // The bytes of a pair and of a word.
 const PAIR: usize = 8;
@@ -75,13 +78,20 @@ pub enum PingKind {
     C32,
 }
 
-// What reading a ping's fields gives: its header, attribute, kind and number of values; or a refusal.
+// A ping's length, where it ends in a run: how many samples it has, runs counted. Any other ping has none.
+pub enum PingLength {
+    Absent,
+    Samples(u32),
+}
+
+// What reading a ping's fields gives: its header, attribute, kind, number of values and length; or a refusal.
 pub enum PingRead {
     Read {
         header: PingHeader,
         attribute: i32,
         kind: PingKind,
         values: usize,
+        length: PingLength,
     },
     Refused {
         code: u8,
@@ -190,6 +200,19 @@ fn header_at(file: &[u8], place: usize, msb: bool) -> PingHeader
     }
 }
 
+// The length of a C-32 ping by its words.
+fn length_of(part: &[u8], msb: bool) -> PingLength
+    requires { ⌜ 4 ≤ length (now part) ⌝ }
+    requires { ⌜ length (now part) % 4 ≡ 0 ⌝ }
+    requires { ⌜ length (now part) ≤ 262108 ⌝ }
+    ensures { λ r. ⌜ r ≡ toldLength (pingLength radix (allWords 4 msb (now (part .entry)))) ⌝ }
+{
+    if samples::ends_in_run(part, msb) {
+        return PingLength::Samples(samples::count_samples(part, msb));
+    }
+    PingLength::Absent
+}
+
 // The fields of a ping that keeps its own rules. A C-32 ping's number of samples is then the number of its values.
 fn fields_at(file: &[u8], place: usize, msb: bool, whole: usize, code: u16) -> PingRead
     requires { ⌜ SoundPing (now file) place msb whole code ⌝ }
@@ -203,13 +226,16 @@ fn fields_at(file: &[u8], place: usize, msb: bool, whole: usize, code: u16) -> P
             attribute,
             kind: PingKind::U32,
             values: (whole - samples::PAIRS - frame::TAIL) / PAIR,
+            length: PingLength::Absent,
         };
     }
+    let words = &file[place + samples::WORDS..place + whole - frame::TAIL];
     PingRead::Read {
         header,
         attribute,
         kind: PingKind::C32,
         values: order::read4(file, place + samples::COUNT, msb) as usize,
+        length: length_of(words, msb),
     }
 }
 
@@ -303,37 +329,73 @@ pub fn write_u32(
     layout::accept(1, whole)
 }
 
-// Writes a C-32 ping, which is known to be sound and to have room.
+// Whether there is neither a sample nor a length.
+fn is_empty(numbers: &[u32], length: PingLength) -> bool
+    ensures { λ r. ⌜ r ≡ empty (now (numbers .entry)) (handedLength length) ⌝ }
+{
+    match length {
+        PingLength::Absent => numbers.len() == 0,
+        PingLength::Samples(_) => false,
+    }
+}
+
+// Whether a length ends before a quiet sample behind the last: the sum may pass 32 bits.
+fn is_short(numbers: &[u32], length: PingLength) -> bool
+    ensures { λ r. ⌜ r ≡ tooShort (numbered (now (numbers .entry))) (handedLength length) ⌝ }
+{
+    match length {
+        PingLength::Absent => false,
+        PingLength::Samples(all) => (all as usize) < samples::write::behind(numbers) + 1,
+    }
+}
+
+// The quiet samples behind the last that a length says.
+fn quiet_behind(numbers: &[u32], length: PingLength) -> usize
+    requires { ⌜ tooShort (numbered (now numbers)) (handedLength length) ≡ false ⌝ }
+    ensures { λ r. ⌜ r ≡ quiet (numbered (now (numbers .entry))) (handedLength length) ⌝ }
+    ensures { λ r. ⌜ r ≤ 2 ^ 32 ⌝ }
+{
+    match length {
+        PingLength::Absent => 0,
+        PingLength::Samples(all) => all as usize - samples::write::behind(numbers),
+    }
+}
+
+// Writes a C-32 ping, which is known to be sound and to have room, with so many quiet samples behind the last.
 fn put_c32(
     header: PingHeader,
     attribute: i32,
     numbers: &[u32],
     values: &[i32],
+    quiet: usize,
     msb: bool,
     whole: usize,
     out: &mut [u8],
 )
-    requires { ⌜ SoundList (now numbers) (now values) whole (length (now out)) ⌝ }
+    requires { ⌜ SoundList (now numbers) (now values) quiet whole (length (now out)) ⌝ }
     ensures { λ _.
         ⌜ now (out .exit) ≡ sets (now (out .entry)) 0
-        (bytesC msb (handedPing header attribute (now (numbers .entry)) (now (values .entry)))) ⌝ }
+        (bytesBy msb header attribute (now (numbers .entry)) (now (values .entry)) quiet) ⌝ }
 {
     write_opening(out, msb, whole, types::PING_C, header);
     order::store4(out, samples::COUNT, msb, numbers.len() as u32);
-    samples::write::write_words(numbers, values, msb, out, samples::WORDS);
+    samples::write::write_words(numbers, values, quiet, msb, out, samples::WORDS);
     tuples::put_tail(out, msb, whole, attribute);
 }
 
-// Writes a C-32 ping, its samples in the fewest words.
+// Writes a C-32 ping, its samples and its length in the fewest words.
 pub fn write_c32(
     header: PingHeader,
     attribute: i32,
     numbers: &[u32],
     values: &[i32],
+    length: PingLength,
     msb: bool,
     out: &mut [u8],
 ) -> Answer
-    ensures { λ r. ⌜ WrittenC msb header attribute (now (numbers .entry)) (now (values .entry)) (now (out .entry)) r (now (out .exit)) ⌝ }
+    ensures { λ r.
+        ⌜ WrittenC msb header attribute (now (numbers .entry)) (now (values .entry)) (handedLength length) (now (out .entry)) r
+        (now (out .exit)) ⌝ }
 {
     let n = numbers.len();
     if n != values.len() {
@@ -341,6 +403,9 @@ pub fn write_c32(
     }
     if samples::MOST < n {
         return layout::refuse(codes::OVERFULL, 0);
+    }
+    if is_empty(numbers, length) {
+        return layout::refuse(codes::NO_SAMPLES, 0);
     }
     let first = samples::write::first_drop(numbers);
     if first < n {
@@ -350,13 +415,17 @@ pub fn write_c32(
     if wordless < n {
         return layout::refuse(codes::NO_WORD, wordless);
     }
-    let whole = samples::WORDS + WORD * samples::write::count_words(numbers) + frame::TAIL;
+    if is_short(numbers, length) {
+        return layout::refuse(codes::SHORT_LENGTH, 0);
+    }
+    let quiet = quiet_behind(numbers, length);
+    let whole = samples::WORDS + WORD * samples::write::count_words(numbers, quiet) + frame::TAIL;
     if frame::MOST < whole {
         return layout::refuse(codes::OVERFULL, 0);
     }
     if out.len() < whole {
         return layout::refuse(codes::NO_ROOM, 0);
     }
-    put_c32(header, attribute, numbers, values, msb, whole, out);
+    put_c32(header, attribute, numbers, values, quiet, msb, whole, out);
     layout::accept(1, whole)
 }

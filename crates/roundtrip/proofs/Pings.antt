@@ -1,44 +1,42 @@
 -- Pings: what the U-32 and the C-32 writer write is sound in either byte order and is read back; and where both can be written, both
 -- say the same. Assumes nothing.
 use mathlib.Core.Path.{_≡_, refl, sym, ap, ap₂, _∙_}
-use Prim.Native.Nat.{ℕ, _+_, _-_, _%_, _^_, _≤_, _<_}
-use mathlib.Core.Bool.{Bool, true, false, not, _||_}
+use Prim.Native.Nat.{ℕ, _≤_, _<_}
+use mathlib.Core.Bool.{Bool, true, false, not, true≢false}
 use mathlib.Core.List.{List, [], _∷_, _++_}
-use mathlib.Core.Option.{some}
+use mathlib.Core.Option.{Option, some, none}
 use native.Mathlib.Omega.{arith}
-use borrow.Author.Tests.{ltb-false, le-ltb, le-leb, eq-eqb, eqb-true, eqb-false, not-false}
+use borrow.Author.Tests.{ltb-false, le-ltb, eq-eqb, eqb-true, eqb-false, not-false}
 use lib.Dec.{ltb, eqb, lit<}
 use lib.IntN.{ℤ}
 use lib.ListN.{length, take, drop}
+use Rattle.layout.specs.Families.{Family, wide, isPing}
 use Rattle.layout.specs.declared.Counts.{Counts}
 use Rattle.layout.specs.declared.Answer.{Answer}
 use Rattle.layout.specs.declared.Answer.the-variants.{Accepted}
-use Rattle.layout.specs.Answers.{judged, leftBy, accepting}
-use Rattle.layout.specs.Types.{pairs, words, listings, among, listingOf}
-use Rattle.layout.proofs.Verdicts.{passed}
+use Rattle.layout.specs.Answers.{leftBy, accepting}
 use Rattle.frame.specs.Frames.{Tup, lengthOf, frame}
-use Rattle.frame.proofs.Frames.{allowed-of, length-frame}
+use Rattle.frame.proofs.Frames.{length-frame}
 use Rattle.turning.specs.Rows.{fit-end, fit-num}
-use Rattle.samples.specs.Words.{Sample, Below}
+use Rattle.samples.specs.Words.{Sample}
 use Rattle.samples.specs.Lists.{paired, numbersOf, valuesOf}
-use Rattle.samples.specs.Runs.{radix, fewest}
-use Rattle.samples.specs.Judging.{most, firstDrop, wordless, firstWordless, pairRules, wordRules}
-use Rattle.samples.proofs.Runs.{by-bool, encode-length}
+use Rattle.samples.specs.Runs.{radix}
+use Rattle.samples.specs.Judging.{most, firstDrop, wordless, firstWordless}
+use Rattle.samples.proofs.Runs.{by-bool, long-enough}
 use Rattle.samples.proofs.Rising.{all-rising, drop-most}
 use Rattle.samples.proofs.Apart.{Ints, paired-within, length-paired, wordless-here, wordless-later}
-use Rattle.samples.proofs.Written.{below-fewest, words-back, words-pass}
-use Rattle.content.specs.Pings.{Ping, contentU, dataU, dataC}
+use Rattle.samples.proofs.Written.{all-worded, words-some}
+use Rattle.content.specs.Pings.{Ping}
 use Rattle.content.specs.Items.{ping, itemOf}
 use Rattle.content.specs.Forms.{tupleU, tupleC}
-use Rattle.content.proofs.Fine.{Sound, head-fine, inner-fine}
-use Rattle.content.proofs.Pings.{Good, content-U, content-C, words-C, count-C, length-U, length-C, bytes-U, bytes-C}
-use Rattle.layout.specs.Families.{Family, wide, isPing}
+use Rattle.content.proofs.Fine.{Sound}
+use Rattle.content.proofs.Pings.{Good, Packs, sound-U, item-U, sound-C, item-C}
 use Rattle.tuples.specs.Readers.{readAnswer, readItem}
 use Rattle.pings.specs.declared.PingHeader.{PingHeader}
 use Rattle.pings.specs.declared.PingKind.the-variants.{U32, C32}
 use Rattle.pings.specs.declared.PingRead.the-variants.{Read}
-use Rattle.pings.specs.Headers.{headOf, handedPing, WrittenU, WrittenC}
-use Rattle.pings.specs.Writers.{bytesU, bytesC}
+use Rattle.pings.specs.Headers.{headOf, toldLength, handedPing, WrittenU, WrittenC}
+use Rattle.pings.specs.Writers.{empty, bytesU, bytesC}
 use Rattle.pings.specs.Readers.{samplesBy, samplesAt, handAnswer, behindRead, sampleAnswer, SamplesRead}
 use Rattle.pings.specs.Fields.{headerOf, pingBy, kindOfPing, fieldsBy, pingFields, answered}
 use Rattle.pings.proofs.Pinging.{length-bytes-C}
@@ -65,11 +63,6 @@ values-paired (n ∷ ns) [] e f = absurd (omega arith)
 values-paired (n ∷ ns) (v ∷ vs) e f =
     ap₂ (λ (x : ℤ) (l : List ℤ). x ∷ l) (signed-pattern 3 v (f .0)) (values-paired ns vs (omega arith) (f .1))
 
--- the fewest words are one at least
-some-words : (s : List Sample) → 1 ≤ length (fewest radix s)
-some-words [] = lit< tt
-some-words (x ∷ s) = omega (arith, encode-length radix (lit< tt) 0 x s 0)
-
 pub header-back : (h : PingHeader) → HeaderTyped h → headerOf (headOf h) ≡ h
 header-back h g = rw (signed-pattern 3 (h .«detected_bottom_range») (g .5))
 
@@ -87,15 +80,12 @@ pub says-item : {c : Ping} {k : ℕ} {f : List ℕ} {p : ℕ} → Says c k f p �
 says-item s = read-item (s .sound) (s .there) ∙ s .item
 
 module _ {h : PingHeader} {a : ℤ} {ns : List ℕ} {vs : List ℤ} (g : PingTyped h a ns vs) (l : Listed ns vs) where
-  -- ---- the tuples of the ping
-  abbrev c : Ping
-  c = handedPing h a ns vs
-
   many : length (paired ns vs) ≡ length ns
   many = length-paired ns vs (l .equal)
 
-  pub good : Good (handedPing h a ns vs)
-  good =
+  -- ---- the ping can be written, whatever length it is given
+  pub good : (len : Option ℕ) → Good (handedPing h a ns vs len)
+  good len =
       let i = g .header in
       record {
         head =
@@ -108,90 +98,57 @@ module _ {h : PingHeader} {a : ℤ} {ns : List ℕ} {vs : List ℤ} (g : PingTyp
         rising = all-rising (paired ns vs) 0 (l .rising ∙ sym many);
       }
 
-  module _ (o : Bool) where
-    pub sound-U : 0 < length ns → Sound o (tupleU o (handedPing h a ns vs))
-    unfolding listingOf among listings
-    sound-U any =
-        let d = dataU o c in
-        let n = length-U o c good in
-        let f = l .few in
-        let m = many in
-        record {
-          framed =
-              record {
-                kind = lit< tt;
-                bytes = bytes-U o c good;
-                allowed = allowed-of (length d + 10) (omega arith) (omega arith) (omega arith);
-              };
-          head =
-              head-fine o (tupleU o c) pairs refl
-              (rw (le-leb 40 (length d + 10) (omega arith), eq-eqb ((length d + 10 - 40) % 8) 0 (omega arith))) refl;
-          inner = inner-fine o (tupleU o c) pairs refl (passed (pairRules (contentU o d .samples)) (
-            ap (λ (p : Ping). ltb (firstDrop 0 (p .samples)) (length (p .samples))) (content-U o c good)
-                ∙ le-ltb (firstDrop 0 (paired ns vs)) (length (paired ns vs)) (omega (arith, l .rising)),
-            tt,
-          ));
-        }
+  pub packs : {len : Option ℕ} → Worded ns vs len → Packs (handedPing h a ns vs len)
+  packs {len} w =
+      let lasts = long-enough (paired ns vs) len (w .long) in
+      record {
+        worded = all-worded wide (paired ns vs) (w .worded ∙ sym many);
+        lasting = lasts;
+        some = words-some radix (lit< tt) (paired ns vs) len lasts
+            (λ z e. true≢false (sym (eq-eqb (length ns) 0 (sym many ∙ z)) ∙ ap (empty ns) (sym e) ∙ w .some));
+        short = omega (arith, w .short);
+      }
 
-    pub item-U : itemOf o (tupleU o (handedPing h a ns vs)) ≡ some (ping (handedPing h a ns vs))
-    unfolding itemOf listingOf among listings
-    item-U = ap (λ (p : Ping). some (ping p)) (content-U o c good)
+  -- ---- its tuples
+  pub says-U : {o : Bool} {f : List ℕ} {p : ℕ} → 0 < length ns → Holds f p o (bytesU o (handedPing h a ns vs none))
+      → Says (handedPing h a ns vs none) 10000 f p
+  says-U {o} any b =
+      let c = handedPing h a ns vs none in
+      record {
+        order = o;
+        tuple = tupleU o c;
+        sound = sound-U o c (good none) refl (omega (arith, many, any));
+        item = item-U o c (good none) refl;
+        kind = refl;
+        there = b;
+      }
 
-    module _ (w : Worded ns vs) where
-      abbrev ws : List ℕ
-      ws = fewest radix (paired ns vs)
-
-      below : Below (256 ^ 4) ws
-      below = below-fewest (paired ns vs) (good .within)
-
-      pub sound-C : Sound o (tupleC o (handedPing h a ns vs))
-      unfolding listingOf among listings
-      sound-C =
-          let d = dataC o c ws in
-          let n = length-C o c good ws below in
-          let k = some-words (paired ns vs) in
-          record {
-            framed =
-                record {
-                  kind = lit< tt;
-                  bytes = bytes-C o c good ws below;
-                  allowed = allowed-of (length d + 10) (omega arith) (omega arith) (omega (arith, w .short));
-                };
-            head =
-                head-fine o (tupleC o c) words refl
-                (rw (le-leb 40 (length d + 10) (omega arith), eq-eqb ((length d + 10 - 40) % 4) 0 (omega arith))) refl;
-            inner = inner-fine o (tupleC o c) words refl
-                (ap₂ (λ (k : ℕ) (us : List ℕ). judged (wordRules k us)) (count-C o c good ws below) (words-C o c good ws below)
-                ∙ words-pass (paired ns vs) (l .rising ∙ sym many) (w .worded ∙ sym many) (good .few));
-          }
-
-      pub item-C : itemOf o (tupleC o (handedPing h a ns vs)) ≡ some (ping (handedPing h a ns vs))
-      unfolding itemOf listingOf among listings
-      item-C =
-          ap (λ (p : Ping). some (ping p))
-          (content-C o c good ws below (words-back (paired ns vs) (l .rising ∙ sym many) (w .worded ∙ sym many)))
-
-  pub says-U : {o : Bool} {f : List ℕ} {p : ℕ} → 0 < length ns → Holds f p o (bytesU o (handedPing h a ns vs))
-      → Says (handedPing h a ns vs) 10000 f p
-  says-U {o} any b = record { order = o; tuple = tupleU o c; sound = sound-U o any; item = item-U o; kind = refl; there = b }
-
-  pub says-C : {o : Bool} {f : List ℕ} {p : ℕ} → Worded ns vs → Holds f p o (bytesC o (handedPing h a ns vs))
-      → Says (handedPing h a ns vs) 10010 f p
-  says-C {o} w b = record { order = o; tuple = tupleC o c; sound = sound-C o w; item = item-C o w; kind = refl; there = b }
+  pub says-C : {len : Option ℕ} {o : Bool} {f : List ℕ} {p : ℕ} → Worded ns vs len → Holds f p o (bytesC o (handedPing h a ns vs len))
+      → Says (handedPing h a ns vs len) 10010 f p
+  says-C {len} {o} w b =
+      let c = handedPing h a ns vs len in
+      record {
+        order = o;
+        tuple = tupleC o c;
+        sound = sound-C o c (good len) (packs w);
+        item = item-C o c (good len) (packs w);
+        kind = refl;
+        there = b;
+      }
 
   -- ---- read by both readers
-  module _ {k : ℕ} (q : isPing k ≡ true) {f : List ℕ} {p : ℕ} (s : Says (handedPing h a ns vs) k f p) where
+  module _ {len : Option ℕ} {k : ℕ} (q : isPing k ≡ true) {f : List ℕ} {p : ℕ} (s : Says (handedPing h a ns vs len) k f p) where
     says-samples : samplesAt f p ≡ paired ns vs
     says-samples = ap samplesBy (says-item s)
 
     says-answer : readAnswer isPing f p ≡ accepting 1 0
     says-answer = read-answer (s .sound) (s .there) isPing (ap isPing (s .kind) ∙ q)
 
-    says-fields : pingFields f p ≡ Read h a (kindOfPing k) (length ns)
+    says-fields : pingFields f p ≡ Read h a (kindOfPing k) (length ns) (toldLength len)
     unfolding pingFields
     says-fields =
         ap₂ fieldsBy (ap pingBy (says-item s)) (ap (λ (u : Tup). u .kind) (read-tuple (s .sound) (s .there)) ∙ s .kind)
-        ∙ (λ j. Read (header-back h (g .header) j) (signed-pattern 3 a (g .attribute) j) (kindOfPing k) (many j))
+        ∙ (λ j. Read (header-back h (g .header) j) (signed-pattern 3 a (g .attribute) j) (kindOfPing k) (many j) (toldLength len))
 
     says-handed : (numbers ms : List ℕ) (values us : List ℤ) (r : Answer) → length ns ≤ length numbers → length ns ≤ length values
         → SamplesRead f p numbers values r ms us
@@ -214,22 +171,25 @@ module _ {h : PingHeader} {a : ℤ} {ns : List ℕ} {vs : List ℤ} (g : PingTyp
               ∙ ap (λ (i : ℕ). vs ++ drop i values) (l .equal),
         )
 
-    says-back : PingBack h a ns vs (kindOfPing k) f p
+    says-back : PingBack h a ns vs len (kindOfPing k) f p
     says-back = record { fields = λ out e. e .outcome ∙ ap₂ answered says-answer says-fields; samples = says-samples; handed = says-handed }
 
   -- ---- a file that holds what a writer writes
   module _ {o : Bool} {f : List ℕ} {p : ℕ} where
-    pub back-U : 0 < length ns → Holds f p o (bytesU o (handedPing h a ns vs)) → PingBack h a ns vs U32 f p
+    pub back-U : 0 < length ns → Holds f p o (bytesU o (handedPing h a ns vs none)) → PingBack h a ns vs none U32 f p
     back-U any b = says-back refl (says-U any b)
 
-    pub back-C : Worded ns vs → Holds f p o (bytesC o (handedPing h a ns vs)) → PingBack h a ns vs C32 f p
+    pub back-C : {len : Option ℕ} → Worded ns vs len → Holds f p o (bytesC o (handedPing h a ns vs len)) → PingBack h a ns vs len C32 f p
     back-C w b = says-back refl (says-C w b)
 
-  -- ---- where both can be written, the U-32 and the C-32 ping have one content, samples, header and attribute
-  pub same-samples : {x y : Bool} {e f : List ℕ} {p q : ℕ} → 0 < length ns → Worded ns vs → Holds e p x (bytesU x (handedPing h a ns vs))
-      → Holds f q y (bytesC y (handedPing h a ns vs))
+  -- ---- where both can be written without a length, the U-32 and the C-32 ping have one content: samples, header and attribute
+  pub same-samples : {x y : Bool} {e f : List ℕ} {p q : ℕ} → Worded ns vs none → Holds e p x (bytesU x (handedPing h a ns vs none))
+      → Holds f q y (bytesC y (handedPing h a ns vs none))
       → (readItem e p ≡ readItem f q) × (samplesAt e p ≡ samplesAt f q)
-  same-samples any w b d = let same = says-item (says-U any b) ∙ sym (says-item (says-C w d)) in (same, ap samplesBy same)
+  same-samples w b d =
+      let z = eqb-false (length ns) 0 (w .some) in
+      let same = says-item (says-U (omega arith) b) ∙ sym (says-item (says-C w d)) in
+      (same, ap samplesBy same)
 
 -- ---- what an acceptance tells of the lists handed over
 listed : (ns : List ℕ) (vs : List ℤ) → not (eqb (length ns) (length vs)) ≡ false → ltb most (length ns) ≡ false
@@ -257,23 +217,30 @@ module _ (o : Bool) (h : PingHeader) (a : ℤ) (ns : List ℕ) (vs : List ℤ) {
       let z = eqb-false (length ns) 0 (k .1 .1 .0) in
       (listed ns vs (k .0) (k .1 .0) (k .1 .1 .1 .0), omega arith)
 
-  pub accepted-C : WrittenC o h a ns vs out (Accepted n) left → Listed ns vs × Worded ns vs
-  accepted-C w =
-      let k = written-kept (refl, (refl, (refl, (refl, (refl, (refl, tt)))))) w in
-      let l = listed ns vs (k .0) (k .1 .0) (k .1 .1 .0) in
+  pub accepted-C : {len : Option ℕ} → WrittenC o h a ns vs len out (Accepted n) left → Listed ns vs × Worded ns vs len
+  accepted-C {len} w =
+      let k = written-kept (refl, (refl, (refl, (refl, (refl, (refl, (refl, (refl, tt)))))))) w in
+      let own = k .1 .1 in
+      let l = listed ns vs (k .0) (k .1 .0) (own .1 .0) in
       let s = paired ns vs in
-      let t = tupleC o (handedPing h a ns vs) in (
+      let many = length-paired ns vs (l .equal) in
+      let t = tupleC o (handedPing h a ns vs len) in (
         l,
         record {
-          worded = omega (arith, ltb-false (firstWordless wide s) (length s) (k .1 .1 .1 .0), wordless-most wide s, length-paired ns vs (l .equal));
-          short = omega (arith, ltb-false 262144 (lengthOf t) (k .1 .1 .1 .1 .0), length-frame o t, length-bytes-C o h a ns vs);
+          worded = omega (arith, ltb-false (firstWordless wide s) (length s) (own .1 .1 .0), wordless-most wide s);
+          long = own .1 .1 .1 .0;
+          some = own .0;
+          short = omega (arith, ltb-false 262144 (lengthOf t) (own .1 .1 .1 .1 .0), length-frame o t, length-bytes-C o h a ns vs len);
         },
       )
 
   -- what a writer wrote, both readers read
   module _ {f : List ℕ} {p : ℕ} (g : PingTyped h a ns vs) where
-    pub again-U : WrittenU o h a ns vs out (Accepted n) left → Holds f p o (take (n .written) left) → PingBack h a ns vs U32 f p
+    pub again-U : WrittenU o h a ns vs out (Accepted n) left → Holds f p o (take (n .written) left) → PingBack h a ns vs none U32 f p
     again-U w b = let l = accepted-U w in back-U g (l .0) (l .1) (written-held (refl, (refl, (refl, (refl, (refl, (refl, tt)))))) w b)
 
-    pub again-C : WrittenC o h a ns vs out (Accepted n) left → Holds f p o (take (n .written) left) → PingBack h a ns vs C32 f p
-    again-C w b = let l = accepted-C w in back-C g (l .0) (l .1) (written-held (refl, (refl, (refl, (refl, (refl, (refl, tt)))))) w b)
+    pub again-C : {len : Option ℕ} → WrittenC o h a ns vs len out (Accepted n) left → Holds f p o (take (n .written) left)
+        → PingBack h a ns vs len C32 f p
+    again-C w b =
+        let l = accepted-C w in
+        back-C g (l .0) (l .1) (written-held (refl, (refl, (refl, (refl, (refl, (refl, (refl, (refl, tt)))))))) w b)

@@ -20,7 +20,7 @@ use Rattle.layout.specs.Families.{Family}
 use Rattle.samples.specs.Words.{Sample, Below}
 use Rattle.samples.specs.Lists.{paired}
 use Rattle.samples.specs.inner.Lists.{numbered, valued}
-use Rattle.samples.specs.Runs.{gap, encodeFrom, fewest}
+use Rattle.samples.specs.Runs.{gap, encodeFrom, behind}
 use Rattle.samples.specs.Judging.{firstDrop, wordless, firstWordless}
 use Rattle.samples.proofs.Words.{Within}
 use Rattle.samples.proofs.Runs.{by-bool, encode-length}
@@ -111,18 +111,19 @@ wordless-valued f (x ∷ ns) (v ∷ vs) e =
     ∙ ap (λ (k : ℕ). k + 1) (wordless-valued f ns vs (omega arith))
     ∙ sym (wordless-later f (x, patternOf 4 v) (paired ns vs) t))
 
-module _ (R : ℕ) (some : 0 < R) where
-  count-from : (ns : List ℕ) (vs : List ℤ) (n : ℕ) → length vs ≡ length ns
-      → length (encodeFrom R n (numbered ns) 0) ≡ length (encodeFrom R n (paired ns vs) 0)
-  count-from [] vs n e = refl
-  count-from (x ∷ ns) [] n e = absurd (omega arith)
-  count-from (x ∷ ns) (v ∷ vs) n e =
-      encode-length R some n (x, 0) (numbered ns) 0
-      ∙ ap (λ (k : ℕ). length (gap R (x - n)) + suc k) (count-from ns vs (x + 1) (omega arith))
-      ∙ sym (encode-length R some n (x, patternOf 4 v) (paired ns vs) 0)
+-- the number behind the last
+pub behind-numbered : (ns : List ℕ) (vs : List ℤ) (n : ℕ) → length vs ≡ length ns → behind n (numbered ns) ≡ behind n (paired ns vs)
+unfolding behind
+behind-numbered [] vs n e = refl
+behind-numbered (x ∷ ns) [] n e = absurd (omega arith)
+behind-numbered (x ∷ ns) (v ∷ vs) n e = behind-numbered ns vs (x + 1) (omega arith)
 
-  pub count-numbered : (ns : List ℕ) (vs : List ℤ) → length vs ≡ length ns
-      → length (fewest R (numbered ns)) ≡ length (fewest R (paired ns vs))
-  count-numbered [] vs e = refl
-  count-numbered (x ∷ ns) [] e = absurd (omega arith)
-  count-numbered (x ∷ ns) (v ∷ vs) e = count-from (x ∷ ns) (v ∷ vs) 0 e
+-- how many words they take, with t quiet samples behind them
+pub count-numbered : (R : ℕ) → 0 < R → (ns : List ℕ) (vs : List ℤ) (n t : ℕ) → length vs ≡ length ns
+    → length (encodeFrom R n (numbered ns) t) ≡ length (encodeFrom R n (paired ns vs) t)
+count-numbered R some [] vs n t e = refl
+count-numbered R some (x ∷ ns) [] n t e = absurd (omega arith)
+count-numbered R some (x ∷ ns) (v ∷ vs) n t e =
+    encode-length R some n (x, 0) (numbered ns) t
+    ∙ ap (λ (k : ℕ). length (gap R (x - n)) + suc k) (count-numbered R some ns vs (x + 1) t (omega arith))
+    ∙ sym (encode-length R some n (x, patternOf 4 v) (paired ns vs) t)

@@ -9,3 +9,5 @@ pub mod Apart
 pub mod Writing
 pub mod Written
 pub mod Turning
+pub mod Packed
+pub mod Lengths

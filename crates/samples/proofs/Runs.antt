@@ -1,18 +1,22 @@
 -- Laws of runs and values, over the radix R. Assumes nothing.
-use mathlib.Core.Path.{_≡_, refl, sym, ap, _∙_}
+use mathlib.Core.Path.{_≡_, refl, sym, ap, ap₂, _∙_}
 use mathlib.Core.Logic.{_↔_}
-use mathlib.Core.Bool.{Bool, true, false}
+use mathlib.Core.Bool.{Bool, true, false, true≢false}
 use mathlib.Core.List.{List, [], _∷_, _++_, append-assoc, append-nil}
+use mathlib.Core.Option.{Option, some, none}
 use Prim.Native.Nat.{ℕ, zero, suc, _+_, _-_, _*_, _/_, _%_, _≤_, _<_}
-use native.Mathlib.Nat.{div-add-mod', mod-lt, add-assoc, add-zero, zero-add, add-sub-cancel-left, le-trans, le-of-mul-le-mul-right}
+use native.Mathlib.Nat.{div-add-mod', mod-lt, add-assoc, add-zero, zero-add, add-sub-cancel-left, le-of-mul-le-mul-right}
 use native.Mathlib.Nat.{lt-of-mul-lt-mul-right}
 use native.Mathlib.Numerals.{add-one}
 use native.Mathlib.Omega.{arith}
 use lib.Arith.{digits-div, digits-mod}
+use lib.Dec.{ltb}
 use lib.ListN.{length, replicate, length-append, length-replicate}
-use borrow.Author.Tests.{eq-eqb}
+use borrow.Author.Tests.{eq-eqb, lt-ltb, ltb-false}
 use Rattle.samples.specs.Words.{Sample}
-use Rattle.samples.specs.Runs.{isRun, runLength, decodeFrom, decode, lastRun, gap, encodeFrom, fewest}
+use Rattle.samples.specs.Runs.{isRun, runLength, decodeFrom, decode, samplesFrom, endsFrom, pingLength, lastRun, gap, encodeFrom}
+use Rattle.samples.specs.Runs.{behind, quiet, fewest}
+use Rattle.samples.specs.Judging.{tooShort}
 
 -- the quiet samples behind the last value, g of them being there already
 unfoldable pub tailFrom : ℕ → ℕ → List ℕ → ℕ
@@ -153,7 +157,7 @@ module _ (R : ℕ) (pos : 0 < R) where
   gap-more : (g w : ℕ) → length (gap R (g + runLength R w)) ≤ length (gap R g) + 1
   gap-more g w = gap-least (g + runLength R w) (length (gap R g) + 1) (omega (arith, gap-covers g, run-short w))
 
-  gap-none : length (gap R 0) ≡ 0
+  pub gap-none : length (gap R 0) ≡ 0
   gap-none = omega (arith, gap-least 0 0 (omega arith))
 
   pub encode-length : (n : ℕ) (x : Sample) (s : List Sample) (t : ℕ)
@@ -172,35 +176,136 @@ module _ (R : ℕ) (pos : 0 < R) where
       rw (decode-value (n + g) w ws e, tail-value g w ws e)
       (rw (encode-length n (n + g, w), add-sub-cancel-left n g) (omega (arith, gap-none, rw add-zero at (fewest-from ws (n + g + 1) 0)))))
 
-  -- without the quiet samples behind the last value there are no more words
-  no-tail : (s : List Sample) (n t : ℕ) → length (encodeFrom R n s 0) ≤ length (encodeFrom R n s t)
-  unfolding encodeFrom
-  no-tail [] n t = omega (arith, gap-none)
-  no-tail (x ∷ s) n t = simp length-append (omega (arith, no-tail s (x .0 + 1) t))
+  -- ---- how many samples there are in all: up to the last value, and the quiet ones behind it
+  pub samples-run : (n w : ℕ) (ws : List ℕ) → isRun R w ≡ true → samplesFrom R n (w ∷ ws) ≡ samplesFrom R (n + runLength R w) ws
+  unfolding samplesFrom
+  samples-run n w ws e = rw (e, samplesFrom)
+
+  pub samples-value : (n w : ℕ) (ws : List ℕ) → isRun R w ≡ false → samplesFrom R n (w ∷ ws) ≡ samplesFrom R (n + 1) ws
+  unfolding samplesFrom
+  samples-value n w ws e = rw (e, samplesFrom)
+
+  samples-in-all : (ws : List ℕ) (n g : ℕ) → samplesFrom R (n + g) ws ≡ behind n (decodeFrom R (n + g) ws) + tailFrom R g ws
+  unfolding behind
+  samples-in-all [] n g = unfold samplesFrom decodeFrom tailFrom in refl
+  samples-in-all (w ∷ ws) n g =
+      by-bool (isRun R w)
+      (λ e. rw (samples-run (n + g) w ws e, decode-run (n + g) w ws e, tail-run g w ws e, add-assoc n g (runLength R w))
+      (samples-in-all ws n (g + runLength R w)))
+      (λ e.
+      rw (samples-value (n + g) w ws e, decode-value (n + g) w ws e, tail-value g w ws e)
+      (rw add-zero at (samples-in-all ws (n + g + 1) 0)))
+
+  -- the last word is a run exactly where quiet samples are behind the last value
+  ends-quiet : (ws : List ℕ) (g : ℕ) → endsFrom R (ltb 0 g) ws ≡ ltb 0 (tailFrom R g ws)
+  unfolding endsFrom
+  ends-quiet [] g = unfold tailFrom in refl
+  ends-quiet (w ∷ ws) g =
+      by-bool (isRun R w)
+      (λ e.
+      let more : 0 < g + runLength R w = unfold runLength in omega arith in
+      rw (e, tail-run g w ws e)
+      (ap (λ (b : Bool). endsFrom R b ws) (sym (lt-ltb 0 (g + runLength R w) more)) ∙ ends-quiet ws (g + runLength R w)))
+      (λ e. rw (e, tail-value g w ws e) (ends-quiet ws 0))
+
+  -- a gap takes a word at least, and so does what words say
+  pub gap-some : (g : ℕ) → 1 ≤ g → 1 ≤ length (gap R g)
+  gap-some g h = by-length (length (gap R g)) refl
+    where
+      by-length : (n : ℕ) → length (gap R g) ≡ n → 1 ≤ length (gap R g)
+      by-length zero e = let none : g ≤ 0 * R = rw e at (gap-covers g) in absurd (omega arith)
+      by-length (suc n) e = omega arith
+
+  some-from : (ws : List ℕ) (n g : ℕ) → 1 ≤ g + length ws → 1 ≤ length (encodeFrom R n (decodeFrom R (n + g) ws) (tailFrom R g ws))
+  some-from [] n g h = unfold encodeFrom decodeFrom tailFrom in gap-some g (omega arith)
+  some-from (w ∷ ws) n g h =
+      by-bool (isRun R w)
+      (λ e. rw (decode-run (n + g) w ws e, tail-run g w ws e, add-assoc n g (runLength R w))
+      (some-from ws n (g + runLength R w) (unfold runLength in omega arith)))
+      (λ e. rw (decode-value (n + g) w ws e, tail-value g w ws e)
+      (omega (arith, encode-length n (n + g, w) (decodeFrom R (n + g + 1) ws) (tailFrom R 0 ws))))
+
+-- ---- the length of a ping of which m samples end in the last value and t quiet ones follow
+abbrev pub lasting : ℕ → ℕ → Option ℕ
+lasting m zero = none
+lasting m (suc t) = some (m + suc t)
+
+by-ends : (b : Bool) (n m t : ℕ) → b ≡ ltb 0 t → n ≡ m + t → elim b as (λ _. Option ℕ) [ true ↦ some n | false ↦ none ] ≡ lasting m t
+by-ends true n m zero e h = absurd (true≢false e)
+by-ends false n m zero e h = refl
+by-ends true n m (suc t) e h = ap some h
+by-ends false n m (suc t) e h = absurd (true≢false (sym (lt-ltb 0 (suc t) (omega arith)) ∙ sym e))
+
+quiet-lasting : (s : List Sample) (t : ℕ) → quiet s (lasting (behind 0 s) t) ≡ t
+quiet-lasting s zero = refl
+quiet-lasting s (suc t) = omega arith
+
+-- a length that these samples can have: none, or more than end in the last value
+abbrev pub Lasting : List Sample → Option ℕ → Type 0
+Lasting s l = l ≡ lasting (behind 0 s) (quiet s l)
+
+lasts : (m n : ℕ) → m < n → some n ≡ lasting m (n - m)
+lasts m n h = by-rest (n - m) refl
+  where
+    by-rest : (t : ℕ) → n - m ≡ t → some n ≡ lasting m (n - m)
+    by-rest zero e = absurd (omega arith)
+    by-rest (suc t) e = rw e (ap some (omega arith))
+
+-- the writers' test on a length
+pub long-enough : (s : List Sample) (l : Option ℕ) → tooShort s l ≡ false → Lasting s l
+long-enough s none e = refl
+long-enough s (some n) e = lasts (behind 0 s) n (omega (arith, ltb-false n (behind 0 s + 1) e))
 
 -- ---- a whole ping: samples from 0
 module _ (R : ℕ) (pos : 0 < R) where
-  -- the fewest words say what they were made from
-  pub there-back : (s : List Sample) → Fit R 0 s → decode R (fewest R s) ≡ s
-  there-back [] f = decode-run R pos 0 ((R - 1) * R) [] zero-run ∙ unfold decodeFrom in refl
-    where
-      zero-run : isRun R ((R - 1) * R) ≡ true
-      zero-run = ap (isRun R) (sym (add-zero ((R - 1) * R))) ∙ run-is R pos 0 pos
-  there-back (x ∷ s) f = decode-encode R pos (x ∷ s) 0 0 f
+  length-lasting : (ws : List ℕ) → pingLength R ws ≡ lasting (behind 0 (decode R ws)) (tailFrom R 0 ws)
+  unfolding pingLength
+  length-lasting ws =
+      by-ends (endsFrom R false ws) (samplesFrom R 0 ws) (behind 0 (decode R ws)) (tailFrom R 0 ws) (ends-quiet R pos ws 0)
+      (rw (zero-add 0) at (samples-in-all R pos ws 0 0))
 
-  -- also of what any words say
-  pub again : (ws : List ℕ) → decode R (fewest R (decode R ws)) ≡ decode R ws
-  again ws = there-back (decode R ws) (decode-fit R pos ws 0)
+  -- its quiet samples are those behind the last value
+  pub quiet-tail : (ws : List ℕ) → quiet (decode R ws) (pingLength R ws) ≡ tailFrom R 0 ws
+  quiet-tail ws = rw (length-lasting ws) (quiet-lasting (decode R ws) (tailFrom R 0 ws))
+
+  -- what any words say can be said again
+  pub length-can : (ws : List ℕ) → Lasting (decode R ws) (pingLength R ws)
+  length-can ws = rw (length-lasting ws, quiet-lasting (decode R ws) (tailFrom R 0 ws))
+
+  -- the fewest words say what they were made from
+  module _ (s : List Sample) (l : Option ℕ) (f : Fit R 0 s) where
+    pub there-back : decode R (fewest R s l) ≡ s
+    unfolding fewest
+    there-back = decode-encode R pos s 0 (quiet s l) f
+
+    pub length-back : Lasting s l → pingLength R (fewest R s l) ≡ l
+    unfolding fewest
+    length-back h =
+        length-lasting (encodeFrom R 0 s (quiet s l))
+        ∙ (λ i. lasting (behind 0 (decode-encode R pos s 0 (quiet s l) f i)) (tail-encode R pos s 0 (quiet s l) f i))
+        ∙ sym h
+
+  -- no words that say the same are fewer
+  pub fewest-words : (ws : List ℕ) → length (fewest R (decode R ws) (pingLength R ws)) ≤ length ws
+  unfolding fewest
+  fewest-words ws = rw (quiet-tail ws) (omega (arith, gap-none R pos, rw (zero-add 0) at (fewest-from R pos ws 0 0)))
+
+  pub fewest-some : (ws : List ℕ) → 1 ≤ length ws → 1 ≤ length (fewest R (decode R ws) (pingLength R ws))
+  unfolding fewest
+  fewest-some ws h = rw (quiet-tail ws) (rw (zero-add 0) at (some-from R pos ws 0 0 (omega arith)))
 
   -- words say the same exactly where their fewest words are the same
-  pub same : (us ws : List ℕ) → (decode R us ≡ decode R ws) ↔ (fewest R (decode R us) ≡ fewest R (decode R ws))
-  same us ws = (λ e. ap (fewest R) e, λ e. sym (again us) ∙ ap (decode R) e ∙ again ws)
-
-  -- no words that say s are fewer; of a ping without samples, none that are at least one
-  pub fewest-words : (ws : List ℕ) (s : List Sample) → decode R ws ≡ s → 1 ≤ length ws → length (fewest R s) ≤ length ws
-  fewest-words ws [] e h = h
-  fewest-words ws (x ∷ s) e h =
-      let a = no-tail R pos (x ∷ s) 0 (tailFrom R 0 ws) in
-      let b : length (encodeFrom R 0 (decode R ws) (tailFrom R 0 ws))
-      ≤ length ws = omega (arith, gap-none R pos, rw (zero-add 0) at (fewest-from R pos ws 0 0)) in
-      le-trans a (rw e at b)
+  pub same : (us ws : List ℕ)
+      → ((decode R us ≡ decode R ws) × (pingLength R us ≡ pingLength R ws))
+      ↔ (fewest R (decode R us) (pingLength R us) ≡ fewest R (decode R ws) (pingLength R ws))
+  same us ws =
+      let fu = decode-fit R pos us 0 in
+      let fw = decode-fit R pos ws 0 in (
+        λ e. ap₂ (fewest R) (e .0) (e .1),
+        λ e. (
+          sym (there-back (decode R us) (pingLength R us) fu) ∙ ap (decode R) e ∙ there-back (decode R ws) (pingLength R ws) fw,
+          sym (length-back (decode R us) (pingLength R us) fu (length-can us))
+              ∙ ap (pingLength R) e
+              ∙ length-back (decode R ws) (pingLength R ws) fw (length-can ws),
+        ),
+      )

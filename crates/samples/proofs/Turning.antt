@@ -49,12 +49,12 @@ unfolding unwords
 pair-put k z l q n v = ap (sets (sets l q (bytesOf z k n)) (q + k)) (sym (append-nil (bytesOf z k v))) ∙ past-word k z l q n (v ∷ [])
 
 -- ---- stores at one place: the later ones stand
-set-past : (vs l : List ℕ) (i j a : ℕ) → i < j → set (sets l j vs) i a ≡ sets (set l i a) j vs
+pub set-past : (vs l : List ℕ) (i j a : ℕ) → i < j → set (sets l j vs) i a ≡ sets (set l i a) j vs
 set-past [] l i j a h = refl
 set-past (v ∷ vs) l i j a h =
     set-past vs (set l j v) i (suc j) a (omega arith) ∙ ap (λ (x : List ℕ). sets x (suc j) vs) (set-comm l j i v a (λ e. omega arith))
 
-sets-over : (us vs l : List ℕ) (i : ℕ) → length us ≤ length vs → sets (sets l i us) i vs ≡ sets l i vs
+pub sets-over : (us vs l : List ℕ) (i : ℕ) → length us ≤ length vs → sets (sets l i us) i vs ≡ sets l i vs
 sets-over [] vs l i h = refl
 sets-over (u ∷ us) [] l i h = absurd (omega arith)
 sets-over (u ∷ us) (v ∷ vs) l i h =

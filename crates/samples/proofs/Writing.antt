@@ -15,7 +15,7 @@ use Rattle.order.proofs.Laws.{length-bytesOf}
 use Rattle.order.proofs.Stores.{sets-append}
 use Rattle.samples.specs.Words.{Sample, unwords, unpair}
 use Rattle.samples.specs.Lists.{paired}
-use Rattle.samples.specs.Runs.{lastRun, gap, encodeFrom, fewest}
+use Rattle.samples.specs.Runs.{lastRun, gap, encodeFrom}
 use Rattle.samples.proofs.Words.{length-unwords}
 use Rattle.samples.proofs.Runs.{encode-length, gap-covers, gap-least}
 use Rattle.samples.proofs.Rising.{Rising}
@@ -73,11 +73,6 @@ module _ (R : ℕ) (some : 0 < R) (g : ℕ) where
   pub gap-short : length (gap R g) ≤ g
   gap-short = gap-least R some g g (le-mul-of-pos-right g some)
 
--- any ping but one without samples
-pub fewest-some : (R : ℕ) (s : List Sample) → 0 < length s → fewest R s ≡ encodeFrom R 0 s 0
-fewest-some R [] h = absurd (omega arith)
-fewest-some R (x ∷ s) h = refl
-
 -- ---- a turn past the sample at i, whose number is n
 abbrev left : List ℕ → List ℤ → ℕ → List Sample
 left ns vs i = paired (drop i ns) (drop i vs)
@@ -107,24 +102,24 @@ module _ (ns : List ℕ) (vs : List ℤ) (i n : ℕ) (h : i < length ns) (g : le
     pub sample-rises : Rising m (left ns vs i) → (m ≤ n) × Rising (n + 1) (left ns vs (i + 1))
     sample-rises r = subst (Rising m) sample-next r
 
-    module _ (R : ℕ) (some : 0 < R) where
+    module _ (R : ℕ) (some : 0 < R) (t : ℕ) where
       -- its words: those of its gap, its value, and the rest
-      pub sample-words : length (encodeFrom R m (left ns vs i) 0)
-          ≡ length (gap R (n - m)) + suc (length (encodeFrom R (n + 1) (left ns vs (i + 1)) 0))
-      sample-words = rw sample-next (encode-length R some m _ (left ns vs (i + 1)) 0)
+      pub sample-words : length (encodeFrom R m (left ns vs i) t)
+          ≡ length (gap R (n - m)) + suc (length (encodeFrom R (n + 1) (left ns vs (i + 1)) t))
+      sample-words = rw sample-next (encode-length R some m _ (left ns vs (i + 1)) t)
 
       -- the gap is written at q, which makes l₁ of l; then at p the value, which makes l₂
       pub sample-turn : (k : ℕ) (o : Bool) (l l₁ l₂ : List ℕ) (q p v : ℕ)
           → p ≡ q + k * length (gap R (n - m)) → l₁ ≡ sets l q (unwords k o (gap R (n - m)))
           → v ≡ patternOf 4 (getD vs i (pos 0)) → l₂ ≡ sets l₁ p (bytesOf o k v)
-          → sets l₂ (p + k) (unwords k o (encodeFrom R (n + 1) (left ns vs (i + 1)) 0))
-          ≡ sets l q (unwords k o (encodeFrom R m (left ns vs i) 0))
+          → sets l₂ (p + k) (unwords k o (encodeFrom R (n + 1) (left ns vs (i + 1)) t))
+          ≡ sets l q (unwords k o (encodeFrom R m (left ns vs i) t))
       unfolding encodeFrom
       sample-turn k o l l₁ l₂ q p v place e₁ ev e₂ =
-          let rest = encodeFrom R (n + 1) (left ns vs (i + 1)) 0 in
+          let rest = encodeFrom R (n + 1) (left ns vs (i + 1)) t in
           ap (λ (x : List ℕ). sets x (p + k) (unwords k o rest)) e₂
           ∙ past-word k o l₁ p v rest
           ∙ ap (λ (x : List ℕ). sets x p (unwords k o (v ∷ rest))) e₁
           ∙ past-words k o l q (gap R (n - m)) (v ∷ rest) p place
           ∙ ap (λ (x : ℕ). sets l q (unwords k o (gap R (n - m) ++ (x ∷ rest)))) ev
-          ∙ ap (λ (s : List Sample). sets l q (unwords k o (encodeFrom R m s 0))) (sym sample-next)
+          ∙ ap (λ (s : List Sample). sets l q (unwords k o (encodeFrom R m s t))) (sym sample-next)

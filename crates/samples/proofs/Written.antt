@@ -2,24 +2,27 @@
 use mathlib.Core.Path.{_≡_, refl, sym, ap, _∙_}
 use mathlib.Core.Bool.{Bool, true, false, not, _||_, false≢true}
 use mathlib.Core.List.{List, [], _∷_, _++_, append-assoc, append-nil}
+use mathlib.Core.Option.{Option, some, none}
 use Prim.Native.Nat.{ℕ, zero, suc, _+_, _-_, _*_, _/_, _%_, _^_, _≤_, _<_}
-use native.Mathlib.Nat.{mod-lt, add-zero}
+use native.Mathlib.Nat.{mod-lt}
 use native.Mathlib.Omega.{arith}
-use lib.Dec.{leb, lit<}
+use lib.Dec.{leb, ltb, lit<}
 use lib.ListN.{length, replicate}
-use borrow.Author.Tests.{le-ltb, lt-leb, eq-eqb}
+use borrow.Author.Tests.{le-ltb, ltb-false, lt-leb, eq-eqb}
 use Rattle.rules.proofs.Bools.{and-false}
 use Rattle.layout.specs.Families.{Family, wide}
 use Rattle.layout.specs.declared.Verdict.the-variants.{Fine}
 use Rattle.layout.specs.Answers.{judged}
 use Rattle.layout.proofs.Verdicts.{passed}
-use Rattle.samples.specs.Words.{Sample, allWords, unwords, pairUp, unpair, Below}
-use Rattle.samples.specs.Runs.{radix, isRun, isBad, decodeFrom, decode, values, firstBad, lastRun, gap, encodeFrom, fewest}
-use Rattle.samples.specs.Judging.{most, firstDrop, wordless, firstWordless, pairRules, wordRules, judgedPairs, judgedWords}
-use Rattle.samples.proofs.Words.{Within, all-unwords, pair-unpair, within-below}
-use Rattle.samples.proofs.Runs.{Fit, by-bool, there-back, fewest-words}
-use Rattle.samples.proofs.Values.{bad-later, length-decode}
-use Rattle.samples.proofs.Rising.{Rising, all-rising}
+use Rattle.samples.specs.Words.{Sample, Below}
+use Rattle.samples.specs.Runs.{radix, isRun, runLength, isBad, decodeFrom, decode, pingLength, values, firstBad, lastRun, gap}
+use Rattle.samples.specs.Runs.{encodeFrom, behind, quiet, fewest}
+use Rattle.samples.specs.Judging.{most, wordless, firstWordless, wordRules}
+use Rattle.samples.proofs.Words.{Within}
+use Rattle.samples.proofs.Runs.{Fit, by-bool, decode-run, decode-value, lasting, Lasting, encode-length, gap-some, there-back}
+use Rattle.samples.proofs.Runs.{length-back, fewest-words}
+use Rattle.samples.proofs.Values.{bad-here, bad-later, bad-most, length-decode}
+use Rattle.samples.proofs.Rising.{Rising}
 use Rattle.samples.proofs.Apart.{wordless-here, wordless-later}
 
 -- ---- a property of every word, and of every sample's value
@@ -51,9 +54,9 @@ module _ (R : ℕ) (some : 0 < R) (P : ℕ → Type 0) (runs : (r : ℕ) → r <
   each-encode [] n t v = rw append-nil at (each-gap t [] tt)
   each-encode (x ∷ s) n t v = each-gap (x .0 - n) (x .1 ∷ encodeFrom R (x .0 + 1) s t) (v .0, each-encode s (x .0 + 1) t (v .1))
 
-  each-fewest : (s : List Sample) → EachValue P s → Each P (fewest R s)
-  each-fewest [] v = (rw add-zero at (runs 0 some), tt)
-  each-fewest (x ∷ s) v = each-encode (x ∷ s) 0 0 v
+  each-fewest : (s : List Sample) (l : Option ℕ) → EachValue P s → Each P (fewest R s l)
+  unfolding fewest
+  each-fewest s l v = each-encode s 0 (quiet s l) v
 
 -- ---- samples that have words: each value neither a run's pattern nor outside the limits
 abbrev pub Worded : Family → List Sample → Type 0
@@ -92,18 +95,28 @@ module _ (f : Family) (some : 0 < f .radix) (past : f .last < (f .radix - 1) * f
       let w = (f .radix - 1) * f .radix + r in
       and-false (leb (f .first) w) (lt-leb w (f .last) (omega arith))
 
-  pub none-bad : (s : List Sample) → Worded f s → firstBad f (fewest (f .radix) s) ≡ length (fewest (f .radix) s)
-  none-bad s w =
-      good-none f (fewest (f .radix) s) (each-fewest (f .radix) some (λ (v : ℕ). isBad f v ≡ false) run-good s (worded-good f s w))
+  pub none-bad : (s : List Sample) (l : Option ℕ) → Worded f s → firstBad f (fewest (f .radix) s l) ≡ length (fewest (f .radix) s l)
+  none-bad s l w =
+      good-none f (fewest (f .radix) s l) (each-fewest (f .radix) some (λ (v : ℕ). isBad f v ≡ false) run-good s l (worded-good f s w))
 
-module _ (R : ℕ) (some : 0 < R) where
-  pub values-fewest : (s : List Sample) → Fit R 0 s → values R (fewest R s) ≡ length s
-  values-fewest s f = sym (length-decode R some (fewest R s) 0) ∙ ap length (there-back R some s f)
+module _ (R : ℕ) (pos : 0 < R) where
+  pub values-fewest : (s : List Sample) (l : Option ℕ) → Fit R 0 s → values R (fewest R s l) ≡ length s
+  values-fewest s l f = sym (length-decode R pos (fewest R s l) 0) ∙ ap length (there-back R pos s l f)
 
-  -- no words that say these samples are fewer; for a ping without samples, which has one word, `fewest-words` says it
-  pub no-fewer : (ws : List ℕ) (x : Sample) (s : List Sample) → decode R ws ≡ x ∷ s → length (fewest R (x ∷ s)) ≤ length ws
-  no-fewer [] x s e = let none : decodeFrom R 0 [] ≡ [] = unfold decodeFrom in refl in absurd (omega (arith, ap length (sym none ∙ e)))
-  no-fewer (w ∷ ws) x s e = fewest-words R some (w ∷ ws) (x ∷ s) e (omega arith)
+  -- no words that say these samples and this length are fewer
+  pub no-fewer : (ws : List ℕ) (s : List Sample) (l : Option ℕ) → decode R ws ≡ s → pingLength R ws ≡ l → length (fewest R s l) ≤ length ws
+  no-fewer ws s l e f = rw (← e, ← f) (fewest-words R pos ws)
+
+  -- samples, or a length, take a word at least
+  pub words-some : (s : List Sample) (l : Option ℕ) → Lasting s l → (length s ≡ 0 → l ≡ none → ⊥) → 1 ≤ length (fewest R s l)
+  unfolding fewest encodeFrom behind
+  words-some [] none h n = absurd (n refl refl)
+  words-some [] (some m) h n = gap-some R pos (m - 0) (longer (m - 0) refl)
+    where
+      longer : (t : ℕ) → m - 0 ≡ t → 1 ≤ m - 0
+      longer zero e = absurd (let z : _≡_ {A = ℕ} 0 1 = cc (h ∙ ap (lasting 0) e) in omega arith)
+      longer (suc t) e = omega arith
+  words-some (x ∷ s) l h n = omega (arith, encode-length R pos 0 x s (quiet (x ∷ s) l))
 
 -- ---- words of four bytes
 below-each : (b : ℕ) (ws : List ℕ) → Each (λ (w : ℕ). w < b) ws → Below b ws
@@ -114,46 +127,48 @@ within-each : (b : ℕ) (s : List Sample) → Within b s → EachValue (λ (w : 
 within-each b [] f = tt
 within-each b (x ∷ s) f = (f .1, within-each b s (f .2))
 
-pub below-fewest : (s : List Sample) → Within (256 ^ 4) s → Below (256 ^ 4) (fewest radix s)
-below-fewest s f =
-    below-each (256 ^ 4) (fewest radix s)
-    (each-fewest radix (lit< tt) (λ (w : ℕ). w < 256 ^ 4) (λ r h. omega arith) s (within-each (256 ^ 4) s f))
+pub below-fewest : (s : List Sample) (l : Option ℕ) → Within (256 ^ 4) s → Below (256 ^ 4) (fewest radix s l)
+below-fewest s l f =
+    below-each (256 ^ 4) (fewest radix s l)
+    (each-fewest radix (lit< tt) (λ (w : ℕ). w < 256 ^ 4) (λ r h. omega arith) s l (within-each (256 ^ 4) s f))
 
--- ---- the pairs written, in either byte order
-pub pairs-back : (s : List Sample) (o : Bool) → Within (256 ^ 4) s → pairUp (allWords 4 o (unwords 4 o (unpair s))) ≡ s
-pairs-back s o f = rw (all-unwords 4 (lit< tt) o (unpair s) (within-below (256 ^ 4) s f)) (pair-unpair s)
+-- ---- samples that the writers take: numbers rise, and every value has a word
+module _ (s : List Sample) (up : Rising 0 s) (worded : Worded wide s) (l : Option ℕ) where
+  fit : Fit radix 0 s
+  fit = worded-fit wide s 0 up worded
 
--- ---- samples that the writers take: numbers rise ..
-module _ (s : List Sample) (up : firstDrop 0 s ≡ length s) where
-  pub pairs-pass : (o : Bool) → Within (256 ^ 4) s → judgedPairs o (unwords 4 o (unpair s)) ≡ Fine
-  unfolding judgedPairs
-  pairs-pass o f = rw (pairs-back s o f) (passed (pairRules s) (le-ltb (firstDrop 0 s) (length s) (omega arith), tt))
+  pub words-back : decode radix (fewest radix s l) ≡ s
+  words-back = there-back radix (lit< tt) s l fit
 
-  -- .. and every value has a word
-  module _ (worded : firstWordless wide s ≡ length s) where
-    fit : Fit radix 0 s
-    fit = worded-fit wide s 0 (all-rising s 0 up) (all-worded wide s worded)
+  -- their length too, where it is long enough
+  pub length-there : Lasting s l → pingLength radix (fewest radix s l) ≡ l
+  length-there h = length-back radix (lit< tt) s l fit h
 
-    pub words-back : decode radix (fewest radix s) ≡ s
-    words-back = there-back radix (lit< tt) s fit
+  pub words-pass : length s ≤ most → judged (wordRules (length s) (fewest radix s l)) ≡ Fine
+  words-pass h =
+      let v = values-fewest radix (lit< tt) s l fit in
+      let b = none-bad wide (lit< tt) (lit< tt) s l worded in
+      let ws = fewest radix s l in
+      passed (wordRules (length s) ws) (
+        le-ltb most (values radix ws) (omega arith),
+        (le-ltb (firstBad wide ws) (length ws) (omega arith), (ap not (eq-eqb (length s) (values radix ws) (sym v)), tt)),
+      )
 
-    pub words-pass : length s ≤ most → judged (wordRules (length s) (fewest radix s)) ≡ Fine
-    words-pass h =
-        let v = values-fewest radix (lit< tt) s fit in
-        let b = none-bad wide (lit< tt) (lit< tt) s (all-worded wide s worded) in
-        let ws = fewest radix s in
-        passed (wordRules (length s) ws) (
-          le-ltb most (values radix ws) (omega arith),
-          (le-ltb (firstBad wide ws) (length ws) (omega arith), (ap not (eq-eqb (length s) (values radix ws) (sym v)), tt)),
-        )
+-- ---- what words within the limits say: every value of it has a word
+none-good : (f : Family) (ws : List ℕ) → firstBad f ws ≡ length ws → Each (λ (w : ℕ). isBad f w ≡ false) ws
+none-good f [] e = tt
+none-good f (w ∷ ws) e =
+    by-bool (isBad f w)
+    (λ t. absurd (omega (arith, bad-here f w ws t)))
+    (λ t. (t, none-good f ws (omega (arith, bad-later f w ws t))))
 
-    module _ (o : Bool) (f : Within (256 ^ 4) s) where
-      written : allWords 4 o (unwords 4 o (fewest radix s)) ≡ fewest radix s
-      written = all-unwords 4 (lit< tt) o (fewest radix s) (below-fewest s f)
+module _ (f : Family) (pos : 0 < f .radix) where
+  says-from : (ws : List ℕ) (n : ℕ) → Each (λ (w : ℕ). isBad f w ≡ false) ws → Worded f (decodeFrom (f .radix) n ws)
+  says-from [] n g = unfold decodeFrom in tt
+  says-from (w ∷ ws) n g =
+      by-bool (isRun (f .radix) w)
+      (λ e. rw (decode-run (f .radix) pos n w ws e) (says-from ws (n + runLength (f .radix) w) (g .1)))
+      (λ e. rw (decode-value (f .radix) pos n w ws e) ((e, g .0), says-from ws (n + 1) (g .1)))
 
-      pub bytes-back : decode radix (allWords 4 o (unwords 4 o (fewest radix s))) ≡ s
-      bytes-back = rw written words-back
-
-      pub bytes-pass : length s ≤ most → judgedWords o (length s) (unwords 4 o (fewest radix s)) ≡ Fine
-      unfolding judgedWords
-      bytes-pass h = rw written (words-pass h)
+  pub says-worded : (ws : List ℕ) → ltb (firstBad f ws) (length ws) ≡ false → Worded f (decode (f .radix) ws)
+  says-worded ws e = says-from ws 0 (none-good f ws (omega (arith, bad-most f ws, ltb-false (firstBad f ws) (length ws) e)))

@@ -2,6 +2,7 @@
 use Prim.Native.Nat.{ℕ, _+_, _*_}
 use mathlib.Core.Bool.{Bool, true, false, not, _||_}
 use mathlib.Core.List.{List, [], _∷_}
+use mathlib.Core.Option.{Option, some, none}
 use lib.Dec.{eqb, leb, ltb}
 use lib.ListN.{length}
 use Rattle.rules.specs.Rules.{Rule, _⇒_}
@@ -9,7 +10,7 @@ use Rattle.layout.specs.declared.Verdict.{Verdict}
 use Rattle.layout.specs.Answers.{judged, Breach, _byte_}
 use Rattle.layout.specs.Families.{Family, wide}
 use Rattle.samples.specs.Words.{Sample, allWords, pairUp}
-use Rattle.samples.specs.Runs.{radix, isRun, isBad, values, firstBad}
+use Rattle.samples.specs.Runs.{radix, isRun, isBad, values, firstBad, behind}
 
 -- a ping holds at most 32,764 values
 abbrev pub most : ℕ
@@ -28,6 +29,11 @@ wordless f w = isRun (f .radix) w || isBad f w
 unfoldable pub firstWordless : Family → List Sample → ℕ
 firstWordless f [] = 0
 firstWordless f (x ∷ s) = elim (wordless f (x .1)) [ true ↦ 0 | false ↦ firstWordless f s + 1 ]
+
+-- a length under the last sample number plus 2, or under 1 for a ping without samples
+abbrev pub tooShort : List Sample → Option ℕ → Bool
+tooShort s none = false
+tooShort s (some n) = ltb n (behind 0 s + 1)
 
 -- some number is not above the one before it
 abbrev pub dropping : List Sample → Bool

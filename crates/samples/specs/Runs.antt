@@ -3,6 +3,7 @@
 use Prim.Native.Nat.{ℕ, zero, suc, _+_, _-_, _*_, _/_, _%_}
 use mathlib.Core.Bool.{Bool, true, false, _&&_}
 use mathlib.Core.List.{List, [], _∷_, _++_}
+use mathlib.Core.Option.{Option, some, none}
 use lib.Dec.{eqb, leb}
 use lib.ListN.{replicate}
 use Rattle.layout.specs.Families.{Family, wide}
@@ -32,6 +33,25 @@ decodeFrom R n (w ∷ ws) =
 -- sample numbers start at 0
 abbrev pub decode : ℕ → List ℕ → List Sample
 decode R ws = decodeFrom R 0 ws
+
+-- ---- the length of a ping
+-- how many samples words are, runs counted, n of them standing before
+unfoldable pub samplesFrom : ℕ → ℕ → List ℕ → ℕ
+samplesFrom R n [] = n
+samplesFrom R n (w ∷ ws) =
+    elim (isRun R w) [
+      | true ↦ samplesFrom R (n + runLength R w) ws
+      | false ↦ samplesFrom R (n + 1) ws
+    ]
+
+-- the last word is a run; where there is none, as the word before says
+unfoldable pub endsFrom : ℕ → Bool → List ℕ → Bool
+endsFrom R before [] = before
+endsFrom R before (w ∷ ws) = endsFrom R (isRun R w) ws
+
+-- a ping that ends in a run has its number of samples, runs counted, as its length; any other has none
+unfoldable pub pingLength : ℕ → List ℕ → Option ℕ
+pingLength R ws = elim (endsFrom R false ws) [ true ↦ some (samplesFrom R 0 ws) | false ↦ none ]
 
 -- ---- values
 -- a value outside the limits of its family
@@ -67,7 +87,16 @@ unfoldable pub encodeFrom : ℕ → ℕ → List Sample → ℕ → List ℕ
 encodeFrom R n [] t = gap R t
 encodeFrom R n (x ∷ s) t = gap R (x .0 - n) ++ (x .1 ∷ encodeFrom R (x .0 + 1) s t)
 
--- a ping without samples gets the one word of a run of 1; any other no run after the last value
-abbrev pub fewest : ℕ → List Sample → List ℕ
-fewest R [] = shortestRun R ∷ []
-fewest R (x ∷ s) = encodeFrom R 0 (x ∷ s) 0
+-- the number behind the last sample's; n where there is none
+unfoldable pub behind : ℕ → List Sample → ℕ
+behind n [] = n
+behind n (x ∷ s) = behind (x .0 + 1) s
+
+-- the samples below threshold behind the last value, as many as a length says
+abbrev pub quiet : List Sample → Option ℕ → ℕ
+quiet s none = 0
+quiet s (some n) = n - behind 0 s
+
+-- the fewest words of samples and a length: without one, no run behind the last value
+unfoldable pub fewest : ℕ → List Sample → Option ℕ → List ℕ
+fewest R s l = encodeFrom R 0 s (quiet s l)

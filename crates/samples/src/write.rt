@@ -12,7 +12,8 @@ ghost use Rattle.layout.specs.Families.{wide};
 ghost use Rattle.samples.specs.Words.{unwords, unpair};
 ghost use Rattle.samples.specs.Lists.{paired};
 ghost use Rattle.samples.specs.inner.Lists.{numbered, valued};
-ghost use Rattle.samples.specs.Runs.{radix, gap, fewest};
+ghost use Rattle.samples.specs.Runs.{radix, gap, encodeFrom};
+ghost use Rattle.samples.specs.Runs.{behind as numberBehind};
 ghost use Rattle.samples.specs.Judging.{firstDrop, firstWordless};
 
 // The samples of the longest run, and its word.
@@ -59,31 +60,49 @@ pub fn first_wordless(values: &[i32]) -> usize
     i
 }
 
-// How many the fewest words of samples with these numbers are.
-pub fn count_words(numbers: &[u32]) -> usize
-    requires { ⌜ firstDrop 0 (numbered (now numbers)) ≡ length (now numbers) ⌝ }
-    ensures { λ r. ⌜ r ≡ length (fewest radix (numbered (now (numbers .entry)))) ⌝ }
+// The number behind the last sample's; 0 where there is none.
+pub fn behind(numbers: &[u32]) -> usize
+    ensures { λ r. ⌜ r ≡ numberBehind 0 (numbered (now (numbers .entry))) ⌝ }
     ensures { λ r. ⌜ r ≤ 2 ^ 32 ⌝ }
 {
-    // the run of a ping without samples
-    if numbers.len() == 0 {
-        return 1;
+    let n = numbers.len();
+    if n == 0 {
+        return 0;
     }
+    wide(numbers[n - 1]) + 1
+}
+
+// How many runs a gap of samples below threshold takes: as many as cover it.
+pub fn runs(quiet: usize) -> usize
+    requires { ⌜ quiet ≤ 2 ^ 32 ⌝ }
+    ensures { λ r. ⌜ r ≡ length (gap radix quiet) ⌝ }
+    ensures { λ r. ⌜ r ≤ quiet ⌝ }
+{
+    (quiet + (FULL - 1)) / FULL
+}
+
+// How many the fewest words of samples with these numbers are, with so many quiet samples behind the last.
+pub fn count_words(numbers: &[u32], quiet: usize) -> usize
+    requires { ⌜ firstDrop 0 (numbered (now numbers)) ≡ length (now numbers) ⌝ }
+    requires { ⌜ quiet ≤ 2 ^ 32 ⌝ }
+    ensures { λ r. ⌜ r ≡ length (encodeFrom radix 0 (numbered (now (numbers .entry))) quiet) ⌝ }
+    ensures { λ r. ⌜ r ≤ 2 ^ 33 ⌝ }
+{
     let mut count: usize = 0;
     let mut next: usize = 0;
     let mut i: usize = 0;
     while i < numbers.len() {
         let number = wide(numbers[i]);
-        // a gap takes as many runs as cover it, the value one word
-        count += (number - next + (FULL - 1)) / FULL + 1;
+        // the runs of its gap, and the value one word
+        count += runs(number - next) + 1;
         next = number + 1;
         i += 1;
     }
-    count
+    count + runs(quiet)
 }
 
 // The words of a gap of samples below threshold, full runs first and the remainder last; the place behind them.
-fn write_gap(out: &mut [u8], at: usize, msb: bool, quiet: usize) -> usize
+pub fn write_gap(out: &mut [u8], at: usize, msb: bool, quiet: usize) -> usize
     requires { ⌜ at + 4 * length (gap radix quiet) ≤ length (now out) ⌝ }
     ensures { λ r. ⌜ r ≡ at + 4 * length (gap radix quiet) ⌝ }
     ensures { λ _. ⌜ now (out .exit) ≡ sets (now (out .entry)) at (unwords 4 msb (gap radix quiet)) ⌝ }
@@ -103,20 +122,23 @@ fn write_gap(out: &mut [u8], at: usize, msb: bool, quiet: usize) -> usize
     to + WORD
 }
 
-// The fewest words of samples, whose numbers and values are handed over apart: each value behind its gap, nothing behind the last.
-pub fn write_words(numbers: &[u32], values: &[i32], msb: bool, out: &mut [u8], at: usize)
+// The fewest words of samples, whose numbers and values are handed over apart: each value behind its gap, and so many quiet samples
+// behind the last.
+pub fn write_words(
+    numbers: &[u32],
+    values: &[i32],
+    quiet: usize,
+    msb: bool,
+    out: &mut [u8],
+    at: usize,
+)
     requires { ⌜ length (now values) ≡ length (now numbers) ⌝ }
     requires { ⌜ firstDrop 0 (paired (now numbers) (now values)) ≡ length (now numbers) ⌝ }
-    requires { ⌜ at + 4 * length (fewest radix (paired (now numbers) (now values))) ≤ length (now out) ⌝ }
+    requires { ⌜ at + 4 * length (encodeFrom radix 0 (paired (now numbers) (now values)) quiet) ≤ length (now out) ⌝ }
     ensures { λ _.
         ⌜ now (out .exit) ≡ sets (now (out .entry)) at
-        (unwords 4 msb (fewest radix (paired (now (numbers .entry)) (now (values .entry))))) ⌝ }
+        (unwords 4 msb (encodeFrom radix 0 (paired (now (numbers .entry)) (now (values .entry))) quiet)) ⌝ }
 {
-    // a ping has at least one word, so one without samples gets a run
-    if numbers.len() == 0 {
-        order::store4(out, at, msb, SHORTEST_RUN);
-        return;
-    }
     let mut to = at;
     let mut next: usize = 0;
     let mut i: usize = 0;
@@ -128,6 +150,7 @@ pub fn write_words(numbers: &[u32], values: &[i32], msb: bool, out: &mut [u8], a
         next = number + 1;
         i += 1;
     }
+    write_gap(out, to, msb, quiet);
 }
 
 // Samples, whose numbers and values are handed over apart, as pairs.

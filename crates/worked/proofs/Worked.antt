@@ -12,7 +12,8 @@ use Rattle.frame.specs.Files.{mark, isMsb, marked}
 use Rattle.frame.specs.Steps.{stepForward}
 use Rattle.frame.specs.Tuples.{tuplesFrom, tuplesOf}
 use Rattle.samples.specs.Words.{words, allWords, unwords, pairUp, unpair}
-use Rattle.samples.specs.Runs.{isRun, runLength, decodeFrom, isBad, values, firstBad}
+use Rattle.samples.specs.Runs.{isRun, runLength, decodeFrom, samplesFrom, endsFrom, pingLength, isBad, values, firstBad, lastRun, gap}
+use Rattle.samples.specs.Runs.{encodeFrom, behind, fewest}
 use Rattle.samples.specs.Judging.{firstDrop}
 use Rattle.links.specs.Links.{has, declaredOwn, comparedIn, naming, firstWrong}
 use Rattle.content.specs.Pings.{wordsIn, attributeIn, countIn, contentU, contentC, dataU, dataC}
@@ -34,7 +35,7 @@ pub worked : allHold table ≡ true
 unfolding table allHold holds readAnswer sampleAnswer normalFile normalTuple linesOf allDigits bytesIn inputFrom hex decimals normalAnswer
     singleForm singleAnswer firstUnlisted items contentOf normalTuples formed normalOf ending turn checkFrom checkFile formOf itemOf
     digestOf wordsIn attributeIn countIn contentU contentC dataU dataC has naming firstWrong words allWords unwords pairUp unpair isRun
-    runLength decodeFrom isBad values firstBad firstDrop allowed frame sizeAt kindAt backAt framing mark isMsb marked stepForward tuplesFrom
+    runLength decodeFrom samplesFrom endsFrom pingLength lastRun gap encodeFrom behind fewest isBad values firstBad firstDrop allowed frame sizeAt kindAt backAt framing mark isMsb marked stepForward tuplesFrom
     tuplesOf classes inClass listings among listingOf declaredOwn
 worked = refl
 
@@ -47,7 +48,7 @@ pub accepted : map (λ (v : List String). checkFile (fileOf v)) variants ≡ map
 unfolding lsb lsbOtherCut msb msbOtherCut normalFile normalTuple linesOf allDigits bytesIn inputFrom hex decimals normalAnswer singleForm
     singleAnswer firstUnlisted items contentOf normalTuples formed normalOf ending turn checkFrom checkFile formOf itemOf digestOf wordsIn
     attributeIn countIn contentU contentC dataU dataC has comparedIn naming firstWrong words allWords unwords pairUp unpair isRun runLength
-    decodeFrom isBad values firstBad firstDrop allowed frame sizeAt kindAt backAt framing mark isMsb marked stepForward tuplesFrom tuplesOf
+    decodeFrom samplesFrom endsFrom pingLength lastRun gap encodeFrom behind fewest isBad values firstBad firstDrop allowed frame sizeAt kindAt backAt framing mark isMsb marked stepForward tuplesFrom tuplesOf
     classes inClass listings among listingOf declaredOwn
 accepted = refl
 
@@ -57,6 +58,6 @@ pub one-form : map (λ (v : List String). normalFile (text v)) (normal ∷ varia
 unfolding normal lsb lsbOtherCut msb msbOtherCut normalFile normalTuple linesOf allDigits bytesIn inputFrom hex decimals normalAnswer
     singleForm singleAnswer firstUnlisted items contentOf normalTuples formed normalOf ending turn checkFrom checkFile formOf itemOf
     digestOf wordsIn attributeIn countIn contentU contentC dataU dataC has naming firstWrong words allWords unwords pairUp unpair isRun
-    runLength decodeFrom isBad values firstBad firstDrop allowed frame sizeAt kindAt backAt framing mark isMsb marked stepForward tuplesFrom
+    runLength decodeFrom samplesFrom endsFrom pingLength lastRun gap encodeFrom behind fewest isBad values firstBad firstDrop allowed frame sizeAt kindAt backAt framing mark isMsb marked stepForward tuplesFrom
     tuplesOf classes inClass listings among listingOf declaredOwn
 one-form = refl

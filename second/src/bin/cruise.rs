@@ -32,9 +32,10 @@ const ALL_CHANNELS: u16 = 65535;
 const INDEX: u16 = 65406;
 
 /// The stream of chance of each survey's first spelling; from here on, several
-/// pings are U-32 in one spelling and C-32 in another.
-const STREAM: u64 = 10;
-const SPLIT_BEAM_STREAM: u64 = 20;
+/// pings are U-32 in one spelling and C-32 in another, and pings that end in silence
+/// are cut in more runs in some.
+const STREAM: u64 = 25;
+const SPLIT_BEAM_STREAM: u64 = 125;
 
 /// A signed field's bits.
 fn signed(number: i16) -> Piece {
@@ -157,8 +158,12 @@ fn index() -> Draft {
     draft(INDEX, Body::Fields(vec![Two(6), Four(START)]))
 }
 
+/// The samples of a ping, and its length where silence ends it.
+type Sampled = (Vec<(u32, i32)>, Option<u32>);
+
 /// A ping; one without samples was taken with a passive transmitter.
-fn ping(seconds: u32, channel: u16, number: u32, bottom: u32, samples: Vec<(u32, i32)>) -> Draft {
+fn ping(seconds: u32, channel: u16, number: u32, bottom: u32, sampled: Sampled) -> Draft {
+    let (samples, length) = sampled;
     let passive = samples.is_empty();
     let header = vec![
         Two(1250),
@@ -168,7 +173,12 @@ fn ping(seconds: u32, channel: u16, number: u32, bottom: u32, samples: Vec<(u32,
         Four(number),
         Four(bottom),
     ];
-    draft(PING_U32, Body::Ping { header, samples })
+    let body = Body::Ping {
+        header,
+        samples,
+        length,
+    };
+    draft(PING_U32, body)
 }
 
 /// Echoes of neighbouring samples, each a bit under the strongest.
@@ -178,8 +188,9 @@ fn layer(rng: &mut Rng, first: u32, count: u32, strongest: i32) -> Vec<(u32, i32
         .collect()
 }
 
-/// Six pings with silence between their layers. Values are millionths of a dB, in
-/// channel 2 of a volt.
+/// Six pings with silence between their layers, behind the last ones too where the
+/// recorder went on below the bottom. Values are millionths of a dB, in channel 2 of a
+/// volt.
 fn pings(rng: &mut Rng) -> [Draft; 6] {
     let shoal = [
         layer(rng, 0, 3, -8_000_000),
@@ -198,12 +209,13 @@ fn pings(rng: &mut Rng) -> [Draft; 6] {
     ]
     .concat();
     [
-        ping(4, 1, 1, 70_650, shoal),
-        ping(4, 2, 1, 70_650, volts),
-        ping(5, 3, 1, 2_616_000, deep),
-        ping(6, 2, 2, NO_BOTTOM, Vec::new()),
-        ping(7, 1, 2, 70_780, bottom),
-        ping(8, 3, 2, 5_203_000, last),
+        ping(4, 1, 1, 70_650, (shoal, Some(1905))),
+        ping(4, 2, 1, 70_650, (volts, None)),
+        // Behind its layer, too, is more silence than one run can hold.
+        ping(5, 3, 1, 2_616_000, (deep, Some(140_003))),
+        ping(6, 2, 2, NO_BOTTOM, (Vec::new(), Some(1905))),
+        ping(7, 1, 2, 70_780, (bottom, None)),
+        ping(8, 3, 2, 5_203_000, (last, None)),
     ]
 }
 
@@ -262,13 +274,13 @@ fn split_beam_pings(rng: &mut Rng) -> [Draft; 7] {
     let towed_bottom = [layer(rng, 433, 3, -51_000_000), vec![(981, -65_536)]].concat();
     let at = |seconds| NEXT_DAY + seconds;
     [
-        ping(at(4), 11, 1, 30_860, shoal),
-        ping(at(4), 13, 1, 30_860, power),
-        ping(at(4), 14, 1, 30_860, targets),
-        ping(at(5), 15, 1, 35_970, towed),
-        ping(at(6), 11, 2, 30_910, bottom),
-        ping(at(6), 14, 2, NO_BOTTOM, Vec::new()),
-        ping(at(7), 15, 2, 36_020, towed_bottom),
+        ping(at(4), 11, 1, 30_860, (shoal, None)),
+        ping(at(4), 13, 1, 30_860, (power, Some(1389))),
+        ping(at(4), 14, 1, 30_860, (targets, None)),
+        ping(at(5), 15, 1, 35_970, (towed, Some(982))),
+        ping(at(6), 11, 2, 30_910, (bottom, None)),
+        ping(at(6), 14, 2, NO_BOTTOM, (Vec::new(), Some(90_002))),
+        ping(at(7), 15, 2, 36_020, (towed_bottom, None)),
     ]
 }
 
@@ -327,8 +339,7 @@ struct Spelling {
     index: Option<usize>,
 }
 
-/// Silence in the fewest runs, or cut in more, which then also go on behind a ping's
-/// last value; the spaces of "lsb" alone are 0.
+/// Silence in the fewest runs or cut otherwise; the spaces of "lsb" alone are 0.
 fn spelling(
     name: &'static str,
     order: Order,
@@ -342,7 +353,6 @@ fn spelling(
             rubbish: name != "lsb",
             pings,
             cut,
-            trail: cut,
             ..Style::plain(order)
         },
         index,

@@ -18,10 +18,12 @@ pub enum Piece {
 #[derive(Clone, PartialEq, Eq, Debug)]
 pub enum Body {
     Fields(Vec<Piece>),
-    /// A sound ping; the style says whether it becomes U-32 or C-32.
+    /// A sound ping; the style says whether it becomes U-32 or C-32, but one with a
+    /// length, or without samples, is C-32.
     Ping {
         header: Vec<Piece>,
         samples: Vec<(u32, i32)>,
+        length: Option<u32>,
     },
     /// A U-32 ping as it stands, sound or not.
     Pairs {
@@ -95,10 +97,8 @@ pub struct Style {
     /// Rubbish in the spaces.
     pub rubbish: bool,
     pub pings: PingStyle,
-    /// Runs cut in more pieces than needed.
+    /// Runs cut otherwise than full ones first, and in more pieces than needed.
     pub cut: bool,
-    /// Runs behind the last value.
-    pub trail: bool,
     /// Index-class tuples strewn in.
     pub index: bool,
 }
@@ -118,8 +118,7 @@ impl Style {
             printed: rng.chance(40),
             rubbish: rng.chance(60),
             pings: rng.pick(&[PingStyle::U32, PingStyle::C32, PingStyle::Mixed]),
-            cut: rng.chance(50),
-            trail: rng.chance(50),
+            cut: rng.chance(60),
             index: rng.chance(40),
         }
     }
@@ -131,7 +130,6 @@ impl Style {
             rubbish: false,
             pings: PingStyle::U32,
             cut: false,
-            trail: false,
             index: false,
         }
     }
@@ -220,9 +218,13 @@ impl Pen {
         let mut inner = Pen::new(self.order);
         match &draft.body {
             Body::Fields(pieces) => inner.pieces(pieces, style, rng),
-            Body::Ping { header, samples } => {
+            Body::Ping {
+                header,
+                samples,
+                length,
+            } => {
                 inner.pieces(header, style, rng);
-                code = inner.ping(samples, style, rng);
+                code = inner.ping(samples, *length, style, rng);
             }
             Body::Pairs { header, pairs } => {
                 inner.pieces(header, style, rng);
@@ -255,15 +257,21 @@ impl Pen {
         });
     }
 
-    /// Writes a sound list of samples and gives the type that it has become.
-    fn ping(&mut self, samples: &[(u32, i32)], style: &Style, rng: &mut Rng) -> u16 {
+    /// Writes a sound ping and gives the type that it has become.
+    fn ping(
+        &mut self,
+        samples: &[(u32, i32)],
+        length: Option<u32>,
+        style: &Style,
+        rng: &mut Rng,
+    ) -> u16 {
         let compressed = match style.pings {
             PingStyle::U32 => false,
             PingStyle::C32 => true,
             PingStyle::Mixed => rng.chance(50),
         };
-        if samples.is_empty() || (compressed && suits_c32(samples)) {
-            let words = cut_words(samples, style, rng);
+        if length.is_some() || (compressed && suits_c32(samples, None)) {
+            let words = cut_words(samples, length, style, rng);
             self.words(samples.len() as u32, &words);
             return 10010;
         }
@@ -278,72 +286,138 @@ impl Pen {
 /// The most words a C-32 ping of 262,144 bytes has room for.
 const MOST_WORDS: u64 = (262_144 - 36) / 4;
 
-fn words_needed(samples: &[(u32, i32)]) -> u64 {
+/// The gap before each sample, and the one behind the last up to the length.
+fn gaps(samples: &[(u32, i32)], length: Option<u32>) -> (Vec<u64>, u64) {
     let mut next = 0;
-    let mut words = 0;
-    for (number, _) in samples {
+    let before = samples.iter().map(|(number, _)| {
         let gap = u64::from(*number).saturating_sub(next);
-        words += 1 + gap / 65_536 + u64::from(gap % 65_536 != 0);
         next = u64::from(*number) + 1;
-    }
-    words
+        gap
+    });
+    let before = before.collect();
+    (before, u64::from(length.unwrap_or(0)).saturating_sub(next))
+}
+
+/// The fewest run words for a gap.
+fn runs_needed(gap: u64) -> u64 {
+    gap / 65_536 + u64::from(gap % 65_536 != 0)
+}
+
+fn words_needed(samples: &[(u32, i32)], length: Option<u32>) -> u64 {
+    let (before, behind) = gaps(samples, length);
+    let runs = before.into_iter().chain([behind]).map(runs_needed);
+    samples.len() as u64 + runs.sum::<u64>()
 }
 
 /// Whether every value has a word and all words have room.
-pub(super) fn suits_c32(samples: &[(u32, i32)]) -> bool {
+pub(super) fn suits_c32(samples: &[(u32, i32)], length: Option<u32>) -> bool {
     let has_word = |value: i32| {
         (-2_147_418_112..=-65_537).contains(&value) || (0..=2_147_418_111).contains(&value)
     };
     samples.len() <= 32_764
         && samples.iter().all(|(_, value)| has_word(*value))
-        && words_needed(samples) <= MOST_WORDS
+        && words_needed(samples, length) <= MOST_WORDS
 }
 
-/// Run words for a gap: the fewest, or cut in more while there is slack.
-fn cut_gap(mut gap: u64, cut: bool, slack: &mut u64, rng: &mut Rng, words: &mut Vec<u32>) {
-    let run = |length: u64| 0xFFFF_0000 | (length as u32 - 1);
-    for _ in 0..3 {
-        if cut && gap > 1 && *slack > 0 && rng.chance(60) {
+/// The word of a run.
+fn run(length: u64) -> u32 {
+    0xFFFF_0000 | (length as u32 - 1)
+}
+
+/// Ways to say one gap in runs.
+#[derive(Clone, Copy, PartialEq, Eq, Debug)]
+pub(super) enum Cut {
+    /// Full runs first, the remainder last: the normal form's.
+    Fewest,
+    /// As few words, the remainder first.
+    RemainderFirst,
+    /// Two shares of a half each, cut in the fewest.
+    Halves,
+    /// About so many runs of one length, the last one shorter.
+    Short(u64),
+}
+
+impl Cut {
+    pub(super) const ALL: [Cut; 4] = [
+        Cut::Fewest,
+        Cut::RemainderFirst,
+        Cut::Halves,
+        Cut::Short(40),
+    ];
+
+    pub(super) fn runs(self, gap: u64) -> Vec<u32> {
+        let full = |gap: u64| vec![run(65_536); (gap / 65_536) as usize];
+        let rest = |gap: u64| (gap % 65_536 != 0).then(|| run(gap % 65_536));
+        match self {
+            Cut::Fewest => full(gap).into_iter().chain(rest(gap)).collect(),
+            Cut::RemainderFirst => rest(gap).into_iter().chain(full(gap)).collect(),
+            Cut::Halves => {
+                let half = gap / 2;
+                [half, gap - half]
+                    .into_iter()
+                    .flat_map(|share| Cut::Fewest.runs(share))
+                    .collect()
+            }
+            Cut::Short(count) => {
+                let length = gap.div_ceil(count).clamp(1, 65_536);
+                let mut runs = vec![run(length); (gap / length) as usize];
+                runs.extend((gap % length != 0).then(|| run(gap % length)));
+                runs
+            }
+        }
+    }
+}
+
+/// Run words for a gap: the fewest, or cut otherwise while there is slack.
+fn cut_gap(gap: u64, cut: bool, slack: &mut u64, rng: &mut Rng) -> Vec<u32> {
+    if !cut || gap == 0 {
+        return Cut::Fewest.runs(gap);
+    }
+    let runs = match rng.below(6) {
+        0 | 1 => cut_anywhere(gap, rng),
+        _ => rng.pick(&Cut::ALL).runs(gap),
+    };
+    let more = runs.len() as u64 - runs_needed(gap);
+    if more > *slack {
+        return Cut::Fewest.runs(gap);
+    }
+    *slack -= more;
+    runs
+}
+
+/// Up to three runs of any length, then the fewest.
+fn cut_anywhere(mut gap: u64, rng: &mut Rng) -> Vec<u32> {
+    let mut runs = Vec::new();
+    for _ in 0..rng.below(4) {
+        if gap > 1 {
             let most = (gap - 1).min(65_536);
             let length = match rng.below(3) {
                 0 => 1,
                 1 => most,
                 _ => 1 + rng.below(most),
             };
-            // Cutting here adds one word at most.
-            *slack -= 1;
-            words.push(run(length));
+            runs.push(run(length));
             gap -= length;
         }
     }
-    while gap > 65_536 {
-        words.push(run(65_536));
-        gap -= 65_536;
-    }
-    if gap > 0 {
-        words.push(run(gap));
-    }
+    runs.extend(Cut::Fewest.runs(gap));
+    runs
 }
 
-fn cut_words(samples: &[(u32, i32)], style: &Style, rng: &mut Rng) -> Vec<u32> {
+fn cut_words(
+    samples: &[(u32, i32)],
+    length: Option<u32>,
+    style: &Style,
+    rng: &mut Rng,
+) -> Vec<u32> {
+    let mut slack = MOST_WORDS - words_needed(samples, length);
+    let (before, behind) = gaps(samples, length);
     let mut words = Vec::new();
-    let mut slack = MOST_WORDS - words_needed(samples);
-    let mut next = 0;
-    for (number, value) in samples {
-        let gap = u64::from(*number).saturating_sub(next);
-        cut_gap(gap, style.cut, &mut slack, rng, &mut words);
+    for (gap, (_, value)) in before.into_iter().zip(samples) {
+        words.extend(cut_gap(gap, style.cut, &mut slack, rng));
         words.push(*value as u32);
-        next = u64::from(*number) + 1;
     }
-    if samples.is_empty() {
-        slack -= 1;
-        words.push(0xFFFF_0000 | if style.trail { u32::from(rng.two()) } else { 0 });
-    }
-    if style.trail {
-        for _ in 0..rng.below(4).min(slack) {
-            words.push(0xFFFF_0000 | u32::from(rng.two()));
-        }
-    }
+    words.extend(cut_gap(behind, style.cut, &mut slack, rng));
     words
 }
 

@@ -575,7 +575,7 @@ fn spoil(drafts: &mut Vec<Draft>, at: usize, kind: Kind, rng: &mut Rng) -> Optio
             let id = unused_channel(rng, &channels);
             let orphan = match rng.below(4) {
                 0 | 1 => broken_ping(rng, id),
-                2 => ping(rng, id, vec![]),
+                2 => silent_ping(rng, id, 1),
                 _ => ping(rng, id, vec![(4, 4)]),
             };
             insert((orphan, at_tuple(13)))

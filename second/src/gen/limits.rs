@@ -1,6 +1,6 @@
 //! Limit cases, each with the answer that its limit tells.
 
-use super::draft::{render, Body, Draft, Patch, Piece, PingStyle, Style};
+use super::draft::{render, Body, Cut, Draft, Patch, Piece, PingStyle, Style};
 use super::sound::*;
 use super::vessels::{self, MOST_CHANNELS, MOST_SOUNDERS};
 use super::{Case, Rng};
@@ -14,7 +14,7 @@ fn base(rng: &mut Rng) -> Vec<Draft> {
         sounder(rng, 1, 1),
         channel(rng, 1, 1),
         position(rng),
-        ping(rng, 1, vec![]),
+        silent_ping(rng, 1, 1),
         end_of_file(rng, 2),
     ]
 }
@@ -114,17 +114,22 @@ fn identifier_case(nth: usize, style: &Style) -> Case {
     case(format!("identifier-{number}"), &drafts, style, 0, code)
 }
 
-/// A C-32 ping of given words, rightly counted, in a sound file.
-fn with_words(words: Vec<u32>) -> Vec<Draft> {
-    let mut rng = Rng::new(11);
+/// A C-32 ping of given words, rightly counted.
+fn words_ping(rng: &mut Rng, words: Vec<u32>) -> Draft {
     let count = words.iter().filter(|word| **word >> 16 != 0xFFFF).count() as u32;
-    let header = ping_header(&mut rng, 1);
+    let header = ping_header(rng, 1);
     let body = Body::Words {
         header,
         count,
         words,
     };
-    let more = vec![Draft::new(&mut rng, 10010, body)];
+    Draft::new(rng, 10010, body)
+}
+
+/// The same in a sound file.
+fn with_words(words: Vec<u32>) -> Vec<Draft> {
+    let mut rng = Rng::new(11);
+    let more = vec![words_ping(&mut rng, words)];
     with(&mut rng, more)
 }
 
@@ -161,12 +166,55 @@ const WORDS: [(&str, &[u32], Option<usize>); 18] = [
     ("zero-behind-run", &[0xFFFF_0000, 0, 0xFFFF_0001], None),
 ];
 
-/// Pings of many words: how many values, runs, and the code.
-const MANY: [(usize, usize, u32); 7] = [
+/// Silences about the longest run, and about several of them.
+const SILENCES: [u64; 10] = [
+    1, 2, 65_535, 65_536, 65_537, 131_072, 131_073, 262_143, 262_144, 262_145,
+];
+
+/// Pings of one kind in all these silences, each cut in every way.
+fn silences_case(name: &str, ping_words: fn(Vec<u32>) -> Vec<u32>, style: &Style) -> Case {
+    let mut rng = Rng::new(14);
+    let runs = SILENCES
+        .iter()
+        .flat_map(|gap| Cut::ALL.map(|cut| cut.runs(*gap)));
+    let pings = runs.map(|runs| words_ping(&mut rng, ping_words(runs)));
+    let pings = pings.collect();
+    let drafts = with(&mut rng, pings);
+    case(format!("silence-{name}"), &drafts, style, MORE, 0)
+}
+
+/// What a ping has beside its silence: nothing, a value before it, one behind it, or one
+/// between two silences.
+#[rustfmt::skip]
+const SILENT: [(&str, fn(Vec<u32>) -> Vec<u32>); 4] = [
+    ("alone", |runs| runs),
+    ("behind", |runs| [vec![5], runs].concat()),
+    ("before", |runs| [runs, vec![5]].concat()),
+    ("around", |runs| [runs.clone(), vec![5], runs].concat()),
+];
+
+/// The most words of a tuple, all runs: the greatest length that a ping can have, and
+/// as many runs of 1, which are one word in the normal form.
+fn longest_silence_case(name: &str, run: u32, style: &Style) -> Case {
+    let drafts = with_words(vec![run; 65_527]);
+    case(format!("silence-{name}"), &drafts, style, MORE, 0)
+}
+
+/// The most values, and one quiet sample behind them.
+fn full_and_silent_case(style: &Style) -> Case {
+    let words = (0..32_764).chain([0xFFFF_0000]).collect();
+    let drafts = with_words(words);
+    case("silence-behind-32764".to_string(), &drafts, style, MORE, 0)
+}
+
+/// Pings of many words: how many values, runs, and the code. A run comes before a value,
+/// so that more runs than values end the ping.
+const MANY: [(usize, usize, u32); 8] = [
     (32_763, 0, 0),
     (32_764, 0, 0),
     (32_765, 0, 11),
     (32_764, 32_763, 0),
+    (32_763, 32_764, 0),
     (32_765, 100, 11),
     (0, 65_527, 0),
     (65_527, 0, 11),
@@ -280,6 +328,17 @@ fn makings() -> Vec<Making> {
             words_case(name, words, offender, style)
         }));
     }
+    for (name, ping_words) in SILENT {
+        makings.push(Box::new(move |style| {
+            silences_case(name, ping_words, style)
+        }));
+    }
+    for (name, run) in [("longest", 0xFFFF_FFFF), ("most-runs", 0xFFFF_0000)] {
+        makings.push(Box::new(move |style| {
+            longest_silence_case(name, run, style)
+        }));
+    }
+    makings.push(Box::new(full_and_silent_case));
     for nth in 0..MANY.len() {
         makings.push(Box::new(move |style| many_case(nth, style)));
     }

@@ -62,10 +62,7 @@ fn one_tuple(rng: &mut Rng) -> (Draft, Style) {
             let code = unlisted_code(rng);
             unlisted(rng, code)
         }
-        2 | 3 => {
-            let samples = sample_list(rng, true);
-            ping(rng, 9, samples)
-        }
+        2 | 3 => any_ping(rng, 9, true),
         4 => signature(rng),
         _ => drafts[rng.index(drafts.len())].clone(),
     };
@@ -128,10 +125,12 @@ fn damaged_tuple_file(rng: &mut Rng) -> Vec<u8> {
 }
 
 /// A C-32 ping whose U-32 form has mark and tuple just within the limit of
-/// 65,536 bytes, or just past it.
+/// 65,536 bytes, or just past it; at times with a length, so that it has none.
 fn dense_file(rng: &mut Rng, values: u32) -> Vec<u8> {
-    let samples = (0..values).map(|n| (n, n as i32)).collect();
-    let draft = ping(rng, 3, samples);
+    let samples: Vec<(u32, i32)> = (0..values).map(|n| (n, n as i32)).collect();
+    let silence = rng.pick(&[0, 0, 1, 65_537]);
+    let length = length_with(&samples, silence);
+    let draft = ping_of_length(rng, 3, samples, length);
     let style = Style {
         pings: PingStyle::C32,
         ..Style::plain(rng.pick(&Order::BOTH))

@@ -1,8 +1,8 @@
 //! Pairs of accepted files: of equal content but not of equal bytes, and of
 //! contents that differ in one small place.
 
-use super::draft::{render, Body, Draft, Piece, Style};
-use super::sound::{sound_drafts, Wish};
+use super::draft::{render, suits_c32, Body, Draft, Piece, PingStyle, Style};
+use super::sound::{length_with, sound_drafts, Wish};
 use super::Rng;
 
 /// Styles that let both files of a pair be normalised: unlisted types need
@@ -24,13 +24,15 @@ fn any_wish(rng: &mut Rng) -> Wish {
 }
 
 /// Two files of the same drafts: in two styles, or in one and apart in the
-/// signature's identifier alone.
+/// signature's identifier or in the cutting of silence alone.
 pub fn equal_pair(rng: &mut Rng) -> (Vec<u8>, Vec<u8>) {
     let wish = any_wish(rng);
     let drafts = sound_drafts(rng, &wish);
     let one = any_style(rng, &wish);
-    if rng.chance(20) {
-        return identifier_pair(rng, &drafts, one);
+    match rng.below(5) {
+        0 => return identifier_pair(rng, &drafts, one),
+        1 => return cut_pair(rng, &drafts, one),
+        _ => {}
     }
     let other = any_style(rng, &wish);
     let one = render(&drafts, &one, rng).bytes;
@@ -47,6 +49,23 @@ fn identifier_pair(rng: &mut Rng, drafts: &[Draft], one: Style) -> (Vec<u8>, Vec
     let again = &mut rng.clone();
     let one = render(drafts, &one, rng).bytes;
     (one, render(drafts, &other, again).bytes)
+}
+
+/// The same bytes but for silence, in the fewest runs and cut otherwise.
+fn cut_pair(rng: &mut Rng, drafts: &[Draft], style: Style) -> (Vec<u8>, Vec<u8>) {
+    let fewest = Style {
+        rubbish: false,
+        pings: PingStyle::C32,
+        cut: false,
+        index: false,
+        ..style
+    };
+    let other = Style {
+        cut: true,
+        ..fewest.clone()
+    };
+    let fewest = render(drafts, &fewest, rng).bytes;
+    (fewest, render(drafts, &other, rng).bytes)
 }
 
 /// Whether the style alone says what a piece becomes.
@@ -97,9 +116,10 @@ fn change_samples(rng: &mut Rng, samples: &mut Vec<(u32, i32)>) -> bool {
     }
     let at = rng.index(samples.len());
     match rng.below(3) {
-        0 => {
+        0 if samples.len() > 1 => {
             samples.remove(at);
         }
+        0 => return false,
         1 => samples[at].1 ^= 1,
         _ => {
             let above = samples.get(at + 1).map_or(1 << 32, |(n, _)| u64::from(*n));
@@ -110,6 +130,38 @@ fn change_samples(rng: &mut Rng, samples: &mut Vec<(u32, i32)>) -> bool {
         }
     }
     true
+}
+
+/// One quiet sample more behind the last value, one less, or many more; where none is
+/// left, a ping of samples has no length.
+fn change_length(rng: &mut Rng, samples: &[(u32, i32)], length: &mut Option<u32>) -> bool {
+    let values_end = samples.last().map_or(0, |(n, _)| u64::from(*n) + 1);
+    let silence = length.map_or(0, |length| u64::from(length) - values_end);
+    let other = match rng.below(4) {
+        0 => silence.saturating_sub(1),
+        1 => silence + rng.pick(&[65_535, 65_536, 65_537]),
+        _ => silence + 1,
+    };
+    let changed = length_with(samples, other);
+    let none_left = other == 0 && !samples.is_empty();
+    let possible = changed.is_some() || none_left;
+    if other == silence || !possible {
+        return false;
+    }
+    *length = changed;
+    true
+}
+
+/// Another list of samples, or another length. A ping with a length still has to hold
+/// all its samples.
+fn change_ping(rng: &mut Rng, samples: &mut Vec<(u32, i32)>, length: &mut Option<u32>) -> bool {
+    if rng.chance(40) {
+        return change_length(rng, samples, length);
+    }
+    let changed = change_samples(rng, samples);
+    let last = samples.last().map_or(0, |(n, _)| u64::from(*n) + 2);
+    let holds = |length: u32| u64::from(length) >= last && suits_c32(samples, Some(length));
+    changed && length.is_none_or(holds)
 }
 
 /// Types that may stand anywhere, or be missing, without breaking a rule.
@@ -149,16 +201,51 @@ fn change(rng: &mut Rng, drafts: &mut Vec<Draft>) -> bool {
                 data[place] ^= 1 << rng.below(8);
                 true
             }
-            Body::Ping { samples, .. } if rng.chance(70) => change_samples(rng, samples),
+            Body::Ping {
+                samples, length, ..
+            } if rng.chance(70) => change_ping(rng, samples, length),
             _ => change_piece(rng, &mut drafts[at]),
         },
     }
+}
+
+/// Two files whose bytes differ in one ping's silence behind its last value alone;
+/// none where no ping allows it.
+fn length_pair(rng: &mut Rng, drafts: &[Draft], style: &Style) -> Option<(Vec<u8>, Vec<u8>)> {
+    let is_ping = |draft: &&mut Draft| matches!(draft.body, Body::Ping { .. });
+    let mut other = drafts.to_vec();
+    let mut pings: Vec<&mut Draft> = other.iter_mut().filter(is_ping).collect();
+    let nth = rng.index(pings.len());
+    let Body::Ping {
+        samples, length, ..
+    } = &mut pings.get_mut(nth)?.body
+    else {
+        return None;
+    };
+    if !change_length(rng, samples, length) {
+        return None;
+    }
+    let style = Style {
+        pings: PingStyle::C32,
+        cut: false,
+        ..style.clone()
+    };
+    // The same stream for both, as above.
+    let again = &mut rng.clone();
+    let one = render(drafts, &style, rng).bytes;
+    Some((one, render(&other, &style, again).bytes))
 }
 
 /// Two accepted files whose contents differ in one small place.
 pub fn unequal_pair(rng: &mut Rng) -> (Vec<u8>, Vec<u8>) {
     let wish = any_wish(rng);
     let drafts = sound_drafts(rng, &wish);
+    if rng.chance(20) {
+        let style = any_style(rng, &wish);
+        if let Some(pair) = length_pair(rng, &drafts, &style) {
+            return pair;
+        }
+    }
     let mut other = drafts.clone();
     while !change(rng, &mut other) {
         other = drafts.clone();

@@ -1,6 +1,6 @@
 //! Drafts of sound files.
 
-use super::draft::{Body, Draft, Piece};
+use super::draft::{suits_c32, Body, Draft, Piece};
 use super::vessels::{MOST_CHANNELS, MOST_SOUNDERS};
 use super::Rng;
 use crate::layout::{class, is_listed, Class};
@@ -193,9 +193,37 @@ pub(super) fn ping_header(rng: &mut Rng, channel: u16) -> Vec<Piece> {
     ]
 }
 
+/// A ping of samples and without a length.
 pub(super) fn ping(rng: &mut Rng, channel: u16, samples: Vec<(u32, i32)>) -> Draft {
+    ping_of_length(rng, channel, samples, None)
+}
+
+/// A ping without samples, of some length.
+pub(super) fn silent_ping(rng: &mut Rng, channel: u16, length: u32) -> Draft {
+    ping_of_length(rng, channel, Vec::new(), Some(length))
+}
+
+/// A ping of samples, or of a length, or of both, which then have to suit C-32.
+pub(super) fn ping_of_length(
+    rng: &mut Rng,
+    channel: u16,
+    samples: Vec<(u32, i32)>,
+    length: Option<u32>,
+) -> Draft {
     let header = ping_header(rng, channel);
-    Draft::new(rng, 10000, Body::Ping { header, samples })
+    let body = Body::Ping {
+        header,
+        samples,
+        length,
+    };
+    Draft::new(rng, 10000, body)
+}
+
+/// A sound ping of any samples.
+pub(super) fn any_ping(rng: &mut Rng, channel: u16, wild: bool) -> Draft {
+    let samples = sample_list(rng, wild);
+    let length = any_length(rng, &samples);
+    ping_of_length(rng, channel, samples, length)
 }
 
 /// An unlisted tuple of some code with anything in it.
@@ -297,6 +325,34 @@ fn gap(rng: &mut Rng) -> u64 {
     }
 }
 
+/// Silence behind the last value, by number of samples.
+fn silence(rng: &mut Rng) -> u64 {
+    const SILENCES: [u64; 10] = [
+        1, 2, 65_535, 65_536, 65_537, 131_072, 131_073, 262_144, 262_145, 400_000,
+    ];
+    match rng.below(3) {
+        0 => rng.pick(&SILENCES),
+        1 => 1 + rng.below(400_000),
+        _ => 1 + rng.below(40),
+    }
+}
+
+/// The length of a ping that ends in so much silence; none without silence, or where
+/// such a ping can't be.
+pub(super) fn length_with(samples: &[(u32, i32)], silence: u64) -> Option<u32> {
+    let values_end = samples.last().map_or(0, |(n, _)| u64::from(*n) + 1);
+    let length = u32::try_from(values_end + silence).ok();
+    length.filter(|length| silence > 0 && suits_c32(samples, Some(*length)))
+}
+
+/// A length for a sound list, which half of those with samples have.
+pub fn any_length(rng: &mut Rng, samples: &[(u32, i32)]) -> Option<u32> {
+    if !samples.is_empty() && rng.chance(50) {
+        return None;
+    }
+    length_with(samples, silence(rng))
+}
+
 /// A sound list of samples; a wild one may suit U-32 alone.
 pub fn sample_list(rng: &mut Rng, wild: bool) -> Vec<(u32, i32)> {
     let count = match rng.below(20) {
@@ -367,8 +423,7 @@ impl Plan {
 
     fn add_ping(&mut self, rng: &mut Rng, wild: bool) {
         if let Some(id) = self.any_channel(rng) {
-            let samples = sample_list(rng, wild);
-            self.drafts.push(ping(rng, id, samples));
+            self.drafts.push(any_ping(rng, id, wild));
         }
     }
 

@@ -82,10 +82,12 @@ impl Vessel {
     }
 }
 
-/// A ping of the nth channel, which need not be declared: silent or not.
+/// A ping of the nth channel, which need not be declared: silent or not, and with or
+/// without a length.
 fn ping_of(rng: &mut Rng, nth: u16) -> Draft {
-    let samples = rng.pick(&[&[][..], &[(3, 5)]]).to_vec();
-    ping(rng, software(nth), samples)
+    let (samples, length) =
+        rng.pick(&[(&[][..], Some(1)), (&[(3, 5)], None), (&[(3, 5)], Some(9))]);
+    ping_of_length(rng, software(nth), samples.to_vec(), length)
 }
 
 /// A vessel, what comes behind its declarations, and the end of file. A code

@@ -1,10 +1,8 @@
--- `forms::form_length` meets its contract: none, the tuple's own length, or a ping's by its number of samples. Assumes nothing.
-use mathlib.Core.Path.{sym, _∙_}
-use Prim.Native.Nat.{_+_, _≤_}
-use native.Mathlib.Omega.{arith}
+-- `forms::form_length` meets its contract: none, the tuple's own length, or a C-32 ping's. Assumes nothing.
+use mathlib.Core.Path.{sym, subst, _∙_}
 use borrow.Author.Needs.{needs}
-use lib.ListN.{length}
-use Rattle.forms.proofs.Placed.{there, long-words, measured-index, measured-whole, measured-silent, measured-words}
+use Rattle.forms.specs.inner.Sound.{SoundHere}
+use Rattle.forms.proofs.Placed.{measured-index, measured-whole}
 use Rattle.forms.proofs.form_length.Statement.{statement}
 use Rattle.forms.proofs.form_length.Tie as tie
 
@@ -16,34 +14,9 @@ returns-2 c =
     let i = c .before in
     measured-whole (i .before .before .before .pre) (sym (i .before .in-class .ensures) ∙ i .if1 .left) (c .if2 .taken)
 
--- a C-32 ping's number of samples stands in the file
-room : (c : tie.Else2) → let a = c .before .before .before .before .args in a .at + 40 ≤ length (a .file .now)
-room c = let s = c .before .before .before .before .pre in omega (arith, long-words s (c .if2 .left), there s .fits)
-
-returns-3 : tie.Need-returns-3
-returns-3 c =
-    let r = c .before in
-    let k = r .before in
-    measured-silent (k .before .before .before .before .pre) (k .if2 .left) _ (r .read4 .ensures) (c .if3 .taken)
-
-returns-4 : tie.Need-returns-4
-returns-4 c =
-    let r = c .before in
-    let k = r .before in
-    measured-words (k .before .before .before .before .pre) (k .if2 .left) _ (r .read4 .ensures) (c .if3 .left)
+ping-length-requires : tie.Need-ping-length-requires
+ping-length-requires c κs = subst (SoundHere _ _ _ _) (c .if2 .left) (c .before .before .before .before .pre)
 
 pub form-length-spec : {M : Type 1} → statement M
 form-length-spec =
-    tie.close
-    (tie.spec
-    (λ c κs. search needs)
-    returns
-    returns-2
-    (λ c. omega (arith, room c))
-    (λ c κs. omega (arith, room c))
-    (λ c. search needs)
-    returns-3
-    (λ c. search needs)
-    (λ c. search needs)
-    (λ c. search needs)
-    returns-4)
+    tie.close (tie.spec (λ c κs. search needs) returns returns-2 ping-length-requires (λ c. search needs))

@@ -1,57 +1,63 @@
--- `forms::write_c` meets its contract: by the ping's number of samples. Assumes nothing.
+-- `forms::write_c` meets its contract: by whether the ping's last word is a run. Assumes nothing.
 use mathlib.Core.Path.{refl, sym, _∙_}
 use Prim.Native.Nat.{_+_, _≤_}
 use native.Mathlib.Omega.{arith}
 use borrow.Author.Needs.{needs}
 use lib.ListN.{length}
-use Rattle.forms.proofs.Placed.{most, long-words, measured-silent, measured-words}
+use Rattle.forms.proofs.Placed.{most, long-words, words-part, measured-words}
 use Rattle.forms.proofs.write_c.Statement.{statement}
 use Rattle.forms.proofs.write_c.Tie as tie
 
--- its number of samples stands in the file
-room : (s : tie.Start) → let a = s .args in a .at + 40 ≤ length (a .file .now)
-room s = omega (arith, long-words (s .pre .0) refl, most (s .pre .0) .2)
+-- the ping has room for its header and its last 8 bytes, and stands in the file
+abbrev Room : tie.Start → Type 0
+Room s = let a = s .args in (40 ≤ a .whole) × (a .whole ≤ 262144) × (a .at + a .whole ≤ length (a .file .now))
 
-write-silent-requires : tie.Need-write-silent-requires
-write-silent-requires c κs =
+room : (s : tie.Start) → Room s
+room s = (long-words (s .pre .0) refl, most (s .pre .0) .1, most (s .pre .0) .2)
+
+write-packed-requires : tie.Need-write-packed-requires
+write-packed-requires c κs =
     let k = c .before in
-    let r = k .before in
-    let p = r .before .before .before .pre in
-    let m = measured-silent (p .0) refl _ (r .read4 .ensures) (k .if1 .taken) in
-    (p .0, (sym (r .read4 .ensures) ∙ k .if1 .taken, omega (arith, m .0, p .1)))
-
-returns : tie.Need-returns
-returns c =
-    let w = c .before .before in
-    let k = w .before .before in
-    let r = k .before in
-    (measured-silent (r .before .before .before .pre .0) refl _ (r .read4 .ensures) (k .if1 .taken) .0, w .write-silent .ensures)
+    let e = k .before in
+    let p = e .before .before .before .before .pre in
+    (p .0, (sym (e .ends-in-run .ensures) ∙ k .if1 .taken, omega (arith, p .1)))
 
 write-sampled-requires : tie.Need-write-sampled-requires
 write-sampled-requires c κs =
-    let k = c .before in
-    let r = k .before in
-    let p = r .before .before .before .pre in
-    let m = measured-words (p .0) refl _ (r .read4 .ensures) (k .if1 .left) in
-    (p .0, (omega (arith, r .read4 .ensures, k .if1 .left), (omega (arith, r .read4 .ensures), omega (arith, m .0, p .1))))
+    let r = c .before in
+    let k = r .before in
+    let e = k .before in
+    let p = e .before .before .before .before .pre in
+    let ends = sym (e .ends-in-run .ensures) ∙ k .if1 .left in
+    let m = measured-words (p .0) refl ends _ (r .read4 .ensures) in
+    (p .0, (ends, (omega (arith, r .read4 .ensures), omega (arith, m .0, p .1))))
 
 returns-2 : tie.Need-returns-2
 returns-2 c =
     let w = c .before .before in
-    let k = w .before .before in
-    let r = k .before in
-    (measured-words (r .before .before .before .pre .0) refl _ (r .read4 .ensures) (k .if1 .left) .0, w .write-sampled .ensures)
+    let r = w .before .before in
+    let k = r .before in
+    let e = k .before in
+    let p = e .before .before .before .before .pre in
+    (measured-words (p .0) refl (sym (e .ends-in-run .ensures) ∙ k .if1 .left) _ (r .read4 .ensures) .0, w .write-sampled .ensures)
 
 pub write-c-spec : {M : Type 1} → statement M
 write-c-spec =
     tie.close
     (tie.spec
-    (λ c. omega (arith, room (c .before .before)))
-    (λ c κs. omega (arith, room (c .before .before)))
+    (λ c. let r = room (c .before .before) in omega arith)
+    (λ c. let r = room (c .before .before) in omega arith)
+    (λ c. let r = room (c .before .before) in omega arith)
+    (λ c. let r = room (c .before .before) in omega arith)
+    (λ c. let r = room (c .before .before) in omega arith)
+    (λ c. let r = room (c .before .before) in omega arith)
+    (λ c κs. let p = words-part (c .before .before .before .pre .0) refl in (p .0, p .1))
+    write-packed-requires
     (λ c. search needs)
-    write-silent-requires
+    (λ c. c .before .before .write-packed .ensures)
+    (λ c. let r = room (c .before .before .before .before .before) in omega arith)
+    (λ c κs. let r = room (c .before .before .before .before .before) in omega arith)
     (λ c. search needs)
-    returns
     (λ c. search needs)
     (λ c. search needs)
     (λ c. search needs)

@@ -4,9 +4,9 @@ use Prim.Native.Nat.{_+_, _*_, _≤_}
 use native.Mathlib.Omega.{arith}
 use borrow.Author.Needs.{needs}
 use lib.ListN.{length}
-use Rattle.forms.proofs.Placed.{most, long-words, measured-words}
+use Rattle.forms.proofs.Placed.{most, long-words, words-part, measured-words}
 use Rattle.forms.proofs.Texts.{ping-listed}
-use Rattle.forms.proofs.Written.{spread-count, spread-few, words-written}
+use Rattle.forms.proofs.Written.{spread-count, words-written}
 use Rattle.forms.proofs.write_sampled.Statement.{statement}
 use Rattle.forms.proofs.write_sampled.Tie as tie
 
@@ -20,14 +20,14 @@ opened c = c .before .before .before .before .before .before
 -- the ping has room for its header and its last 8 bytes, and stands in the file; its form is not twice as long
 abbrev Room : tie.Start → Type 0
 Room s = let a = s .args in
-    (40 ≤ a .whole) × (a .whole ≤ 262144) × (a .at + a .whole ≤ length (a .file .now)) × (40 ≤ a .bytes) × (a .bytes ≤ 2 * a .whole)
+    (40 ≤ a .whole) × (a .whole ≤ 262144) × (a .at + a .whole ≤ length (a .file .now)) × (32 ≤ a .bytes) × (a .bytes ≤ 2 * a .whole)
 
 room : (s : tie.Start) → Room s
 room s =
     let p = s .pre in
     let r = most (p .0) in
-    let twice = measured-words (p .0) refl _ refl (λ e. omega (arith, p .1 .0)) .1 in
-    (long-words (p .0) refl, r .1, r .2, omega (arith, p .1 .0, p .1 .1 .0), omega (arith, p .1 .1 .0))
+    let m = measured-words (p .0) refl (p .1 .0) _ refl in
+    (long-words (p .0) refl, r .1, r .2, omega (arith, p .1 .1 .0), omega (arith, m .1, p .1 .1 .0))
 
 open-form-requires : tie.Need-open-form-requires
 open-form-requires c κs =
@@ -39,7 +39,7 @@ spread-words-requires : tie.Need-spread-words-requires
 spread-words-requires c κs =
     let s = start (c .before .before) in
     let r = room s in
-    (spread-few (s .pre .0) (r .0), (omega (arith, spread-count (s .pre .0) refl, s .pre .1 .1 .0), omega arith))
+    (words-part (s .pre .0) refl .2, (omega (arith, spread-count (s .pre .0) refl, s .pre .1 .1 .0), omega arith))
 
 close-form-requires : tie.Need-close-form-requires
 close-form-requires c κs =

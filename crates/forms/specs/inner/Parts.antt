@@ -1,19 +1,18 @@
--- What a ping without samples holds, and the types that a row reads. Assumes nothing.
+-- The words of a C-32 ping by their place, and the types that a row reads. Assumes nothing.
 use mathlib.Core.Path.{_≡_}
-use Prim.Native.Nat.{ℕ}
-use mathlib.Core.Bool.{false}
-use mathlib.Core.List.{List, [], _++_}
+use Prim.Native.Nat.{ℕ, _+_, _-_}
+use mathlib.Core.Bool.{Bool}
+use mathlib.Core.List.{List, []}
 use mathlib.Core.Option.{Option}
-use lib.ListN.{getD}
-use Rattle.order.specs.Order.{bytesOf}
+use lib.ListN.{take, drop, getD}
 use Rattle.layout.specs.Fields.{Field}
 use Rattle.layout.specs.Types.{row, shapeOf}
 use Rattle.layout.specs.inner.Codes.{fieldsOf, rowCodes}
-use Rattle.samples.specs.Runs.{radix, shortestRun}
+use Rattle.samples.specs.Words.{allWords}
 
--- a ping without samples: number of samples 0, and the one word of a run of 1
-unfoldable pub silence : List ℕ
-silence = bytesOf false 4 0 ++ bytesOf false 4 (shortestRun radix)
+-- the words of the ping of n bytes at a place: behind its number of samples, before its attribute
+abbrev pub wordsAt : Bool → List ℕ → ℕ → ℕ → List ℕ
+wordsAt o f at n = allWords 4 o (take (at + (n - 8) - (at + 28)) (drop (at + 28) f))
 
 -- the fields of a listing
 abbrev pub listedFields : ℕ → List Field

@@ -21,7 +21,8 @@ returns c =
       opening .write-opening .ensures,
       toZ-ofZ {w = w32} {z = a .attribute} (start .fits .attribute),
     )
-    (stored-C (a .msb) (a .header) (a .attribute) (a .numbers .now) (a .values .now) (a .whole) _ (a .out .now) (start .pre))
+    (stored-C (a .msb) (a .header) (a .attribute) (a .numbers .now) (a .values .now) (a .quiet) (a .whole) _ (a .out .now)
+    (start .pre))
 
 pub put-c32-spec : {M : Type 1} → statement M
 put-c32-spec =

@@ -29,6 +29,14 @@ impl Object {
         self.member(key, value)
     }
 
+    /// A number, or null where there is none.
+    pub fn number_or_null(self, key: &str, value: Option<impl Number>) -> Object {
+        match value {
+            Some(value) => self.number(key, value),
+            None => self.member(key, "null"),
+        }
+    }
+
     pub fn text(self, key: &str, value: &str) -> Object {
         self.member(key, Text(value))
     }
@@ -89,10 +97,13 @@ mod tests {
         let object = Object::default()
             .text("a\"b\\", "\u{1b}[2J\n\u{202e}\u{e9}")
             .number("n", -5)
+            .number_or_null("p", Some(5))
+            .number_or_null("q", None::<u32>)
             .object("o", inner)
             .name("file", OsStr::from_bytes(b"x\xff"));
-        let line = "{\"a\\\"b\\\\\":\"\\u001b[2J\\u000a\\u202e\u{e9}\",\"n\":-5,\"o\":{\"13\":2},\
-                    \"file\":\"x\u{fffd}\",\"file_bytes\":\"78ff\"}";
+        let line =
+            "{\"a\\\"b\\\\\":\"\\u001b[2J\\u000a\\u202e\u{e9}\",\"n\":-5,\"p\":5,\"q\":null,\
+                    \"o\":{\"13\":2},\"file\":\"x\u{fffd}\",\"file_bytes\":\"78ff\"}";
         assert_eq!(object.to_string(), line);
     }
 }

@@ -1,7 +1,8 @@
 -- `archive::of_pings::hac_write_c32` meets its contract, which settles what it says and leaves. Assumes nothing.
-use mathlib.Core.Path.{_≡_}
+use mathlib.Core.Path.{_≡_, subst}
 use mathlib.Core.Bool.{Bool}
 use mathlib.Core.List.{List}
+use mathlib.Core.Option.{Option}
 use Prim.Native.Nat.{ℕ}
 use borrow.Author.Needs.{needs}
 use mir.Syntax.{w32}
@@ -9,7 +10,7 @@ use mir.Facts.{toZ-ofZ}
 use lib.IntN.{ℤ}
 use Rattle.tuples.specs.Writers.{written-settled}
 use Rattle.pings.specs.declared.PingHeader.{PingHeader}
-use Rattle.pings.specs.Headers.{WrittenC}
+use Rattle.pings.specs.Headers.{handedLength, WrittenC}
 use Rattle.archive.specs.Saying.{Said, said-settled}
 use Rattle.archive.specs.Numbers.{five, headerWith}
 use Rattle.archive.proofs.Saying.{untold, answer-told, of-same}
@@ -25,25 +26,38 @@ returns-2 : tie.Need-returns-2
 returns-2 c =
     let t = c .before .before in
     let k = t .before .before .before in
-    let e = k .before .before .before in
+    let g = k .before .before .before in
+    let e = g .before in
     let s = e .before .before .before .before in
     let a = s .args in
+    let header : ℤ → PingHeader = λ z.
+    headerWith (a .time-fraction) (a .time-cpu) (a .software-channel-identifier) (a .transmitter-mode) (a .ping-number) z in
+    let W : PingHeader → ℤ → Option ℕ → Type 0 = λ h z l.
+    WrittenC (a .msb) h z (a .numbers .now) (a .values .now) l (a .out .now) (k .write-c32 .result)
+    (k .write-c32 .last .1 .1 .1 .1 .1 .1 .0) in
     answer-told _ (a .answer .now) (a .out .now) (k .write-c32 .result) _ _ _ (e .if1 .left)
+    (subst (W (header (a .detected-bottom-range)) (a .tuple-attribute)) (g .handed-length .ensures)
     (of-same
-    (λ (h : PingHeader) (z : ℤ).
-    WrittenC (a .msb) h z (a .numbers .now) (a .values .now) (a .out .now) (k .write-c32 .result) (k .write-c32 .last .1 .1 .1 .1 .1 .0))
-    (λ i.
-    headerWith (a .time-fraction) (a .time-cpu) (a .software-channel-identifier) (a .transmitter-mode) (a .ping-number)
-    (toZ-ofZ {w = w32} {z = a .detected-bottom-range} (s .fits .detected-bottom-range) i))
-    (toZ-ofZ {w = w32} {z = a .tuple-attribute} (s .fits .tuple-attribute)) (k .write-c32 .ensures))
+    (λ (h : PingHeader) (z : ℤ). W h z (handedLength (g .handed-length .result)))
+    (λ i. header (toZ-ofZ {w = w32} {z = a .detected-bottom-range} (s .fits .detected-bottom-range) i))
+    (toZ-ofZ {w = w32} {z = a .tuple-attribute} (s .fits .tuple-attribute)) (k .write-c32 .ensures)))
     (t .tell-answer .ensures)
 
 pub hac-write-c32-spec : {M : Type 1} → statement M
 hac-write-c32-spec =
-    tie.close (tie.spec returns (λ c κs. search needs) (λ c κs. search needs) (λ c. search needs) (λ c. search needs) returns-2)
+    tie.close
+    (tie.spec
+    returns
+    (λ c κs. search needs)
+    (λ c κs. search needs)
+    (λ c κs. search needs)
+    (λ c. search needs)
+    (λ c. search needs)
+    returns-2)
 
-module _ (o : Bool) (h : PingHeader) (a : ℤ) (ns : List ℕ) (vs : List ℤ) (out lent : List ℕ) {c d : ℕ} {left right kept held : List ℕ} where
-  pub hac-write-c32-settled : Said 0 five (WrittenC o h a ns vs out) lent out c left kept
-      → Said 0 five (WrittenC o h a ns vs out) lent out d right held
+module _ (o : Bool) (h : PingHeader) (a : ℤ) (ns : List ℕ) (vs : List ℤ) (l : Option ℕ) (out lent : List ℕ) {c d : ℕ}
+    {left right kept held : List ℕ} where
+  pub hac-write-c32-settled : Said 0 five (WrittenC o h a ns vs l out) lent out c left kept
+      → Said 0 five (WrittenC o h a ns vs l out) lent out d right held
       → (c ≡ d) × (left ≡ right) × (kept ≡ held)
-  hac-write-c32-settled = said-settled 0 five (WrittenC o h a ns vs out) lent out (λ x y p q. written-settled p q)
+  hac-write-c32-settled = said-settled 0 five (WrittenC o h a ns vs l out) lent out (λ x y p q. written-settled p q)

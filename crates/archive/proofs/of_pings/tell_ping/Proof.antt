@@ -9,6 +9,7 @@ use Rattle.order.specs.Order.{patternOf}
 use Rattle.layout.specs.declared.Answer.{Answer}
 use Rattle.layout.specs.Answers.{numbers}
 use Rattle.archive.specs.Numbers.{five}
+use Rattle.archive.proofs.Pings.{both-told}
 use Rattle.archive.proofs.of_pings.tell_ping.Statement.{statement}
 use Rattle.archive.proofs.of_pings.tell_ping.Tie as tie
 
@@ -20,12 +21,15 @@ returns : tie.Need-returns
 returns c =
     let t = c .before .before in
     let e = t .before .before .accept .ensures in
-    let k = t .before .before .before .before in
+    let n = t .before .before .before .before in
+    let w = n .before in
+    let k = w .before in
     let b = k .before in
     let p = b .before in
     let s = p .before in
     let a = start s .args in
-    let h = a .header in (
+    let h = a .header in
+    let both = (λ j. w .has-number .ensures j ∷ n .length-number .ensures j ∷ []) ∙ both-told (a .ping-length) in (
       t .tell-found .ensures .0 ∙ ap (λ (y : Answer). numbers y .code) e,
       t .tell-found .ensures .1
           ∙ (λ i.
@@ -43,7 +47,7 @@ returns c =
           ∷ (b .pattern42 .ensures ∙ ap (patternOf 4) (toZ-ofZ {w = w32} {z = a .attribute} (start s .fits .attribute))) i
           ∷ k .kind-number .ensures i
           ∷ a .values
-          ∷ []))),
+          ∷ both i))),
     )
 
 pub tell-ping-spec : {M : Type 1} → statement M
@@ -59,6 +63,8 @@ tell-ping-spec =
     (λ c. search needs)
     (λ c κs. search needs)
     (λ c. search needs)
+    (λ c κs. search needs)
+    (λ c κs. search needs)
     (λ c κs. search needs)
     (λ c κs. search needs)
     (λ c. search needs)

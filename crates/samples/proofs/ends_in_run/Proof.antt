@@ -1,0 +1,20 @@
+-- `samples::ends_in_run` meets its contract: the last word stands four bytes before the end. Assumes nothing.
+use mathlib.Core.Path.{_∙_, ap}
+use borrow.Author.Needs.{needs}
+use Prim.Native.Nat.{ℕ}
+use Rattle.samples.specs.Runs.{radix, isRun}
+use Rattle.samples.proofs.Lengths.{ends-last}
+use Rattle.samples.proofs.ends_in_run.Statement.{statement}
+use Rattle.samples.proofs.ends_in_run.Tie as tie
+
+returns : tie.Need-returns
+returns c =
+    let read = c .before in
+    let start = read .before .before in
+    let a = start .args in
+    c .is-run .ensures
+    ∙ ap (λ (w : ℕ). isRun radix w) (read .read4 .ensures)
+    ∙ ends-last (a .msb) (a .part .now) (start .pre .0) (start .pre .1)
+
+pub ends-in-run-spec : {M : Type 1} → statement M
+ends-in-run-spec = tie.close (tie.spec (λ c. search needs) (λ c κs. search needs) (λ c κs. search needs) returns)
