@@ -2,6 +2,8 @@
 use frame::DATA;
 use layout::FIELDS;
 use layout::types;
+use samples::PAIR;
+use samples::WORD;
 ghost use mathlib.Core.Path.{_≡_};
 ghost use mathlib.Core.Bool.{true, false};
 ghost use Prim.Native.Nat.{_+_, _*_, _^_, _≤_, _<_};
@@ -25,11 +27,6 @@ const EVENT_TEXT: usize = 12;
 
 const END_DATA: usize = 14;
 
-// The bytes of a word and of a pair.
-const WORD: usize = 4;
-
-const PAIR: usize = 8;
-
 // How many bytes the normal form of a C-32 ping has. One with a length is measured by its words; any other counts its samples itself,
 // so that they are not read.
 fn ping_length(file: &[u8], at: usize, msb: bool, whole: usize) -> usize
@@ -40,7 +37,7 @@ fn ping_length(file: &[u8], at: usize, msb: bool, whole: usize) -> usize
     let tail = whole - frame::TAIL;
     let words = &file[at + samples::WORDS..at + tail];
     if samples::ends_in_run(words, msb) {
-        return samples::WORDS + WORD * samples::packing::count_packed(words, msb) + frame::TAIL;
+        return samples::WORDS + WORD * spelling::packing::count_packed(words, msb) + frame::TAIL;
     }
     let count = order::read4(file, at + samples::COUNT, msb) as usize;
     samples::PAIRS + PAIR * count + frame::TAIL
@@ -194,7 +191,7 @@ fn write_u(file: &[u8], at: usize, msb: bool, whole: usize, out: &mut [u8], to: 
     let tail = whole - frame::TAIL;
     let listing = layout::listing_of(types::PING_U);
     open_form(file, at, msb, listing, out, to, whole, types::PING_U);
-    samples::lsb::turn_words(
+    spelling::lsb::turn_words(
         &file[at + samples::PAIRS..at + tail],
         msb,
         out,
@@ -214,7 +211,7 @@ fn write_packed(file: &[u8], at: usize, msb: bool, whole: usize, out: &mut [u8],
 {
     let tail = whole - frame::TAIL;
     let words = &file[at + samples::WORDS..at + tail];
-    let end = samples::packing::pack_words(words, msb, out, to + samples::WORDS);
+    let end = spelling::packing::pack_words(words, msb, out, to + samples::WORDS);
     let bytes = end - to + frame::TAIL;
     close_form(file, at + tail, msb, out, end, bytes);
     let listing = layout::listing_of(types::PING_U);
@@ -244,7 +241,7 @@ fn write_sampled(
     let end = to + (bytes - frame::TAIL);
     let listing = layout::listing_of(types::PING_U);
     open_form(file, at, msb, listing, out, to, bytes, types::PING_U);
-    samples::lsb::spread_words(
+    spelling::lsb::spread_words(
         &file[at + samples::WORDS..at + tail],
         msb,
         out,

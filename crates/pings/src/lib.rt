@@ -7,6 +7,8 @@ use layout::Answer;
 use layout::SoftwareChannel;
 use layout::codes;
 use layout::types;
+use samples::PAIR;
+use samples::WORD;
 use tuples::Opened;
 ghost use mathlib.Core.Path.{_≡_};
 ghost use mathlib.Core.Bool.{false};
@@ -27,11 +29,6 @@ ghost use Rattle.pings.specs.Fields.{headerOf, pingFields, PingAt};
 ghost use Rattle.pings.specs.Writers.{empty};
 ghost use Rattle.pings.specs.Headers.{headOf, handedLength, toldLength, WrittenU, WrittenC};
 ghost use Rattle.pings.specs.inner.Sound.{SoundList, bytesBy};
-
-// The bytes of a pair and of a word.
-const PAIR: usize = 8;
-
-const WORD: usize = 4;
 
 // The fields before a ping's samples: TR Tables 6 and 20.
 pub struct PingHeader {
@@ -315,7 +312,7 @@ pub fn write_u32(
     if n == 0 {
         return layout::refuse(codes::NO_SAMPLES, 0);
     }
-    let first = samples::write::first_drop(numbers);
+    let first = spelling::write::first_drop(numbers);
     if first < n {
         return layout::refuse(codes::NOT_RISING, first);
     }
@@ -324,7 +321,7 @@ pub fn write_u32(
         return layout::refuse(codes::NO_ROOM, 0);
     }
     write_opening(out, msb, whole, types::PING_U, header);
-    samples::write::write_pairs(numbers, values, msb, out, samples::PAIRS);
+    spelling::write::write_pairs(numbers, values, msb, out, samples::PAIRS);
     tuples::put_tail(out, msb, whole, attribute);
     layout::accept(1, whole)
 }
@@ -345,7 +342,7 @@ fn is_short(numbers: &[u32], length: PingLength) -> bool
 {
     match length {
         PingLength::Absent => false,
-        PingLength::Samples(all) => (all as usize) < samples::write::behind(numbers) + 1,
+        PingLength::Samples(all) => (all as usize) < spelling::write::behind(numbers) + 1,
     }
 }
 
@@ -357,7 +354,7 @@ fn quiet_behind(numbers: &[u32], length: PingLength) -> usize
 {
     match length {
         PingLength::Absent => 0,
-        PingLength::Samples(all) => all as usize - samples::write::behind(numbers),
+        PingLength::Samples(all) => all as usize - spelling::write::behind(numbers),
     }
 }
 
@@ -379,7 +376,7 @@ fn put_c32(
 {
     write_opening(out, msb, whole, types::PING_C, header);
     order::store4(out, samples::COUNT, msb, numbers.len() as u32);
-    samples::write::write_words(numbers, values, quiet, msb, out, samples::WORDS);
+    spelling::write::write_words(numbers, values, quiet, msb, out, samples::WORDS);
     tuples::put_tail(out, msb, whole, attribute);
 }
 
@@ -407,11 +404,11 @@ pub fn write_c32(
     if is_empty(numbers, length) {
         return layout::refuse(codes::NO_SAMPLES, 0);
     }
-    let first = samples::write::first_drop(numbers);
+    let first = spelling::write::first_drop(numbers);
     if first < n {
         return layout::refuse(codes::NOT_RISING, first);
     }
-    let wordless = samples::write::first_wordless(values);
+    let wordless = spelling::write::first_wordless(values);
     if wordless < n {
         return layout::refuse(codes::NO_WORD, wordless);
     }
@@ -419,7 +416,7 @@ pub fn write_c32(
         return layout::refuse(codes::SHORT_LENGTH, 0);
     }
     let quiet = quiet_behind(numbers, length);
-    let whole = samples::WORDS + WORD * samples::write::count_words(numbers, quiet) + frame::TAIL;
+    let whole = samples::WORDS + WORD * spelling::write::count_words(numbers, quiet) + frame::TAIL;
     if frame::MOST < whole {
         return layout::refuse(codes::OVERFULL, 0);
     }
