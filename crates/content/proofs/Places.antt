@@ -15,7 +15,7 @@ use Rattle.layout.specs.Families.{isPing}
 use Rattle.layout.specs.Fields.{Field, u, known, size}
 use Rattle.layout.specs.Types
 use Rattle.layout.specs.Types.{Shape, indexed, row, pairs, words, unlisted, classes, inClass, index, listings, notListed, among, listingOf}
-use Rattle.layout.specs.Types.{Listing, shapeOf, lengthsOf, saysOf, Length, fitting, lengthFrom, pingRow}
+use Rattle.layout.specs.Types.{shapeOf, lengthsOf, saysOf, Length, fitting, lengthFrom, pingRow}
 use Rattle.layout.specs.declared.Says.{Says}
 use Rattle.layout.specs.declared.Says.the-variants.{Nothing, Sounder, Channel, Names, NamesOrAll}
 use Rattle.layout.specs.inner.Codes.{fieldsIn}
@@ -199,7 +199,8 @@ module _ (o : Bool) (f : List ℕ) (at n : ℕ) (w : Whole o f at n) where
       ∙ ap (λ (i : ℕ). numOf o (take 4 (drop (at + i) f))) z
 
   -- the words between a header of a bytes and the attribute
-  pub words-place : (a : ℕ) → a + 14 ≤ n → wordsIn a o (tupAt o (drop at f) .body) ≡ allWords 4 o (take (n - 14 - a) (drop (at + (6 + a)) f))
+  pub words-place : (a : ℕ) → a + 14 ≤ n
+      → wordsIn a o (tupAt o (drop at f) .body) ≡ allWords 4 o (take (n - 14 - a) (drop (at + (6 + a)) f))
   unfolding wordsIn t
   words-place a h =
       let e : length (t .body) - (a + 4) ≡ n - 14 - a = omega (arith, length-body) in

@@ -3,7 +3,7 @@ use mathlib.Core.Path.{_≡_, refl, sym, ap, ap₂, subst, subst₂, _∙_}
 use mathlib.Core.Logic.{_⊎_, inl, inr, ⊎-elim}
 use mathlib.Core.Bool.{Bool, true, false, not, true≢false, _&&_}
 use mathlib.Core.List.{List, [], _∷_}
-use Prim.Native.Nat.{ℕ, zero, suc, _+_, _-_, _*_, _/_, _≤_, _<_}
+use Prim.Native.Nat.{ℕ, zero, suc, _+_, _-_, _*_, _≤_, _<_}
 use native.Mathlib.Numerals.{add-one}
 use native.Mathlib.Omega.{arith}
 use borrow.Author.Tests.{lt-ltb, le-ltb, ltb-true, ltb-false, le-leb, leb-true, leb-false, ne-eqb, eqb-false, not-true}
@@ -16,7 +16,7 @@ use Rattle.layout.specs.Families.{wide}
 use Rattle.layout.specs.Types.{Shape, indexed, row, pairs, words, unlisted, shapeOf, listings, among, listingOf}
 use Rattle.frame.specs.Frames.{Tup}
 use Rattle.samples.specs.Words.{Sample}
-use Rattle.samples.specs.Runs.{radix, isBad, firstBad}
+use Rattle.samples.specs.Runs.{isBad, firstBad}
 use Rattle.samples.specs.Judging.{most, firstDrop, pairRules, wordRules}
 use Rattle.samples.proofs.Runs.{by-bool}
 use Rattle.samples.proofs.Rising.{drop-here, drop-later}

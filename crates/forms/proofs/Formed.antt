@@ -147,7 +147,8 @@ module _ (o : Bool) (t : Tup) where
   unfolding formOf contentU
   form-U e = by-shape pairs e ∙ append-nil _
 
-  form-C : shapeOf (t .kind) ≡ words → contentC o (t .body) .length ≡ none → formBytes o t ≡ frame false (tupleU false (contentC o (t .body)))
+  form-C : shapeOf (t .kind) ≡ words → contentC o (t .body) .length ≡ none
+      → formBytes o t ≡ frame false (tupleU false (contentC o (t .body)))
   unfolding formOf
   form-C e h =
       by-shape words e ∙ append-nil _ ∙ ap (λ (l : Option ℕ). frame false (pingForm l (contentC o (t .body)))) h
@@ -283,7 +284,8 @@ module _ (o : Bool) (t : Tup) where
           (ap₂ (λ (i : ℕ) (us : List ℕ).
           encode false pingRow (valuesOf o pingRow d) ++ (bytesOf false 4 i ++ (unwords 4 false us ++ bytesOf false 4 (attributeIn o d))))
           (sym count-C) (sym (packed-fewest radix (lit< tt) ws))
-          ∙ ap (λ (l : List ℕ). encode false pingRow (valuesOf o pingRow d) ++ l) (sym (append-assoc c u (bytesOf false 4 (attributeIn o d))))
+          ∙ ap (λ (l : List ℕ). encode false pingRow (valuesOf o pingRow d) ++ l)
+          (sym (append-assoc c u (bytesOf false 4 (attributeIn o d))))
           ∙ head-turned (c ++ u) (attributeIn o d)))
           (omega (
             arith,

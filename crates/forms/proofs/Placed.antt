@@ -1,6 +1,6 @@
 -- The normal form of a sound tuple at a place, by its length, its type code and its places in the file. Assumes nothing.
 use mathlib.Core.Path.{_≡_, refl, sym, ap, _∙_}
-use mathlib.Core.Bool.{Bool, true, false, cond, false≢true}
+use mathlib.Core.Bool.{Bool, true, false, false≢true}
 use mathlib.Core.List.{List, []}
 use Prim.Native.Nat.{ℕ, _+_, _-_, _*_, _%_, _≤_}
 use native.Mathlib.Omega.{arith}
@@ -9,7 +9,6 @@ use lib.Dec.{eqb}
 use lib.ListN.{length, take, drop, length-drop}
 use lib.Seq.{drop-drop, length-take-le}
 use Rattle.order.specs.Order.{numOf}
-use Rattle.rules.specs.Rules.{Rule, firstOf}
 use Rattle.layout.specs.Types.{Shape, indexed, row, pairs, words, unlisted, classes, inClass, index, listings, among, listingOf, shapeOf}
 use Rattle.layout.proofs.Verdicts.{both-left}
 use Rattle.turning.proofs.Contents.{within-take}
@@ -117,7 +116,9 @@ module _ {o : Bool} {f : List ℕ} {at n k : ℕ} (s : SoundHere o f at n k) whe
         → (28 + 4 * m + 8 ≡ length (formBytes o (tupAt o (drop at f)))) × (28 + 4 * m + 8 ≤ 2 * n)
     measured-packed h m e =
         let l = ap (λ (ws : List ℕ). length (packed radix ws)) words-here in (
-          sym (parts-packed o t (s .own) words-shape (28 + 4 * m + 8) (omega (arith, e, l)) (ap (endsFrom radix false) words-here ∙ h) .long),
+          sym
+              (parts-packed o t (s .own) words-shape (28 + 4 * m + 8) (omega (arith, e, l)) (ap (endsFrom radix false) words-here ∙ h)
+              .long),
           omega (arith, e, l, few-packed o t (s .own) words-shape, size-of),
         )
 

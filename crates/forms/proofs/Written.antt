@@ -4,7 +4,7 @@ use mathlib.Core.Path.{_≡_, refl, sym, ap, ap₂, _∙_}
 use mathlib.Core.Bool.{Bool, true, false}
 use mathlib.Core.List.{List, _++_, append-assoc}
 use mathlib.Core.Option.{Option}
-use Prim.Native.Nat.{ℕ, _+_, _-_, _*_, _≤_, _<_}
+use Prim.Native.Nat.{ℕ, _+_, _-_, _*_, _≤_}
 use native.Mathlib.Omega.{arith}
 use lib.ListN.{length, take, drop, length-drop, length-append}
 use lib.Seq.{sets, drop-drop, length-take-le}
@@ -26,13 +26,14 @@ use Rattle.samples.specs.Runs.{radix, decode, endsFrom}
 use Rattle.samples.specs.inner.Packing.{packed, PackedAt}
 use Rattle.samples.proofs.Words.{length-unwords, length-unpair}
 use Rattle.samples.proofs.Turning.{length-all}
-use Rattle.content.specs.Pings.{wordsIn, attributeIn, contentC}
+use Rattle.content.specs.Pings.{attributeIn, contentC}
 use Rattle.content.specs.Forms.{formBytes}
 use Rattle.content.proofs.Places.{fieldAt, length-body}
 use Rattle.forms.specs.inner.Sound.{SoundHere}
 use Rattle.forms.specs.inner.Parts.{wordsAt, listedFields}
 use Rattle.forms.proofs.Formed.{last-four, form-raw, least-row, parts-row, parts-U, count-C, parts-C, parts-packed}
-use Rattle.forms.proofs.Placed.{there, shape-of, size-of, words-there, pairs-shape, long-pairs, words-shape, long-words, count-of, words-here}
+use Rattle.forms.proofs.Placed.{there, shape-of, size-of, words-there, pairs-shape, long-pairs, words-shape, long-words, count-of}
+use Rattle.forms.proofs.Placed.{words-here}
 use Rattle.forms.proofs.Texts.{ping-fields}
 use Rattle.forms.proofs.Stored.{stored-before, length-close, closed, enclosed}
 

@@ -8,7 +8,6 @@ use mathlib.Core.Option.{Option, some}
 use Prim.Native.Nat.{ℕ, _%_, _<_, _≤_}
 use native.Mathlib.Omega.{arith}
 use borrow.Author.Tests.{not-false}
-use lib.Dec.{eqb}
 use lib.ListN.{length, drop, getD}
 use Rattle.layout.specs.Families.{isPing}
 use Rattle.layout.proofs.Families.{ping-kind}

@@ -5,7 +5,7 @@ use mathlib.Core.List.{List, [], _∷_, _++_}
 use mathlib.Core.Bool.{Bool, true, false, cond, _&&_, _||_, true≢false}
 use Prim.Native.Nat.{ℕ, _+_, _-_, _*_, _%_, _≤_, _<_}
 use native.Mathlib.Omega.{arith}
-use borrow.Author.Tests.{eqb-true, leb-true, leb-false, not-false}
+use borrow.Author.Tests.{leb-true, leb-false, not-false}
 use lib.Dec.{eqb, leb, lit≤}
 use lib.ListN.{length, take, drop, length-take, length-drop}
 use Rattle.rules.specs.Rules.{_⇒_}

@@ -2,16 +2,15 @@
 -- nothing.
 use mathlib.Core.Path.{_≡_, refl, sym, ap, ap₂, subst, _∙_}
 use mathlib.Core.Bool.{Bool, true, false, not, _&&_}
-use mathlib.Core.List.{List, [], _∷_, _++_, map}
+use mathlib.Core.List.{List, [], _∷_, _++_}
 use mathlib.Core.Option.{Option, some, none}
-use Prim.Native.Nat.{ℕ, zero, suc, _+_, _-_, _*_, _%_, _^_, _≤_, _<_}
+use Prim.Native.Nat.{ℕ, zero, suc, _+_, _-_, _%_, _^_, _≤_, _<_}
 use native.Mathlib.Omega.{arith}
 use borrow.Author.Tests.{eqb-true, leb-true, ltb-false, le-ltb, not-false}
 use lib.Dec.{eqb, leb, ltb}
 use lib.IntN.{ℤ, pos, negsuc}
-use lib.ListN.{length, take, drop, getD, replicate, length-replicate}
+use lib.ListN.{length, take, drop, replicate, length-replicate}
 use lib.Seq.{length-take-le, take-all}
-use Rattle.rules.specs.Rules.{_⇒_}
 use Rattle.rules.proofs.Bools.{both-true}
 use Rattle.order.specs.Order.{Bytes}
 use Rattle.layout.specs.declared.Counts.{Counts}
@@ -19,23 +18,22 @@ use Rattle.layout.specs.declared.Answer.{Answer}
 use Rattle.layout.specs.declared.Answer.the-variants.{Accepted}
 use Rattle.layout.specs.Answers.{accepting, leftBy}
 use Rattle.layout.specs.Fields.{Field, num, txt, gap, ident, s, size, many, bareSize}
-use Rattle.layout.specs.Types.{Shape, indexed, row, pairs, words, unlisted, Length, exactly, upward, free, fitting, shapeOf}
+use Rattle.layout.specs.Types.{Shape, indexed, row, pairs, words, unlisted, fitting, shapeOf}
 use Rattle.layout.specs.Types.{lengthsOf, lengthFrom, listings}
 use Rattle.layout.proofs.Tables.{alike-all}
 use Rattle.frame.specs.Frames.{allowed}
 use Rattle.frame.proofs.Frames.{allowed-of}
-use Rattle.turning.specs.Rows.{Value, number, text, woven, numbersIn, textIn, Fit, fit-end, fit-num, fit-txt, fit-gap, fit-ident, Lettered}
+use Rattle.turning.specs.Rows.{woven, numbersIn, textIn, Fit, fit-end, fit-num, fit-txt, fit-gap, fit-ident, Lettered}
 use Rattle.turning.specs.inner.Codes.{textFits}
-use Rattle.content.specs.Items.{rowIn}
-use Rattle.tuples.specs.Readers.{isRecord, recordsOf, only, readAnswer, readValues, rowBy, rowOf}
+use Rattle.tuples.specs.Readers.{isRecord, only, readAnswer, readValues, rowBy, rowOf}
 use Rattle.tuples.specs.Writers.{Written, plainBytes}
 use Rattle.tuples.proofs.Fields.{IsRow}
 use Rattle.rows.specs.Readers.{countOf, fieldsBy, lentBy, rowAnswer, rowNumbers, rowText, charactersAt, answered, RowAt}
 use Rattle.rows.specs.Writers.{rowValues, rowLength, RowWritten}
-use Rattle.rows.specs.Integers.{integer, natural, pattern, integers, patterns, rowIntegers, InRange, Typed}
+use Rattle.rows.specs.Integers.{integer, pattern, integers, patterns, rowIntegers, InRange, Typed}
 use Rattle.rows.specs.declared.RowRead.{RowRead}
 use Rattle.rows.specs.declared.RowRead.the-variants.{Read}
-use Rattle.rows.proofs.Shapes.{is-row, row-listed, noText, Textual, textual, none-bare, fits-by, fixed-length}
+use Rattle.rows.proofs.Shapes.{is-row, noText, Textual, textual, none-bare, fits-by, fixed-length}
 use Rattle.rows.proofs.Writing.{lengths-row}
 use Rattle.rows.proofs.Reading.{as-only}
 use Rattle.rows.proofs.Views.{there-characters}

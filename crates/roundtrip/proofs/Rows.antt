@@ -2,26 +2,21 @@
 -- signed numbers are found again from their patterns. Assumes nothing.
 use mathlib.Core.Path.{_≡_, refl, sym, ap, ap₂, subst, _∙_}
 use Prim.Native.Nat.{ℕ, suc, _+_, _-_, _*_, _^_, _<_}
-use mathlib.Core.Bool.{Bool, true}
-use mathlib.Core.List.{List, _++_}
-use mathlib.Core.Option.{Option, some}
+use mathlib.Core.Bool.{Bool}
+use mathlib.Core.List.{List}
+use mathlib.Core.Option.{some}
 use native.Mathlib.Nat.{pow-suc}
 use native.Mathlib.Omega.{arith}
 use borrow.Author.Tests.{lt-ltb, le-ltb, eq-eqb}
 use lib.IntN.{ℤ, pos, negsuc}
-use lib.ListN.{length, drop}
-use lib.Seq.{take-at, drop-drop}
-use mir.Syntax.{Width}
-use mir.Val.{hbits, SFits}
-use Rattle.order.specs.Order.{signedOf, patternOf, bytesOf, Bytes}
-use Rattle.layout.specs.declared.Answer.{Answer}
+use lib.ListN.{length}
+use Rattle.order.specs.Order.{signedOf, patternOf, Bytes}
 use Rattle.layout.specs.Fields.{Field, size}
-use Rattle.layout.specs.Types.{Shape, row, fitting, shapeOf, lengthFrom}
+use Rattle.layout.specs.Types.{Shape, row, shapeOf}
 use Rattle.layout.specs.Answers.{accepting}
-use Rattle.frame.specs.Frames.{lengthOf, allowed}
-use Rattle.frame.proofs.Frames.{past-6}
-use Rattle.turning.specs.Rows.{Value, valuesOf, encode, identified, Fit, Lettered}
-use Rattle.turning.proofs.Contents.{values-encode, identified-encode, length-encode, bytes-encode, values-take, valuesAt, values-at}
+use Rattle.frame.specs.Frames.{allowed}
+use Rattle.turning.specs.Rows.{Value, valuesOf, encode, identified}
+use Rattle.turning.proofs.Contents.{values-encode, identified-encode, length-encode, bytes-encode}
 use Rattle.content.specs.Items.{plain, rowIn, itemBy, itemOf}
 use Rattle.content.specs.Forms.{encodeBy, plainTuple}
 use Rattle.content.proofs.Fine.{Sound, head-fine, inner-fine, row-size}

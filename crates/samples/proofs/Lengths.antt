@@ -10,7 +10,7 @@ use lib.Dec.{lit<}
 use lib.ListN.{length, take, drop, getD}
 use lib.Seq.{drop-drop}
 use Rattle.order.specs.Order.{numOf}
-use Rattle.samples.specs.Words.{Sample, words, allWords}
+use Rattle.samples.specs.Words.{words, allWords}
 use Rattle.samples.specs.inner.Lists.{numbered}
 use Rattle.samples.specs.Runs.{radix, isRun, runLength, samplesFrom, endsFrom, pingLength, behind}
 use Rattle.samples.proofs.Words.{wordAt}

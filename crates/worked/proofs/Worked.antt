@@ -35,8 +35,9 @@ pub worked : allHold table ≡ true
 unfolding table allHold holds readAnswer sampleAnswer normalFile normalTuple linesOf allDigits bytesIn inputFrom hex decimals normalAnswer
     singleForm singleAnswer firstUnlisted items contentOf normalTuples formed normalOf ending turn checkFrom checkFile formOf itemOf
     digestOf wordsIn attributeIn countIn contentU contentC dataU dataC has naming firstWrong words allWords unwords pairUp unpair isRun
-    runLength decodeFrom samplesFrom endsFrom pingLength lastRun gap encodeFrom behind fewest isBad values firstBad firstDrop allowed frame sizeAt kindAt backAt framing mark isMsb marked stepForward tuplesFrom
-    tuplesOf classes inClass listings among listingOf declaredOwn
+    runLength decodeFrom samplesFrom endsFrom pingLength lastRun gap encodeFrom behind fewest isBad values firstBad firstDrop allowed
+    frame sizeAt kindAt backAt framing mark isMsb marked stepForward tuplesFrom tuplesOf classes inClass listings among listingOf
+    declaredOwn
 worked = refl
 
 -- ---- the small whole file
@@ -47,9 +48,10 @@ variants = lsb ∷ lsbOtherCut ∷ msb ∷ msbOtherCut ∷ []
 pub accepted : map (λ (v : List String). checkFile (fileOf v)) variants ≡ map (λ (v : List String). Accepted (counting 6 0 2)) variants
 unfolding lsb lsbOtherCut msb msbOtherCut normalFile normalTuple linesOf allDigits bytesIn inputFrom hex decimals normalAnswer singleForm
     singleAnswer firstUnlisted items contentOf normalTuples formed normalOf ending turn checkFrom checkFile formOf itemOf digestOf wordsIn
-    attributeIn countIn contentU contentC dataU dataC has comparedIn naming firstWrong words allWords unwords pairUp unpair isRun runLength
-    decodeFrom samplesFrom endsFrom pingLength lastRun gap encodeFrom behind fewest isBad values firstBad firstDrop allowed frame sizeAt kindAt backAt framing mark isMsb marked stepForward tuplesFrom tuplesOf
-    classes inClass listings among listingOf declaredOwn
+    attributeIn countIn contentU contentC dataU dataC has comparedIn naming firstWrong words allWords unwords pairUp unpair isRun
+    runLength decodeFrom samplesFrom endsFrom pingLength lastRun gap encodeFrom behind fewest isBad values firstBad firstDrop allowed
+    frame sizeAt kindAt backAt framing mark isMsb marked stepForward tuplesFrom tuplesOf classes inClass listings among listingOf
+    declaredOwn
 accepted = refl
 
 -- and printed as the one normal form, which is printed as itself
@@ -58,6 +60,7 @@ pub one-form : map (λ (v : List String). normalFile (text v)) (normal ∷ varia
 unfolding normal lsb lsbOtherCut msb msbOtherCut normalFile normalTuple linesOf allDigits bytesIn inputFrom hex decimals normalAnswer
     singleForm singleAnswer firstUnlisted items contentOf normalTuples formed normalOf ending turn checkFrom checkFile formOf itemOf
     digestOf wordsIn attributeIn countIn contentU contentC dataU dataC has naming firstWrong words allWords unwords pairUp unpair isRun
-    runLength decodeFrom samplesFrom endsFrom pingLength lastRun gap encodeFrom behind fewest isBad values firstBad firstDrop allowed frame sizeAt kindAt backAt framing mark isMsb marked stepForward tuplesFrom
-    tuplesOf classes inClass listings among listingOf declaredOwn
+    runLength decodeFrom samplesFrom endsFrom pingLength lastRun gap encodeFrom behind fewest isBad values firstBad firstDrop allowed
+    frame sizeAt kindAt backAt framing mark isMsb marked stepForward tuplesFrom tuplesOf classes inClass listings among listingOf
+    declaredOwn
 one-form = refl

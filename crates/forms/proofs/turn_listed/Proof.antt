@@ -1,6 +1,5 @@
 -- `forms::turn_listed` meets its contract: in each arm the listing is the arm's. Assumes nothing.
-use mathlib.Core.Path.{_≡_, refl}
-use native.Mathlib.Omega.{arith}
+use mathlib.Core.Path.{refl}
 use borrow.Author.Needs.{needs}
 use Rattle.layout.specs.Types.{listings}
 use Rattle.layout.specs.inner.Codes.{fieldOf, fieldsOf, rowCodes}

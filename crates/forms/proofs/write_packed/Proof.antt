@@ -1,6 +1,6 @@
 -- `forms::write_packed` meets its contract: its words packed; size, type, header and number of samples before them; attribute and
 -- backlink behind them. Assumes nothing.
-use mathlib.Core.Path.{_≡_, refl, ap, _∙_}
+use mathlib.Core.Path.{refl, ap, _∙_}
 use mathlib.Core.Bool.{false}
 use mathlib.Core.List.{List}
 use Prim.Native.Nat.{ℕ, _+_, _-_, _*_, _≤_}

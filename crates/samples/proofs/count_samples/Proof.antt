@@ -1,8 +1,7 @@
 -- `samples::count_samples` meets its contract: the samples counted and those of the words from here on are all samples.
 -- Assumes nothing.
 use mathlib.Core.Path.{_≡_, sym, ap, _∙_}
-use Prim.Native.Nat.{ℕ, _+_, _-_, _*_, _%_, _≤_, _<_}
-use mathlib.Core.List.{List}
+use Prim.Native.Nat.{_+_, _-_, _*_, _%_, _≤_, _<_}
 use native.Mathlib.Omega.{arith}
 use borrow.Author.Needs.{needs}
 use mir.Val.{boolByte}
@@ -41,7 +40,8 @@ loop-again c =
     let step = next (a .msb) (a .part .now) (l .p) (read .read4 .result) (test .loop-test .taken) (read .read4 .ensures) in (
       omega arith,
       omega (arith, few c, l .inv .1),
-      samples-turn (l .count) (read .read4 .result) (wordsFrom 4 (a .msb) (a .part .now) (l .p + 4)) (c .is-run .result) (c .is-run .ensures)
+      samples-turn (l .count) (read .read4 .result) (wordsFrom 4 (a .msb) (a .part .now) (l .p + 4)) (c .is-run .result)
+          (c .is-run .ensures)
           ∙ ap (samplesFrom radix (l .count)) (sym step)
           ∙ l .inv .2,
     )

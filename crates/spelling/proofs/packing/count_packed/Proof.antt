@@ -97,7 +97,13 @@ count-packed-spec =
     (λ c. search needs)
     (λ c κs. omega (arith, c .before .before .before .loop .inv .1, c .before .before .before .before .before .pre))
     (λ c. omega (arith, c .runs .ensures .1, quiet-few (c .before .before .before)))
-    (λ c. omega (arith, once (not (c .before .is-run .result)) (c .runs .result + 1), c .runs .ensures .1, quiet-few (c .before .before .before)))
+    (λ c.
+    omega (
+      arith,
+      once (not (c .before .is-run .result)) (c .runs .result + 1),
+      c .runs .ensures .1,
+      quiet-few (c .before .before .before),
+    ))
     (λ c.
     omega (
       arith,
@@ -121,5 +127,6 @@ count-packed-spec =
     (λ c. search needs)
     loop-again
     (λ c κs. omega (arith, c .before .loop .inv .1, c .before .before .before .pre))
-    (λ c. let l = c .before .before .loop in omega (arith, c .runs2 .ensures .1, l .inv .1, l .inv .2, few (c .before .before .before .before)))
+    (λ c. let l = c .before .before .loop in
+    omega (arith, c .runs2 .ensures .1, l .inv .1, l .inv .2, few (c .before .before .before .before)))
     returns)

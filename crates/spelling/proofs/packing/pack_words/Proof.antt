@@ -1,8 +1,8 @@
 -- `spelling::packing::pack_words` meets its contract: what is written and the words that are left, packed, are all words packed.
 -- Assumes nothing.
-use mathlib.Core.Path.{_≡_, refl, sym, ap, _∙_}
-use mathlib.Core.Bool.{Bool, true, false, not}
-use mathlib.Core.List.{List, _∷_, _++_}
+use mathlib.Core.Path.{refl, sym, ap, _∙_}
+use mathlib.Core.Bool.{false, not}
+use mathlib.Core.List.{List, _++_}
 use Prim.Native.Nat.{ℕ, _+_, _-_, _*_, _%_, _≤_, _<_}
 use native.Mathlib.Omega.{arith}
 use borrow.Author.Needs.{needs}
@@ -35,7 +35,8 @@ loop-holds c =
     let a = c .before .before .args in (
       omega arith,
       omega arith,
-      packing-as (ap (packFrom radix 0) (sym (from-all 4 (a .msb) (a .part .now)))) (record { long = refl; ends = refl; bytes = λ t n. refl }),
+      packing-as (ap (packFrom radix 0) (sym (from-all 4 (a .msb) (a .part .now))))
+          (record { long = refl; ends = refl; bytes = λ t n. refl }),
     )
 
 -- places, named by what has been done there
@@ -72,8 +73,8 @@ ahead c =
     let step = next _ _ _ _ (read .before .loop-test .taken) (read .read4 .ensures) in
     packing-as
     (ap (packFrom radix (l .quiet)) step
-    ∙ pack-words-step (l .quiet) (read .read4 .result) (length .run-length .result) _ _ (l .inv .1) (run .is-run .result) (c .ends-run .result)
-    (run .is-run .ensures) (length .run-length .ensures) (c .ends-run .ensures) refl)
+    ∙ pack-words-step (l .quiet) (read .read4 .result) (length .run-length .result) _ _ (l .inv .1) (run .is-run .result)
+    (c .ends-run .result) (run .is-run .ensures) (length .run-length .ensures) (c .ends-run .ensures) refl)
     (l .inv .2)
 
 -- there is room for both

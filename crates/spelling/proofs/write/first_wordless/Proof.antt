@@ -40,12 +40,18 @@ tested c = rw (c .before .is-run .ensures, c .is-bad .ensures)
 returns : tie.Need-returns Inv-loop μ-loop
 returns c =
     let said = c .before .before .before in
-    omega (arith, ap (firstWordless wide) (split said) ∙ wordless-here wide (0, said .pattern4 .result) _ (tested (c .before) ∙ c .if1 .taken))
+    omega (
+      arith,
+      ap (firstWordless wide) (split said) ∙ wordless-here wide (0, said .pattern4 .result) _ (tested (c .before) ∙ c .if1 .taken),
+    )
 
 loop-again : tie.Need-loop-again Inv-loop μ-loop
 loop-again c =
     let said = c .before .before .before in
-    omega (arith, ap (firstWordless wide) (split said) ∙ wordless-later wide (0, said .pattern4 .result) _ (tested (c .before) ∙ c .if1 .left))
+    omega (
+      arith,
+      ap (firstWordless wide) (split said) ∙ wordless-later wide (0, said .pattern4 .result) _ (tested (c .before) ∙ c .if1 .left),
+    )
 
 returns-2 : tie.Need-returns-2 Inv-loop μ-loop
 unfolding firstWordless

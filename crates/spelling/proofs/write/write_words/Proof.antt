@@ -1,12 +1,12 @@
 -- `spelling::write::write_words` meets its contract: what is written and the words of the samples that are left are the fewest words.
 -- Assumes nothing.
 use mathlib.Core.Path.{_≡_, refl, sym, ap, _∙_}
-use mathlib.Core.List.{List, []}
+use mathlib.Core.List.{List}
 use Prim.Native.Nat.{ℕ, suc, _+_, _-_, _*_, _≤_}
 use native.Mathlib.Omega.{arith}
 use borrow.Author.Needs.{needs}
 use lib.Dec.{lit<}
-use lib.IntN.{ℤ, pos}
+use lib.IntN.{pos}
 use lib.ListN.{length, drop, getD}
 use lib.Seq.{sets}
 use Rattle.samples.specs.Words.{Sample, unwords}
@@ -21,7 +21,8 @@ use Rattle.spelling.proofs.write.write_words.Tie as tie
 abbrev Inv-loop : tie.InvT-loop
 Inv-loop ns vs quiet msb out₀ at to₀ next₀ i₀ out to next i =
     (i ≤ length ns) × (length out ≡ length out₀) × Rising next (paired (drop i ns) (drop i vs))
-    × (to + 4 * length (encodeFrom radix next (paired (drop i ns) (drop i vs)) quiet) ≡ at + 4 * length (encodeFrom radix 0 (paired ns vs) quiet))
+    × (to + 4 * length (encodeFrom radix next (paired (drop i ns) (drop i vs)) quiet)
+    ≡ at + 4 * length (encodeFrom radix 0 (paired ns vs) quiet))
     × (sets out to (unwords 4 msb (encodeFrom radix next (paired (drop i ns) (drop i vs)) quiet))
     ≡ sets out₀ at (unwords 4 msb (encodeFrom radix 0 (paired ns vs) quiet)))
 
@@ -87,7 +88,8 @@ loop-again c =
       put .store4 .kept .0 ∙ gone .write-gap .kept .0 ∙ l .inv .1,
       sample-rises _ _ (l .i) n (omega arith) (omega arith) (wide .wide .ensures .0) (l .next) (l .inv .2) .1,
       omega (arith, words wide, gone .write-gap .ensures),
-      sample-turn (a .numbers .now) (a .values .now) (l .i) n (omega arith) (omega arith) (wide .wide .ensures .0) (l .next) radix (lit< tt) (a .quiet)
+      sample-turn (a .numbers .now) (a .values .now) (l .i) n (omega arith) (omega arith) (wide .wide .ensures .0) (l .next) radix (lit< tt)
+          (a .quiet)
           4 (a .msb)
           (l .out) _ _ (l .to) (gone .write-gap .result) (said .pattern4 .result)
           (gone .write-gap .ensures .0) (gone .write-gap .ensures .1)
