@@ -4,12 +4,12 @@
 
 mod common;
 
-use common::{bytes, count, lent, seed, tuples, Bytes};
+use common::{bytes, count, lent, marked, ping_header, seed, survey, tuples, Bytes, FIRST_PING};
 use second::gen::{equal_pair, file_case, frames, unequal_pair, Case, Rng};
 use second::programs::{normalise_tuple, program_one, program_two};
-use second::records::{Ping, PingHeader, PingKind};
+use second::records::{Ping, PingKind};
 use second::samples::{read_samples, write_c32, write_u32};
-use second::{check, content, normalise, Answer, Entry, Order, SoftwareChannel};
+use second::{check, content, normalise, Answer, Entry, Order};
 use std::collections::BTreeMap;
 
 /// The words of a run of 1 and of 65,536; a run of n is RUN + n - 1.
@@ -33,21 +33,10 @@ fn values(words: &[u32]) -> u32 {
     words.iter().filter(|word| **word < RUN).count() as u32
 }
 
-/// The header of every ping here, in the order in which it is stored.
-fn header() -> PingHeader {
-    PingHeader {
-        time_fraction: 5000,
-        time_cpu_ansi_c_standard_time: 60,
-        software_channel_identifier: SoftwareChannel(1),
-        transmitter_mode: 2,
-        ping_number: 9,
-        detected_bottom_range: -3,
-    }
-}
-
 const ATTRIBUTE: i32 = -8;
 
 impl Bytes {
+    /// `ping_header` as it is stored.
     fn header(&mut self) {
         self.two(5000);
         self.four(60);
@@ -79,31 +68,14 @@ impl Bytes {
 
 /// A mark and one ping.
 fn alone(order: Order, stored: &Stored) -> Vec<u8> {
-    let mut file = Bytes::new(order);
-    file.four(0xAC);
-    file.ping(stored);
-    file.bytes
+    marked(order, |file| file.ping(stored))
 }
-
-/// Where the first ping of a file below starts: behind the mark, a signature, a
-/// sounder, a channel and a position.
-const PING: u64 = 4 + 24 + 72 + 108 + 36;
 
 /// A sound file of these pings.
 fn whole(order: Order, pings: &[Stored]) -> Vec<u8> {
-    let mut file = Bytes::new(order);
-    file.four(0xAC);
-    file.tuple(65535, 24, |bytes| bytes.two(0xACAC));
-    for (code, length) in [(100, 72), (1000, 108)] {
-        file.tuple(code, length, |bytes| {
-            bytes.two(1);
-            bytes.four(7);
-        });
-    }
-    file.tuple(20, 36, |_| {});
-    pings.iter().for_each(|stored| file.ping(stored));
-    file.tuple(65534, 24, |_| {});
-    file.bytes
+    survey(order, |file| {
+        pings.iter().for_each(|stored| file.ping(stored))
+    })
 }
 
 /// The output of a call that accepts, in memory that just suffices; one byte less is
@@ -170,7 +142,7 @@ fn reads(stored: &Stored, length: Option<u32>, samples: &[(u32, i32)]) {
     for order in Order::BOTH {
         let name = format!("{order:?} {stored:x?}");
         let expected = Ping {
-            header: header(),
+            header: ping_header(),
             tuple_attribute: ATTRIBUTE,
             kind,
             values: samples.len() as u32,
@@ -178,10 +150,10 @@ fn reads(stored: &Stored, length: Option<u32>, samples: &[(u32, i32)]) {
         };
         let file = whole(order, std::slice::from_ref(stored));
         let told = Ok((Answer::accepted(1, 0), expected));
-        assert_eq!(Ping::read(&file, PING), told, "{name}");
+        assert_eq!(Ping::read(&file, FIRST_PING), told, "{name}");
         let n = samples.len();
         let (mut numbers, mut read) = (vec![7; n + 2], vec![8; n + 2]);
-        let answer = read_samples(&file, PING, &mut numbers, &mut read);
+        let answer = read_samples(&file, FIRST_PING, &mut numbers, &mut read);
         assert_eq!(answer, Answer::accepted(1, n as u64), "{name}");
         let (first, second): (Vec<u32>, Vec<i32>) = samples.iter().copied().unzip();
         // a run behind the last value gives no sample
@@ -394,7 +366,17 @@ fn one_silence_one_form() {
 
 /// The ping that the C-32 writer makes, in an order.
 fn c32(numbers: &[u32], values: &[i32], length: Option<u32>, order: Order) -> Vec<u8> {
-    written(|out| write_c32(&header(), ATTRIBUTE, numbers, values, length, order, out))
+    written(|out| {
+        write_c32(
+            &ping_header(),
+            ATTRIBUTE,
+            numbers,
+            values,
+            length,
+            order,
+            out,
+        )
+    })
 }
 
 /// Bytes of silent pings in both orders.
@@ -478,7 +460,7 @@ fn refused(numbers: &[u32], values: &[i32], length: Option<u32>, code: u32, plac
     for order in Order::BOTH {
         for room in [0, 44, 262_200] {
             let mut out = lent(room);
-            let answer = write_c32(&header(), 0, numbers, values, length, order, &mut out);
+            let answer = write_c32(&ping_header(), 0, numbers, values, length, order, &mut out);
             assert_eq!(answer, Answer::refused(code, place), "{length:?}");
             assert_eq!(out, lent(room), "{length:?}");
         }
@@ -516,7 +498,7 @@ fn the_writer_refuses_in_order() {
     refused(&[u32::MAX], &[0], None, 11, 0);
     // 19 comes last, and only where there is too little room
     let mut out = lent(43);
-    let short = write_c32(&header(), 0, &[0], &[5], Some(2), Order::Lsb, &mut out);
+    let short = write_c32(&ping_header(), 0, &[0], &[5], Some(2), Order::Lsb, &mut out);
     assert_eq!(short, Answer::refused(19, 0));
     assert_eq!(out, lent(43));
 }
@@ -603,7 +585,7 @@ fn the_most_words() {
 #[test]
 fn the_other_writer_has_no_length() {
     let mut out = lent(40);
-    let silent = write_u32(&header(), 0, &[], &[], Order::Lsb, &mut out);
+    let silent = write_u32(&ping_header(), 0, &[], &[], Order::Lsb, &mut out);
     assert_eq!(silent, Answer::refused(22, 0));
     assert_eq!(out, lent(40));
 }

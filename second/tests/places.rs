@@ -4,7 +4,8 @@
 
 mod common;
 
-use common::{count, first_sample_fault, lent, sample_faults, seed, tuples_found, Bytes, File};
+use common::{count, first_sample_fault, lent, marked, sample_faults, seed, survey, tuples_found};
+use common::{Bytes, File, FIRST_PING};
 use second::gen::{fault, frames, line_case, Case, Kind, Rng, Spot, FAULT_KINDS};
 use second::programs::{decode, normalise_tuple, program_one, program_two, BYTE_LIMIT};
 use second::records::Ping;
@@ -52,34 +53,18 @@ impl Bytes {
 
 /// A mark and one ping.
 fn alone(order: Order, samples: &Samples) -> Vec<u8> {
-    let mut file = Bytes::new(order);
-    file.four(0xAC);
-    file.ping(samples);
-    file.bytes
+    marked(order, |file| file.ping(samples))
 }
-
-/// Where the first ping of a file below starts: behind the mark, a signature, a
-/// sounder, a channel and a position.
-const PING: usize = 4 + 24 + 72 + 108 + 36;
 
 /// A file of these pings, sound otherwise.
 fn whole(order: Order, pings: &[Samples]) -> Vec<u8> {
-    let mut file = Bytes::new(order);
-    file.four(0xAC);
-    file.tuple(65535, 24, |bytes| bytes.two(0xACAC));
-    for (code, length) in [(100, 72), (1000, 108)] {
-        file.tuple(code, length, |bytes| {
-            bytes.two(1);
-            bytes.four(7);
-        });
-    }
-    file.tuple(20, 36, |_| {});
-    for samples in pings {
-        file.ping(samples);
-    }
-    file.tuple(65534, 24, |_| {});
-    file.bytes
+    survey(order, |file| {
+        pings.iter().for_each(|samples| file.ping(samples))
+    })
 }
+
+/// Where its first ping starts.
+const PING: usize = FIRST_PING as usize;
 
 /// What a program prints on a file's lines.
 fn printed(program: fn(&[u8]) -> Vec<u8>, file: &[u8]) -> String {

@@ -3,7 +3,7 @@
 
 mod common;
 
-use common::{count, lent, limit_case, seed, tuples};
+use common::{count, lent, limit_case, ping_header, seed, tuples};
 use second::gen::{any_length, sample_list, sound_drafts, Rng, Style, Wish};
 use second::layout;
 use second::records::*;
@@ -491,17 +491,6 @@ fn end_of_file_data() {
     assert_eq!(tuple, common::bytes(expected));
 }
 
-fn header() -> PingHeader {
-    PingHeader {
-        time_fraction: 5000,
-        time_cpu_ansi_c_standard_time: 60,
-        software_channel_identifier: SoftwareChannel(1),
-        transmitter_mode: 2,
-        ping_number: 9,
-        detected_bottom_range: -3,
-    }
-}
-
 /// Both kinds of a list that suits both read the same, in both orders, but for the
 /// length that C-32 alone can have.
 #[test]
@@ -521,7 +510,7 @@ fn pings_of_both_kinds_read_the_same() {
             for length in [length, None].into_iter().take(1 + n.min(1)) {
                 let words = fewest(&numbers, length);
                 let c32 = written(36 + 4 * words as usize, |out| {
-                    write_c32(&header(), -8, &numbers, &values, length, order, out)
+                    write_c32(&ping_header(), -8, &numbers, &values, length, order, out)
                 });
                 assert_eq!(fewest_words(&numbers, length), words, "{name}");
                 let file = behind_mark(order, &c32);
@@ -529,7 +518,7 @@ fn pings_of_both_kinds_read_the_same() {
             }
             if n > 0 {
                 let u32 = written(32 + 8 * n, |out| {
-                    write_u32(&header(), -8, &numbers, &values, order, out)
+                    write_u32(&ping_header(), -8, &numbers, &values, order, out)
                 });
                 let file = behind_mark(order, &u32);
                 read_back(&file, (PingKind::U32, None), &numbers, &values, &name);
@@ -564,7 +553,7 @@ fn read_back(
     let (answer, ping) = Ping::read(file, 4).unwrap();
     assert_eq!(answer, Answer::accepted(1, 0), "{name}");
     let expected = Ping {
-        header: header(),
+        header: ping_header(),
         tuple_attribute: -8,
         kind,
         values: n as u32,
@@ -609,7 +598,7 @@ fn gaps_in_words() {
     ] {
         let length = 36 + common::bytes(words).len();
         let tuple = written(length, |out| {
-            write_c32(&header(), 0, &[number], &[1], None, Order::Lsb, out)
+            write_c32(&ping_header(), 0, &[number], &[1], None, Order::Lsb, out)
         });
         assert_eq!(tuple[28..length - 8], common::bytes(words), "{number}");
         assert_eq!(tuple[24..28], [1, 0, 0, 0]);
@@ -621,7 +610,7 @@ type PingWriter = fn(&PingHeader, i32, &[u32], &[i32], Order, &mut [u8]) -> Answ
 fn refuses(writer: PingWriter, numbers: &[u32], values: &[i32], code: u32, place: u64) {
     for order in Order::BOTH {
         refused(code, place, |out| {
-            writer(&header(), 0, numbers, values, order, out)
+            writer(&ping_header(), 0, numbers, values, order, out)
         });
     }
 }
@@ -679,7 +668,7 @@ fn ping_writers_in_order() {
     ] {
         refuses(c, &[0, 1, u32::MAX], &[0, value, value], 21, 1);
         let tuple = written(40, |out| {
-            write_u32(&header(), 0, &[0], &[value], Order::Msb, out)
+            write_u32(&ping_header(), 0, &[0], &[value], Order::Msb, out)
         });
         let file = behind_mark(Order::Msb, &tuple);
         let mut read = [0];
@@ -691,25 +680,39 @@ fn ping_writers_in_order() {
     // 65,526 full runs and a value are 65,527 words, the most there is room for
     let last = 65_526 * 65_536;
     written(262_144, |out| {
-        c(&header(), 0, &[last], &[0], Order::Lsb, out)
+        c(&ping_header(), 0, &[last], &[0], Order::Lsb, out)
     });
     refuses(c, &[last + 1], &[0], 11, 0);
     // the most values of either kind, dense and with gaps
     let values = vec![3; 32_764];
     written(262_144, |out| {
-        write_u32(&header(), 0, &rising[..32_764], &values, Order::Lsb, out)
+        write_u32(
+            &ping_header(),
+            0,
+            &rising[..32_764],
+            &values,
+            Order::Lsb,
+            out,
+        )
     });
     written(36 + 4 * 32_764, |out| {
-        c(&header(), 0, &rising[..32_764], &values, Order::Lsb, out)
+        c(
+            &ping_header(),
+            0,
+            &rising[..32_764],
+            &values,
+            Order::Lsb,
+            out,
+        )
     });
     let odd: Vec<u32> = (0..32_764).map(|n| 2 * n).collect();
     written(36 + 4 * 65_527, |out| {
-        c(&header(), 0, &odd, &values, Order::Msb, out)
+        c(&ping_header(), 0, &odd, &values, Order::Msb, out)
     });
     // one more run: over the length
     let odder: Vec<u32> = (0..32_764).map(|n| 2 * n + 1).collect();
     refuses(c, &odder, &values, 11, 0);
     written(262_144, |out| {
-        write_u32(&header(), 0, &odder, &values, Order::Lsb, out)
+        write_u32(&ping_header(), 0, &odder, &values, Order::Lsb, out)
     });
 }

@@ -4,8 +4,9 @@
 pub mod said;
 
 use second::gen::{limit, limit_count, Case};
+use second::records::PingHeader;
 use second::walk::{forward, Step, Tuple};
-use second::Order;
+use second::{Order, SoftwareChannel};
 use std::collections::BTreeMap;
 
 /// The seed of the generated cases; SECOND_SEED sets another.
@@ -103,6 +104,46 @@ impl Bytes {
         fill(self);
         self.bytes.resize(start + length - 4, 0);
         self.four(length as u32);
+    }
+}
+
+/// A mark and the tuples that are put behind it.
+pub fn marked(order: Order, put: impl FnOnce(&mut Bytes)) -> Vec<u8> {
+    let mut file = Bytes::new(order);
+    file.four(0xAC);
+    put(&mut file);
+    file.bytes
+}
+
+/// Where the first ping of a survey starts: behind the mark, a signature, a sounder, a
+/// channel and a position.
+pub const FIRST_PING: u64 = 4 + 24 + 72 + 108 + 36;
+
+/// A file of these pings of channel 1, sound otherwise.
+pub fn survey(order: Order, pings: impl FnOnce(&mut Bytes)) -> Vec<u8> {
+    marked(order, |file| {
+        file.tuple(65535, 24, |bytes| bytes.two(0xACAC));
+        for (code, length) in [(100, 72), (1000, 108)] {
+            file.tuple(code, length, |bytes| {
+                bytes.two(1);
+                bytes.four(7);
+            });
+        }
+        file.tuple(20, 36, |_| {});
+        pings(file);
+        file.tuple(65534, 24, |_| {});
+    })
+}
+
+/// A ping's header.
+pub fn ping_header() -> PingHeader {
+    PingHeader {
+        time_fraction: 5000,
+        time_cpu_ansi_c_standard_time: 60,
+        software_channel_identifier: SoftwareChannel(1),
+        transmitter_mode: 2,
+        ping_number: 9,
+        detected_bottom_range: -3,
     }
 }
 
