@@ -63,11 +63,12 @@ enum {
 /* ---- codes: what a call returns, and what answer[HAC_CODE] holds; HAC_UNFIT is also a reader's for a type not asked for.
 
    23, 24 and 25 are about the samples of a ping. Their place is the byte of the first offender, for the check, the question, the
-   normal forms and both readers of a ping alike, whatever place these are handed. With i counted from 0:
-   - 23, U-32: the first sample number that isn't above the one before it, at ping + 24 + 8 i, i the place of its pair.
-   - 24, C-32: the first word outside the limits, at ping + 28 + 4 i, i its place among the words.
-   - 25, C-32: the number of samples, at ping + 24, where it isn't the number of words that are no runs.
-   Of one ping 11 comes first, at the ping; then 24; then 25.
+   normal forms and all readers of a ping alike, whatever place these are handed. With i counted from 0:
+   - 23: the first sample number that isn't above the one before it, i the place of its sample. U-32 and U-32-16-angles: at
+     ping + 24 + 8 i; U-16: ping + 24 + 4 i; U-16-angles: ping + 24 + 6 i.
+   - 24: the first word outside the limits, i its place among the words. C-32: at ping + 28 + 4 i; C-16 and CE-16: ping + 28 + 2 i.
+   - 25, C-32, C-16 and CE-16: the number of samples, at ping + 24, where it isn't the number of words that are no runs.
+   Of one ping 11 comes first, at the ping; then 24; then 25. What is a word of a C-16 or CE-16 ping is said where pings are.
 
    12, 13, 14 and 17 are about sounders and channels, of which two makers' are listed: Biosonics' (HAC_TYPE_SOUNDER and
    HAC_TYPE_CHANNEL, 100 and 1000) and Simrad's, the EK-500 (HAC_TYPE_EK500_SOUNDER and HAC_TYPE_EK500_CHANNEL, 200 and 2000). A
@@ -78,9 +79,9 @@ enum {
      of the other maker.
    - 14: the limits count both makers' together.
    - 17: a sounder's number of channels is the number of channels that name it.
-   All four are listed, so none of them gives 18.
+   All four are listed, so none of them gives 18; neither does a ping of any kind.
 
-   21, 22 and 26 are ping writers' alone, 26 the C-32 writer's: hac_write_c32 says more. */
+   21, 22 and 26 are ping writers' alone, 21 and 26 those of C-32, C-16 and CE-16: hac_write_c32 says more. */
 enum {
     HAC_ACCEPTED = 0,
     HAC_OVER_LIMIT = 1,          /* file over the limit */
@@ -103,17 +104,25 @@ enum {
     HAC_UNTURNABLE = 18,         /* unlisted, non-index type in an MSB file */
     HAC_NO_ROOM = 19,            /* lent output too short */
     HAC_NORMAL_OVER_LIMIT = 20,  /* normal form over 16,777,216 */
-    HAC_NO_WORD = 21,            /* C-32 writer: value in -65536..-1 or outside the limits */
-    HAC_NO_SAMPLES = 22,         /* writer: ping without samples, and, C-32, without a length */
+    HAC_NO_WORD = 21,            /* writer of words: a value that has no word */
+    HAC_NO_SAMPLES = 22,         /* writer: ping without samples, and, of words, without a length */
     HAC_NOT_RISING = 23,         /* sample number not rising */
     HAC_BAD_WORD = 24,           /* word outside the limits */
     HAC_MISCOUNTED = 25,         /* number of samples wrong */
-    HAC_SHORT_LENGTH = 26        /* writer: a C-32 ping's length under its last sample number plus 2, or 0 where it has no
-                                    samples */
+    HAC_SHORT_LENGTH = 26        /* writer of words: a ping's length under its last sample number plus 2, or 0 where it has
+                                    no samples */
 };
 
 /* ---- type codes of the pings; those of the records stand in hac_records.h: HAC_TYPE_NAVIGATION .. */
-enum { HAC_TYPE_PING_U = 10000, HAC_TYPE_PING_C = 10010 };
+enum {
+    HAC_TYPE_PING_U = 10000,             /* U-32 */
+    HAC_TYPE_PING_U32_16_ANGLES = 10001,
+    HAC_TYPE_PING_C = 10010,             /* C-32 */
+    HAC_TYPE_PING_U16 = 10030,
+    HAC_TYPE_PING_U16_ANGLES = 10031,
+    HAC_TYPE_PING_C16 = 10040,
+    HAC_TYPE_PING_CE16 = 10050
+};
 
 /* ---- the first five entries of every answer
 
@@ -181,13 +190,27 @@ enum { HAC_NORMALISE_TUPLE_ENTRIES = 5 };
 uint8_t hac_normalise_tuple(const uint8_t *file, size_t length, uint8_t *out, size_t out_length, uint64_t *answer,
     size_t entries);
 
-/* ---- pings, U-32 and C-32
+/* ---- pings, of seven kinds
+
+   U-32, U-16 and the two kinds of angles number their samples; C-32, C-16 and CE-16 have words, each of them a value or a run of
+   samples below threshold, and before them the number of values. A value is a whole number; of CE-16 it is the counts that its
+   words stand for, from -507840 to 507840.
+
+   A ping's family is content: U-32 and C-32 are one, U-16 and C-16 another; CE-16, U-32-16-angles and U-16-angles are each one
+   of their own. Which kind of its family a ping has is none, and no ping changes its family.
 
    A ping's length is the number of its samples, those below threshold in its runs counted too: how far the water was sampled. A
-   C-32 ping has one where its last word is a run, so one without samples always has, and it is at least 1; a C-32 ping whose
-   last word is a value has none, and neither has a U-32 ping. The length is content: two pings are the same only where their
-   lengths are equal or both have none, and silent pings of different lengths differ. How runs are cut is no content. The normal
-   form of a ping with a length is C-32 in the fewest words, the silence behind its last value among them; of all others U-32.
+   ping of words has one where its last word is a run, so one without samples always has, and it is at least 1; one whose last
+   word is a value has none, and neither has a ping that numbers its samples. The length is content: two pings are the same only
+   where their lengths are equal or both have none, and silent pings of different lengths differ. How runs are cut is no content.
+
+   The normal form is U-32 or U-16, but C-32 or C-16 in the fewest words for a ping with a length, the silence behind its last
+   value among them, and C-16 for one with a value past sample 65535, which U-16 can't number. CE-16 stays CE-16 in the fewest
+   words, and its second 0, 8000, becomes 0000. Angles stay as they are.
+
+   Behind an odd number of samples of U-16-angles, and of words of C-16 and CE-16, stands a space of two bytes, 0 when written.
+   Behind words the number of samples tells it: the last two bytes before the attribute are a space where that number is right
+   without them and wrong with them, and else a word. So a space may hold anything but a run (FFxx), which is always a word.
 
    Silence behind the last value said nothing before, and a ping without samples was one run of 1. What changes for a caller:
    - hac_read_ping tells the length in two entries more, HAC_PING_HAS_LENGTH and HAC_PING_LENGTH: lend it HAC_READ_PING_ENTRIES,
@@ -196,13 +219,27 @@ uint8_t hac_normalise_tuple(const uint8_t *file, size_t length, uint8_t *out, si
    - hac_write_c32 of a ping without samples and without a length is HAC_NO_SAMPLES. Hand over true and 1 for the run of 1 that it
      wrote before, or better how many samples were silent.
    - hac_normalise and hac_normalise_tuple keep a ping that ends in a run as C-32. Normal forms made before, of files that have
-     such pings, are not those of today. */
+     such pings, are not those of today.
+
+   The five kinds but U-32 and C-32 were of no listed type before. What changes for a caller:
+   - Tuples of these types are judged and linked like other pings, so that a file of them may be refused that was not. They no
+     longer give 18.
+   - HAC_PING_KIND has five numbers more. hac_read_samples takes U-16, C-16 and CE-16 too; hac_read_angles is new, and so are five
+     writers. */
 
 /* Header, attribute, kind, number of values and length. Refused as a forward step is, 3 at the end; 9 for another type; 9, 11,
    all at the place; then 23, 24, 25 at their bytes. */
 enum { HAC_READ_PING_ENTRIES = 16 };
 
-enum { HAC_KIND_U32 = 0, HAC_KIND_C32 = 1 };
+enum {
+    HAC_KIND_U32 = 0,
+    HAC_KIND_C32 = 1,
+    HAC_KIND_U32_16_ANGLES = 2,
+    HAC_KIND_U16 = 3,
+    HAC_KIND_U16_ANGLES = 4,
+    HAC_KIND_C16 = 5,
+    HAC_KIND_CE16 = 6
+};
 
 enum {
     HAC_PING_TIME_FRACTION = 5,
@@ -212,30 +249,44 @@ enum {
     HAC_PING_PING_NUMBER = 9,
     HAC_PING_DETECTED_BOTTOM_RANGE = 10, /* int32_t */
     HAC_PING_TUPLE_ATTRIBUTE = 11,       /* int32_t */
-    HAC_PING_KIND = 12,                  /* HAC_KIND_U32 or HAC_KIND_C32 */
-    HAC_PING_VALUES = 13,                /* the number of its samples that have values */
+    HAC_PING_KIND = 12,                  /* HAC_KIND_U32 .. */
+    HAC_PING_VALUES = 13,                /* the number of its samples that have values, or angles */
     HAC_PING_HAS_LENGTH = 14,            /* 1 where the ping has a length, 0 where it has none */
     HAC_PING_LENGTH = 15                 /* its length: all its samples, runs counted; 0 where it has none */
 };
 
 uint8_t hac_read_ping(const uint8_t *file, size_t length, size_t place, uint64_t *answer, size_t entries);
 
-/* The samples that have values: an entry of both slices for each; entries past them stay. Length: how many. Refused as
-   hac_read_ping; then by 19 at 0 where either slice is shorter than HAC_PING_VALUES. */
+/* The samples that have values: an entry of both slices for each; entries past them stay. Length: how many. Takes U-32, C-32,
+   U-16, C-16 and CE-16; a ping of angles is another type: 9 at the place. Else refused as hac_read_ping; then by 19 at 0 where
+   either slice is shorter than HAC_PING_VALUES. */
 enum { HAC_READ_SAMPLES_ENTRIES = 5 };
 
 uint8_t hac_read_samples(const uint8_t *file, size_t length, size_t place, uint32_t *numbers, size_t numbers_length,
     int32_t *values, size_t values_length, uint64_t *answer, size_t entries);
 
+/* The samples of a ping of angles, in tenths of a degree: an entry of all three slices for each; entries past them stay. Length:
+   how many. Takes U-32-16-angles and U-16-angles; any other ping is another type: 9 at the place. Else refused as hac_read_ping;
+   then by 19 at 0 where one of the slices is shorter than HAC_PING_VALUES. */
+enum { HAC_READ_ANGLES_ENTRIES = 5 };
+
+uint8_t hac_read_angles(const uint8_t *file, size_t length, size_t place, uint32_t *numbers, size_t numbers_length,
+    int16_t *alongship, size_t alongship_length, int16_t *athwartship, size_t athwartship_length, uint64_t *answer,
+    size_t entries);
+
 /* ---- writers. `msb` asks for the most significant byte first. All write one tuple at the start of `out`, spaces as 0; length:
    its bytes. Every writer has the same least number of entries. */
 enum { HAC_WRITE_ENTRIES = 5 };
 
-/* A ping as pairs, or in the fewest words. Numbers rise strictly; both slices have the same length. Refused by 23 at the smaller
-   of unequal lengths; 11 (over HAC_VALUE_LIMIT values); 22 (no samples, and, C-32, no length); 23 at the first number not above
-   the one before it; 21 at the first value that has no word (C-32 alone: only -2147418112 .. -65537 and 0 .. 2147418111 have
-   words); 26 (C-32 alone, where there is a length: under the last number plus 2, or 0 without samples); 11 (the tuple over
-   HAC_TUPLE_LIMIT); 19. The places of 23 and 21 are places in the list, from 0; all others are 0. */
+/* A ping of a kind that numbers its samples, or in the fewest words. Numbers rise strictly; all slices of samples have the same
+   length. Refused by 23 at the smallest of unequal lengths; 11 (over HAC_VALUE_LIMIT samples); 22 (no samples, and, of words, no
+   length); 23 at the first number not above the one before it; 21 at the first value that has no word (of words alone); 26 (of
+   words alone, where there is a length: under the last number plus 2, or 0 without samples); 11 (the tuple over
+   HAC_TUPLE_LIMIT, of words alone); 19. The places of 23 and 21 are places in the list, from 0; all others are 0.
+
+   These have a word: C-32, -2147418112 .. -65537 and 0 .. 2147418111; C-16, -32511 .. -257 and 0 .. 32511; CE-16, 0 .. 507840 and
+   their negatives as far as an exponent gives them: up to 8191 each number, from 8192 on every second, from 16384 on every
+   fourth, and so on, up to every 64th from 262144 on. */
 uint8_t hac_write_u32(uint16_t time_fraction, uint32_t time_cpu, uint16_t software_channel_identifier,
     uint16_t transmitter_mode, uint32_t ping_number, int32_t detected_bottom_range, int32_t tuple_attribute,
     const uint32_t *numbers, size_t numbers_length, const int32_t *values, size_t values_length, bool msb, uint8_t *out,
@@ -245,6 +296,36 @@ uint8_t hac_write_u32(uint16_t time_fraction, uint32_t time_cpu, uint16_t softwa
    Without one no run stands behind the last value, and `ping_length` is not looked at. The last number plus 2 is worked out in
    more than 32 bits: where the last number is 4294967294 or 4294967295 every length is too short. */
 uint8_t hac_write_c32(uint16_t time_fraction, uint32_t time_cpu, uint16_t software_channel_identifier,
+    uint16_t transmitter_mode, uint32_t ping_number, int32_t detected_bottom_range, int32_t tuple_attribute,
+    const uint32_t *numbers, size_t numbers_length, const int32_t *values, size_t values_length, bool has_length,
+    uint32_t ping_length, bool msb, uint8_t *out, size_t out_length, uint64_t *answer, size_t entries);
+
+uint8_t hac_write_u32_16_angles(uint16_t time_fraction, uint32_t time_cpu, uint16_t software_channel_identifier,
+    uint16_t transmitter_mode, uint32_t ping_number, int32_t detected_bottom_range, int32_t tuple_attribute,
+    const uint32_t *numbers, size_t numbers_length, const int16_t *alongship, size_t alongship_length,
+    const int16_t *athwartship, size_t athwartship_length, bool msb, uint8_t *out, size_t out_length, uint64_t *answer,
+    size_t entries);
+
+/* U-16 and U-16-angles number samples up to 65535: what is past them can't be handed over. */
+uint8_t hac_write_u16(uint16_t time_fraction, uint32_t time_cpu, uint16_t software_channel_identifier,
+    uint16_t transmitter_mode, uint32_t ping_number, int32_t detected_bottom_range, int32_t tuple_attribute,
+    const uint16_t *numbers, size_t numbers_length, const int16_t *values, size_t values_length, bool msb, uint8_t *out,
+    size_t out_length, uint64_t *answer, size_t entries);
+
+uint8_t hac_write_u16_angles(uint16_t time_fraction, uint32_t time_cpu, uint16_t software_channel_identifier,
+    uint16_t transmitter_mode, uint32_t ping_number, int32_t detected_bottom_range, int32_t tuple_attribute,
+    const uint16_t *numbers, size_t numbers_length, const int16_t *alongship, size_t alongship_length,
+    const int16_t *athwartship, size_t athwartship_length, bool msb, uint8_t *out, size_t out_length, uint64_t *answer,
+    size_t entries);
+
+/* `has_length` and `ping_length` as for C-32. */
+uint8_t hac_write_c16(uint16_t time_fraction, uint32_t time_cpu, uint16_t software_channel_identifier,
+    uint16_t transmitter_mode, uint32_t ping_number, int32_t detected_bottom_range, int32_t tuple_attribute,
+    const uint32_t *numbers, size_t numbers_length, const int16_t *values, size_t values_length, bool has_length,
+    uint32_t ping_length, bool msb, uint8_t *out, size_t out_length, uint64_t *answer, size_t entries);
+
+/* Values are counts. */
+uint8_t hac_write_ce16(uint16_t time_fraction, uint32_t time_cpu, uint16_t software_channel_identifier,
     uint16_t transmitter_mode, uint32_t ping_number, int32_t detected_bottom_range, int32_t tuple_attribute,
     const uint32_t *numbers, size_t numbers_length, const int32_t *values, size_t values_length, bool has_length,
     uint32_t ping_length, bool msb, uint8_t *out, size_t out_length, uint64_t *answer, size_t entries);

@@ -91,6 +91,7 @@ pub fn show() -> Result<(), String> {
     let said = |refusal: Refusal| refusal.to_string();
     let mut all = deposits::long().map_err(said)?;
     all.extend(deposits::silence().map_err(said)?);
+    all.extend(deposits::encodings().map_err(said)?);
     all.extend(deposits::small().map_err(said)?);
     let rows = all.iter().try_for_each(|deposit| row(deposit, &folder));
     fs::remove_dir_all(&folder).map_err(|error| error.to_string())?;

@@ -14,9 +14,9 @@ const CHANNEL: SoftwareChannel = SoftwareChannel(3);
 /// round a tuple of another kind.
 const CRUISE_CHANNELS: u16 = 3;
 
-/// The bytes of a deposit whose normal form is longer than it is, for its C-32 pings
-/// become U-32, and has to stay within the limit of a file: a mixed cruise, and pings
-/// that end in a value.
+/// The bytes of a deposit whose normal form is longer than it is, for its pings of words
+/// become U-32 or U-16, and has to stay within the limit of a file: a mixed cruise, and
+/// pings that end in a value.
 const GROWING_LIMIT: usize = FILE_LIMIT / 4 * 3;
 
 /// The channels of a deposit with some, and of one with as many as may be.
@@ -26,24 +26,69 @@ const MOST_CHANNELS: u16 = CHANNEL_LIMIT as u16;
 /// Small deposits are told in these bytes.
 const KIB: usize = 1 << 10;
 
-/// Samples of a U-32 ping.
+/// Samples of a U-32 ping, and of one of the other kinds that number them: an odd number,
+/// so that those of U-16-angles have a space behind them.
 const SAMPLES: u32 = 1000;
+const ODD_SAMPLES: u32 = 1001;
 
-/// Words of a C-32 ping, and of a short one; its type; where that, its number of
-/// samples and its words stand; the bytes of a word, behind the words, and of a tuple's
-/// frame.
+/// Words of a ping, and of a short one.
 const WORDS: u32 = 2000;
 const FEW_WORDS: u32 = 20;
-const PING_C: u16 = 10010;
+
+/// Where in a ping its type stands and its header ends; the bytes behind its samples, and
+/// of a tuple's frame.
 const TYPE_AT: usize = 4;
-const COUNT_AT: usize = 24;
-const WORDS_AT: usize = 28;
-const WORD: usize = 4;
+const HEADER_END: usize = 24;
 const TAIL: usize = 8;
 const FRAME: usize = 10;
 
-/// The word of a run of 1.
-const SHORTEST_RUN: u32 = 0xFFFF_0000;
+/// The bytes of the two widths of numbers.
+const TWO: usize = 2;
+const FOUR: usize = 4;
+
+/// A kind of ping that numbers its samples: its type, and the widths of a sample's number
+/// and of its value, or of its two angles.
+struct Listed {
+    code: u16,
+    widths: &'static [usize],
+}
+
+const U32_16_ANGLES: Listed = Listed {
+    code: 10001,
+    widths: &[FOUR, TWO, TWO],
+};
+const U16: Listed = Listed {
+    code: 10030,
+    widths: &[TWO, TWO],
+};
+const U16_ANGLES: Listed = Listed {
+    code: 10031,
+    widths: &[TWO, TWO, TWO],
+};
+
+/// A kind of ping of words: its type, the width of a word, the word of a run of 1, and
+/// how many values from 0 on have words.
+#[derive(Clone, Copy)]
+struct Packed {
+    code: u16,
+    width: usize,
+    shortest_run: u32,
+    values: u32,
+}
+
+const C32: Packed = Packed {
+    code: 10010,
+    width: FOUR,
+    shortest_run: 0xFFFF_0000,
+    values: 1 << 28,
+};
+const C16: Packed = Packed {
+    code: 10040,
+    width: TWO,
+    shortest_run: 0xFF00,
+    values: 0x7F00,
+};
+const CE16: Packed = Packed { code: 10050, ..C16 };
 
 /// A deposit: what it is of, its bytes, and whether it is taken.
 pub struct Deposit {
@@ -177,40 +222,72 @@ fn navigation(order: Order, count: u32, tuple: &mut [u8]) -> Result<usize, Refus
     told.write(order, tuple)
 }
 
-/// A number, put at a place.
-fn put(order: Order, tuple: &mut [u8], at: usize, number: u32) {
-    let bytes = match order {
-        Order::Lsb => number.to_le_bytes(),
-        Order::Msb => number.to_be_bytes(),
-    };
-    tuple[at..at + WORD].copy_from_slice(&bytes);
+/// The bytes of a number of some width.
+fn number_bytes(order: Order, width: usize, number: u32) -> Vec<u8> {
+    match order {
+        Order::Lsb => number.to_le_bytes()[..width].to_vec(),
+        Order::Msb => number.to_be_bytes()[FOUR - width..].to_vec(),
+    }
 }
 
-/// A C-32 ping of these words. Recorders cut silence as they like, and the writer
-/// doesn't: so the words come between what a U-32 ping has around its one pair.
+/// A number, put at a place.
+fn put(order: Order, tuple: &mut [u8], at: usize, width: usize, number: u32) {
+    tuple[at..at + width].copy_from_slice(&number_bytes(order, width, number));
+}
+
+/// A ping of a type whose header these bytes follow, and a space where they need one. They
+/// come between what a U-32 ping has around its one pair: recorders cut silence as they
+/// like, and the writers don't.
+fn raw_ping(
+    header: &PingHeader,
+    code: u16,
+    mut samples: Vec<u8>,
+    order: Order,
+    tuple: &mut [u8],
+) -> Result<usize, Refusal> {
+    samples.resize(samples.len().next_multiple_of(FOUR), 0);
+    let single = write_u32(header, 0, &[0], &[0], order, tuple)?;
+    let end = HEADER_END + samples.len();
+    let length = end + TAIL;
+    tuple.copy_within(single - TAIL..single, end);
+    tuple[HEADER_END..end].copy_from_slice(&samples);
+    put(order, tuple, TYPE_AT, TWO, code.into());
+    put(order, tuple, 0, FOUR, (length - FRAME) as u32);
+    put(order, tuple, length - FOUR, FOUR, length as u32);
+    Ok(length)
+}
+
+/// A ping of these words.
 fn words_ping(
     header: &PingHeader,
+    kind: Packed,
     words: &[u32],
     order: Order,
     tuple: &mut [u8],
 ) -> Result<usize, Refusal> {
-    let single = write_u32(header, 0, &[0], &[0], order, tuple)?;
-    let code = match order {
-        Order::Lsb => PING_C.to_le_bytes(),
-        Order::Msb => PING_C.to_be_bytes(),
-    };
-    tuple[TYPE_AT..TYPE_AT + code.len()].copy_from_slice(&code);
-    let values = words.iter().filter(|word| **word < SHORTEST_RUN).count();
-    put(order, tuple, COUNT_AT, values as u32);
-    let end = WORDS_AT + WORD * words.len();
-    let length = end + TAIL;
-    tuple.copy_within(single - TAIL..single, end);
-    for (word, at) in words.iter().zip((WORDS_AT..).step_by(WORD)) {
-        put(order, tuple, at, *word);
+    let values = words.iter().filter(|word| **word < kind.shortest_run);
+    let mut samples = number_bytes(order, FOUR, values.count() as u32);
+    for word in words {
+        samples.extend(number_bytes(order, kind.width, *word));
     }
-    put(order, tuple, 0, (length - FRAME) as u32);
-    put(order, tuple, length - WORD, length as u32);
-    Ok(length)
+    raw_ping(header, kind.code, samples, order, tuple)
+}
+
+impl Listed {
+    /// A deposit of pings of this kind.
+    fn pings(&self, order: Order) -> Result<Vec<u8>, Refusal> {
+        let mut chance = Chance(54321);
+        Draft::new(order, 1)?.fill(FILE_LIMIT, |order, count, tuple| {
+            let mut samples = Vec::new();
+            for number in 0..ODD_SAMPLES {
+                for (nth, width) in self.widths.iter().enumerate() {
+                    let number = if nth == 0 { 3 * number } else { chance.next() };
+                    samples.extend(number_bytes(order, *width, number));
+                }
+            }
+            raw_ping(&header(CHANNEL, count), self.code, samples, order, tuple)
+        })
+    }
 }
 
 /// The last word of a ping: what comes by chance, or what is wanted there.
@@ -221,10 +298,11 @@ enum Last {
     Value,
 }
 
-/// C-32 pings whose words are runs and values by chance: so many words, of which so many
-/// in sixteen are runs, each shorter than `longest`. A run may follow a run.
+/// Pings whose words are runs and values by chance: so many words, of which so many in
+/// sixteen are runs, each shorter than `longest`. A run may follow a run.
 #[derive(Clone, Copy)]
 struct Words {
+    kind: Packed,
     count: u32,
     runs: u32,
     longest: u32,
@@ -233,6 +311,7 @@ struct Words {
 
 /// As many runs as values, short ones; and few values between long ones.
 const SHORT_RUNS: Words = Words {
+    kind: C32,
     count: WORDS,
     runs: 8,
     longest: 8,
@@ -250,16 +329,16 @@ impl Words {
             .map(|_| {
                 let number = chance.next() >> 4;
                 if chance.next() % 16 < self.runs {
-                    SHORTEST_RUN + number % self.longest
+                    self.kind.shortest_run + number % self.longest
                 } else {
-                    number
+                    number % self.kind.values
                 }
             })
             .collect();
         let number = words.last().copied().unwrap_or_default() % self.longest;
         words.extend(match self.last {
             Last::Any => None,
-            Last::Run => Some(SHORTEST_RUN + number),
+            Last::Run => Some(self.kind.shortest_run + number),
             Last::Value => Some(number),
         });
         words
@@ -274,7 +353,7 @@ impl Words {
         let mut chance = Chance(12345);
         Draft::new(order, 1)?.fill(limit, |order, count, tuple| {
             let words = self.draw(&mut chance);
-            words_ping(&header(CHANNEL, count), &words, order, tuple)
+            words_ping(&header(CHANNEL, count), self.kind, &words, order, tuple)
         })
     }
 }
@@ -294,7 +373,7 @@ fn words_of(numbers: &[u32], values: &[i32]) -> Vec<u32> {
     let mut next = 0;
     for (number, value) in numbers.iter().zip(values) {
         if *number > next {
-            words.push(SHORTEST_RUN + (number - next - 1));
+            words.push(C32.shortest_run + (number - next - 1));
         }
         words.push(*value as u32);
         next = number + 1;
@@ -330,7 +409,7 @@ fn cruise(order: Order) -> Result<Vec<u8>, Refusal> {
             return if count.is_multiple_of(2) {
                 write_u32(&header, 0, &numbers, &values, order, tuple)
             } else {
-                words_ping(&header, &words_of(&numbers, &values), order, tuple)
+                words_ping(&header, C32, &words_of(&numbers, &values), order, tuple)
             };
         }
         match count / round % 3 {
@@ -448,6 +527,58 @@ pub fn silence() -> Result<Vec<Deposit>, Refusal> {
         ("C-32 silent, MSB", silent.pings(msb)?),
         ("C-32 silent, one run, LSB", one_run.pings(lsb)?),
         ("C-32 silent, one run, MSB", one_run.pings(msb)?),
+    ]))
+}
+
+/// Those of the other ping encodings. C-16 to a value becomes U-16, but where a value is
+/// past sample 65,535; else words stay words, and are counted before they are written.
+pub fn encodings() -> Result<Vec<Deposit>, Refusal> {
+    let to_value = Words {
+        kind: C16,
+        last: Last::Value,
+        ..SHORT_RUNS
+    };
+    let to_run = Words {
+        last: Last::Run,
+        ..to_value
+    };
+    let past = Words {
+        longest: 250,
+        ..to_value
+    };
+    let silent = Words {
+        runs: 16,
+        longest: 250,
+        ..to_run
+    };
+    let ce_to_value = Words {
+        kind: CE16,
+        ..to_value
+    };
+    let ce_to_run = Words {
+        kind: CE16,
+        ..to_run
+    };
+    let [lsb, msb] = [Order::Lsb, Order::Msb];
+    Ok(taken([
+        ("U-16, LSB", U16.pings(lsb)?),
+        ("U-16, MSB", U16.pings(msb)?),
+        ("U-16-angles, LSB", U16_ANGLES.pings(lsb)?),
+        ("U-16-angles, MSB", U16_ANGLES.pings(msb)?),
+        ("U-32-16-angles, LSB", U32_16_ANGLES.pings(lsb)?),
+        ("U-32-16-angles, MSB", U32_16_ANGLES.pings(msb)?),
+        ("C-16 to a value, LSB", to_value.pings(lsb)?),
+        ("C-16 to a value, MSB", to_value.pings(msb)?),
+        ("C-16 to a run, LSB", to_run.pings(lsb)?),
+        ("C-16 to a run, MSB", to_run.pings(msb)?),
+        ("C-16 past 65,535, LSB", past.pings(lsb)?),
+        ("C-16 past 65,535, MSB", past.pings(msb)?),
+        ("C-16 silent, LSB", silent.pings(lsb)?),
+        ("C-16 silent, MSB", silent.pings(msb)?),
+        ("CE-16 to a value, LSB", ce_to_value.pings(lsb)?),
+        ("CE-16 to a value, MSB", ce_to_value.pings(msb)?),
+        ("CE-16 to a run, LSB", ce_to_run.pings(lsb)?),
+        ("CE-16 to a run, MSB", ce_to_run.pings(msb)?),
     ]))
 }
 

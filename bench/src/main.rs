@@ -1,9 +1,9 @@
 //! Times the check and the normal form of deposits of 16 MiB, of pings that end in
-//! silence, of short pings on many channels and of small files, the proved library's
-//! beside the second program's and beside a plain copy of the same bytes, and reading
-//! one record, in one run; with `records`, the last alone; with `count`, counts the
-//! instructions of the calls on deposits, but for the short pings. docs/SPEED.md says
-//! what was measured, and how.
+//! silence, of the other ping encodings, of short pings on many channels and of small
+//! files, the proved library's beside the second program's and beside a plain copy of
+//! the same bytes, and reading one record, in one run; with `records`, the last alone;
+//! with `count`, counts the instructions of the calls on deposits, but for the short
+//! pings. docs/SPEED.md says what was measured, and how.
 
 mod count;
 mod deposits;
@@ -150,6 +150,7 @@ fn table(unit: &Unit, deposits: Result<Vec<Deposit>, Refusal>) -> Result<(), Str
 fn speeds() -> Result<(), String> {
     table(&SPEED, deposits::long())?;
     table(&SPEED, deposits::silence())?;
+    table(&SPEED, deposits::encodings())?;
     table(&PER_TUPLE, deposits::linked())?;
     table(&PER_CALL, deposits::small())?;
     records::show()

@@ -6,8 +6,8 @@
 use crate::answers::COMPARED;
 use crate::exports::Export;
 use crate::runner::Runner;
-use crate::tally::{Silence, Tally};
-use second::Maker;
+use crate::tally::{Deed, Tally};
+use second::{Maker, PingKind};
 use std::io;
 use std::mem;
 use std::ops::Range;
@@ -18,11 +18,14 @@ const FILL: u8 = 0xA5;
 /// The bytes of an entry, and of all that numbers are aligned to.
 const ENTRY: usize = 8;
 
-/// The bytes of a sample number, of a value and of a record's number.
+/// The bytes of the numbers that slices have: of most, and of 16-bit sample numbers,
+/// values and angles.
 const WORD: usize = 4;
+const HALF: usize = 2;
 
-/// What a word holds before a call.
+/// What a word holds before a call, and what half a word does.
 pub const FILLED: u32 = u32::from_ne_bytes([FILL; WORD]);
+pub const HALF_FILLED: u16 = u16::from_ne_bytes([FILL; HALF]);
 
 /// Bytes behind lent memory, which no call may touch.
 const GUARD: usize = 8;
@@ -218,20 +221,28 @@ impl Batch {
         }
     }
 
-    /// Lends words, which the second program left like this.
-    pub fn lend_words(&mut self, left: &[u32]) -> Arg {
-        let lent = self.lend(WORD * left.len());
-        let slots = self.expected(&lent).chunks_exact_mut(WORD);
-        for (slot, word) in slots.zip(left) {
-            slot.copy_from_slice(&word.to_le_bytes());
-        }
-        lent.of(WORD).into()
+    /// Lends numbers of some width, which the second program left like this.
+    fn lend_bytes(&mut self, left: &[u8], width: usize) -> Arg {
+        let lent = self.lend(left.len());
+        self.expected(&lent).copy_from_slice(left);
+        lent.of(width).into()
     }
 
-    /// Words to read from.
+    pub fn lend_words(&mut self, left: &[u32]) -> Arg {
+        self.lend_bytes(&word_bytes(left), WORD)
+    }
+
+    pub fn lend_halves(&mut self, left: &[u16]) -> Arg {
+        self.lend_bytes(&half_bytes(left), HALF)
+    }
+
+    /// Words to read from, and halves of them.
     pub fn give_words(&mut self, words: &[u32]) -> Arg {
-        let bytes: Vec<u8> = words.iter().flat_map(|word| word.to_le_bytes()).collect();
-        self.give(&bytes).of(WORD).into()
+        self.give(&word_bytes(words)).of(WORD).into()
+    }
+
+    pub fn give_halves(&mut self, halves: &[u16]) -> Arg {
+        self.give(&half_bytes(halves)).of(HALF).into()
     }
 
     pub fn expected(&mut self, lent: &Slice) -> &mut [u8] {
@@ -310,9 +321,9 @@ impl Batch {
         self.tally.met(record, written);
     }
 
-    /// Notes what was done with a ping that has a length.
-    pub fn met_length(&mut self, silence: Silence) {
-        self.tally.met_length(silence);
+    /// Notes what was done with a ping.
+    pub fn met_ping(&mut self, deed: Deed, kind: PingKind, has_length: bool) {
+        self.tally.met_ping(deed, kind, has_length);
     }
 
     /// Notes that a channel of this maker named a sounder of the other.
@@ -414,6 +425,14 @@ impl Batch {
             &self.expected[shown],
         )
     }
+}
+
+fn word_bytes(words: &[u32]) -> Vec<u8> {
+    words.iter().flat_map(|word| word.to_le_bytes()).collect()
+}
+
+fn half_bytes(halves: &[u16]) -> Vec<u8> {
+    halves.iter().flat_map(|half| half.to_le_bytes()).collect()
 }
 
 /// The entries that bytes hold.

@@ -1,19 +1,19 @@
 //! What is compared of a file: the check, the walks, pings and records read at many
 //! places, and the normal form.
 
-use crate::answers::{five, reply_numbers, FIELDS};
-use crate::batch::{Batch, File, FILLED};
+use crate::answers::{five, reply_numbers};
+use crate::batch::{Batch, File, FILLED, HALF_FILLED};
 use crate::exports::{export, Export};
 use crate::kinds::header_numbers;
 use crate::records;
-use crate::tally::{Given, Silence};
+use crate::tally::{Deed, Given};
 use second::gen::{Case, Rng};
-use second::layout::{CHANNEL_LIMIT, FILE_LIMIT, PING_C32, VALUE_LIMIT};
+use second::layout::{CHANNEL_LIMIT, FILE_LIMIT};
+use second::pings::{read_angles, read_samples, Ping};
 use second::programs::normalise_tuple;
-use second::records::{Channel, Echosounder, Ek500Channel, Ek500Sounder, Ping, PingKind};
-use second::samples::read_samples;
+use second::records::{Channel, Echosounder, Ek500Channel, Ek500Sounder};
 use second::walk::{backward, forward, Step};
-use second::{check, normalise, parents, Answer, DocumentId, Maker, Order};
+use second::{check, normalise, parents, Answer, DocumentId, Maker, Order, PingKind, Reply};
 use std::io;
 
 /// The most bytes of a file that is read at every place.
@@ -60,10 +60,6 @@ const REFUSED_LENGTHS: usize = 200;
 /// A tuple is damaged in its mark, head or first fields: so many bytes.
 const DAMAGED: usize = 48;
 
-/// Where among a ping's numbers it is told whether it has a length: behind header,
-/// attribute, kind and number of values.
-const HAS_LENGTH: usize = FIELDS + 9;
-
 /// The code of a place where no ping starts.
 const OTHER_TYPE: u64 = 9;
 
@@ -77,7 +73,7 @@ const CHECKED: [usize; 19] = [
 
 /// What the exports compared here can give. A check needs no identifier compared;
 /// asking needs a ping, its channel and that one's sounder.
-pub const GIVEN: [Given; 8] = [
+pub const GIVEN: [Given; 9] = [
     Given::new("check", &CHECKED).comparing(0),
     Given::new("forward", &[1, 2, 3, 5, 6]),
     Given::new("backward", &[1, 2, 3, 5, 6]),
@@ -95,6 +91,7 @@ pub const GIVEN: [Given; 8] = [
     ),
     Given::new("read_ping", &[1, 2, 3, 5, 6, 9, 11, 23, 24, 25]),
     Given::new("read_samples", &[1, 2, 3, 5, 6, 9, 11, 19, 23, 24, 25]),
+    Given::new("read_angles", &[1, 2, 3, 5, 6, 9, 11, 19, 23]),
 ];
 
 type Writer = fn(&[u8], &mut [u8]) -> Answer;
@@ -125,16 +122,25 @@ fn ask_numbers(file: &[u8], place: u64) -> Vec<u64> {
     })
 }
 
+/// A kind of ping as the archive tells it.
+pub fn kind_number(kind: PingKind) -> u64 {
+    match kind {
+        PingKind::U32 => 0,
+        PingKind::C32 => 1,
+        PingKind::U32_16Angles => 2,
+        PingKind::U16 => 3,
+        PingKind::U16Angles => 4,
+        PingKind::C16 => 5,
+        PingKind::Ce16 => 6,
+    }
+}
+
 /// A ping's header, attribute, kind and number of values, whether it has a length, and
 /// that one or 0.
-pub fn ping_numbers(file: &[u8], place: u64) -> Vec<u64> {
-    reply_numbers(Ping::read(file, place), |ping| {
+pub fn ping_numbers(read: Reply<Ping>) -> Vec<u64> {
+    reply_numbers(read, |ping| {
         let mut numbers = header_numbers(&ping.header, ping.tuple_attribute);
-        let kind = match ping.kind {
-            PingKind::U32 => 0,
-            PingKind::C32 => 1,
-        };
-        numbers.extend([kind, ping.values.into()]);
+        numbers.extend([kind_number(ping.kind), ping.values.into()]);
         numbers.extend(length_numbers(ping.length));
         numbers
     })
@@ -151,7 +157,7 @@ fn call_at(batch: &mut Batch, export: Export, file: &mut File, place: u64, numbe
     batch.call(export, &[given.into(), place.into()], numbers);
 }
 
-/// The check, both walks, fields and samples of each ping, the parents of the
+/// The check, both walks, fields, samples and angles of each ping, the parents of the
 /// first and the last, and the normal form. Gives that, where there is one.
 pub fn compare_whole(batch: &mut Batch, case: &Case) -> io::Result<Option<Vec<u8>>> {
     let mut file = File::new(&case.bytes);
@@ -166,8 +172,9 @@ fn each_ping(batch: &mut Batch, file: &mut File, tuples: &[u64]) -> io::Result<(
     let mut pings = Vec::new();
     for place in tuples {
         if ping_at(batch, file, *place) != OTHER_TYPE {
-            let lent = (*place as usize % 11, *place as usize % 13);
+            let lent = [11, 13, 17].map(|most| *place as usize % most);
             samples_at(batch, file, *place, lent);
+            angles_at(batch, file, *place, lent);
             pings.push(*place);
         }
         batch.rest()?;
@@ -354,18 +361,20 @@ fn asked(places: &[u64], tuples: &[u64], file: &File) -> Vec<u64> {
 fn read_at(batch: &mut Batch, file: &mut File, place: u64) {
     forward_at(batch, file, place);
     backward_at(batch, file, place);
-    let lent = (place as usize % 7, place as usize / 7 % 5);
+    let lent = [place % 7, place / 7 % 5, place / 35 % 3].map(|entries| entries as usize);
     samples_at(batch, file, place, lent);
+    angles_at(batch, file, place, lent);
     ping_at(batch, file, place);
     records::read_at(batch, file, place);
 }
 
 /// A ping's fields at a place; gives the code.
 pub fn ping_at(batch: &mut Batch, file: &mut File, place: u64) -> u64 {
-    let numbers = ping_numbers(file.bytes, place);
-    if numbers.get(HAS_LENGTH) == Some(&1) {
-        batch.met_length(Silence::Read);
+    let read = Ping::read(file.bytes, place);
+    if let Ok((_, ping)) = &read {
+        batch.met_ping(Deed::Read, ping.kind, ping.length.is_some());
     }
+    let numbers = ping_numbers(read);
     call_at(batch, export("read_ping"), file, place, &numbers);
     numbers[0]
 }
@@ -375,9 +384,12 @@ fn ask_at(batch: &mut Batch, file: &mut File, place: u64) {
     call_at(batch, export("ask"), file, place, &numbers);
 }
 
-/// The samples at a place, into so many entries.
-fn samples_at(batch: &mut Batch, file: &mut File, place: u64, lent: (usize, usize)) {
-    let (mut numbers, mut values) = (vec![FILLED; lent.0], vec![FILLED as i32; lent.1]);
+/// Entries of the slices that a reader of samples is lent: numbers first.
+type Lent = [usize; 3];
+
+/// The samples at a place, into so many entries of two slices.
+fn samples_at(batch: &mut Batch, file: &mut File, place: u64, lent: Lent) {
+    let (mut numbers, mut values) = (vec![FILLED; lent[0]], vec![FILLED as i32; lent[1]]);
     let answer = read_samples(file.bytes, place, &mut numbers, &mut values);
     let values: Vec<u32> = values.into_iter().map(|value| value as u32).collect();
     let given = batch.file(file);
@@ -387,19 +399,38 @@ fn samples_at(batch: &mut Batch, file: &mut File, place: u64, lent: (usize, usiz
     batch.call(export("read_samples"), &arguments, &five(answer));
 }
 
-/// The samples of a tuple into entries that just suffice, that are one short
-/// on either side, and more than needed.
+/// The angles at a place, into so many entries of three slices.
+fn angles_at(batch: &mut Batch, file: &mut File, place: u64, lent: Lent) {
+    let mut numbers = vec![FILLED; lent[0]];
+    let [mut along, mut athwart] = [lent[1], lent[2]].map(|n| vec![HALF_FILLED as i16; n]);
+    let answer = read_angles(file.bytes, place, &mut numbers, &mut along, &mut athwart);
+    let given = batch.file(file);
+    let of_numbers = batch.lend_words(&numbers);
+    let [along, athwart] = [along, athwart].map(|angles| batch.lend_halves(&halves(&angles)));
+    let arguments = [given.into(), place.into(), of_numbers, along, athwart];
+    batch.call(export("read_angles"), &arguments, &five(answer));
+}
+
+/// Signed numbers of two bytes as their patterns.
+pub fn halves(numbers: &[i16]) -> Vec<u16> {
+    numbers.iter().map(|number| *number as u16).collect()
+}
+
+/// The samples of a ping into entries that just suffice, that are one short in one of
+/// the slices, and more than needed.
 pub fn lend_samples(batch: &mut Batch, file: &mut File, place: u64) -> io::Result<()> {
-    let most = VALUE_LIMIT as usize;
-    let mut room = (vec![0; most], vec![0; most]);
-    let answer = read_samples(file.bytes, place, &mut room.0, &mut room.1);
-    if !answer.is_accepted() {
+    let Ok((_, ping)) = Ping::read(file.bytes, place) else {
         return Ok(());
-    }
-    let n = answer.length as usize;
+    };
+    let n = ping.values as usize;
     let short = n.saturating_sub(1);
-    for lent in [(n, n), (short, n), (n, short), (n + 3, n + 5)] {
-        samples_at(batch, file, place, lent);
+    let more = [n + 3, n + 5, n + 1];
+    for lent in [[n; 3], [short, n, n], [n, short, n], [n, n, short], more] {
+        if ping.kind.row().has_angles() {
+            angles_at(batch, file, place, lent);
+        } else if lent[2] >= n {
+            samples_at(batch, file, place, lent);
+        }
         batch.rest()?;
     }
     Ok(())
@@ -417,8 +448,8 @@ fn compare_normal(
     let whole = writer(file.bytes, &mut batch.scratch);
     let n = whole.length as usize;
     let normal = (n > 0 && n < LARGE).then(|| batch.scratch[..n].to_vec());
-    if normal.as_deref().is_some_and(has_silence) {
-        batch.met_length(Silence::Normalised);
+    if let Some(normal) = &normal {
+        each_normal_ping(batch, normal);
     }
     let lengths = if whole.is_accepted() {
         vec![n, n - 1, n + SPARE, 0]
@@ -435,16 +466,15 @@ fn compare_normal(
     Ok(normal)
 }
 
-/// Whether a normal form has a ping with a length: that one alone is C-32 there.
-fn has_silence(normal: &[u8]) -> bool {
+/// Notes the pings of a normal form.
+fn each_normal_ping(batch: &mut Batch, normal: &[u8]) {
     let mut at = FIRST;
-    while let Step::Tuple { tuple, next } = forward(normal, at) {
-        if tuple.code == PING_C32 {
-            return true;
+    while let Step::Tuple { next, .. } = forward(normal, at) {
+        if let Ok((_, ping)) = Ping::read(normal, at) {
+            batch.met_ping(Deed::Normalised, ping.kind, ping.length.is_some());
         }
         at = next;
     }
-    false
 }
 
 /// A mark and one tuple, for each tuple of a file: as it stands, damaged, cut

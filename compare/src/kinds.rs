@@ -2,6 +2,7 @@
 //! numbers as the archive has them.
 
 use second::gen::Rng;
+use second::pings::PingHeader;
 use second::records::*;
 use second::TransceiverNumber;
 use second::{Answer, DocumentId, Order, SoftwareChannel};

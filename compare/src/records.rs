@@ -9,7 +9,7 @@ use crate::kinds::{Kind, Text, KINDS};
 use crate::tally::Given;
 use crate::writing::{compare_writer, BEHIND_MARK};
 use second::gen::Rng;
-use second::layout::{PING_C32, PING_U32};
+use second::layout::{PING_C16, PING_C32, PING_U16_ANGLES, PING_U32};
 use second::Order;
 use std::io;
 
@@ -21,7 +21,18 @@ pub const GIVEN: [Given; 2] = [
 
 /// Types that are no record's: the pings, the index class, and what isn't listed, the
 /// neighbours of the EK-500's among it.
-const NO_RECORDS: [u16; 8] = [PING_U32, PING_C32, 0, 65406, 65515, 12345, 201, 2001];
+const NO_RECORDS: [u16; 10] = [
+    PING_U32,
+    PING_C32,
+    PING_C16,
+    PING_U16_ANGLES,
+    0,
+    65406,
+    65515,
+    12345,
+    201,
+    2001,
+];
 
 /// More numbers than any record has, and some more.
 const MANY: u64 = 30;

@@ -3,8 +3,9 @@
 
 use crate::exports::{Export, EXPORTS};
 use crate::kinds::KINDS;
+use second::kinds::{Kind, KINDS as PING_KINDS};
 use second::layout::{CHANNEL_LIMIT, FILE_LIMIT};
-use second::{Maker, Order};
+use second::{Maker, Order, PingKind};
 use std::collections::BTreeMap;
 
 /// The codes of 01 and 02, and 0 for acceptance.
@@ -21,21 +22,33 @@ const MOST_STACK: u64 = 96 << 10;
 /// In the order in which they are counted.
 const MAKERS: [Maker; 2] = [Maker::Biosonics, Maker::Simrad];
 
-/// What can be done with a ping that has a length: it is read, it is written, it is in a
-/// normal form.
+/// What can be done with a ping: it is read, it is written, it is in a normal form.
 #[derive(Clone, Copy, PartialEq, Eq)]
-pub enum Silence {
+pub enum Deed {
     Read,
     Written,
     Normalised,
 }
 
-/// In the order in which they are counted, in words.
-const SILENCES: [(Silence, &str); 3] = [
-    (Silence::Read, "read"),
-    (Silence::Written, "written"),
-    (Silence::Normalised, "normalised"),
+/// In words, in the order in which they are counted.
+const DEEDS: [(Deed, &str); 3] = [
+    (Deed::Read, "read"),
+    (Deed::Written, "written"),
+    (Deed::Normalised, "in a normal form"),
 ];
+
+/// How often each deed was done with pings of one kind, without a length and with one.
+type Pings = [[u64; 2]; DEEDS.len()];
+
+/// Whether a deed can be done with a ping of a kind, without a length or with one. Words
+/// alone have one, and C-32 is in no normal form without.
+fn can_be(kind: &Kind, deed: Deed, has_length: bool) -> bool {
+    match (kind.kind, has_length) {
+        (_, true) => kind.is_packed(),
+        (PingKind::C32, false) => deed != Deed::Normalised,
+        _ => true,
+    }
+}
 
 /// What an export can give, and so must: said by the module that compares it.
 #[derive(Clone, Copy)]
@@ -132,8 +145,8 @@ pub struct Tally {
     marked: [Marked; 2],
     /// The channels of each maker that were refused for naming a sounder of the other.
     other_maker: [u64; 2],
-    /// How often each of `SILENCES` was done.
-    lengths: [u64; 3],
+    /// In the order of the kinds of ping.
+    pings: [Pings; PING_KINDS.len()],
     pub cases: u64,
     files: u64,
     bytes: u64,
@@ -147,7 +160,7 @@ impl Default for Tally {
             stack: vec![[0; 2]; EXPORTS.len()],
             marked: Default::default(),
             other_maker: [0; 2],
-            lengths: [0; 3],
+            pings: Default::default(),
             cases: 0,
             files: 0,
             bytes: 0,
@@ -184,11 +197,19 @@ impl Tally {
         }
     }
 
-    /// Counts what was done with a ping that has a length.
-    pub fn met_length(&mut self, silence: Silence) {
-        for ((known, _), times) in SILENCES.iter().zip(&mut self.lengths) {
-            *times += u64::from(*known == silence);
-        }
+    /// Counts what was done with a ping.
+    pub fn met_ping(&mut self, deed: Deed, kind: PingKind, has_length: bool) {
+        self.pings[kind as usize][deed as usize][usize::from(has_length)] += 1;
+    }
+
+    /// Of each kind of ping and each deed how often it was done, without a length and with
+    /// one.
+    fn deeds(&self) -> impl Iterator<Item = (&'static Kind, Deed, &'static str, [u64; 2])> + '_ {
+        let kinds = PING_KINDS.iter().zip(&self.pings);
+        kinds.flat_map(|(kind, pings)| {
+            let deeds = DEEDS.iter().zip(pings);
+            deeds.map(move |((deed, what), times)| (kind, *deed, *what, *times))
+        })
     }
 
     /// Takes in what a runner measured: two numbers an export, or none.
@@ -236,14 +257,18 @@ impl Tally {
         for (sum, times) in self.other_maker.iter_mut().zip(other.other_maker) {
             *sum += times;
         }
-        for (sum, times) in self.lengths.iter_mut().zip(other.lengths) {
+        let sums = self.pings.as_flattened_mut().as_flattened_mut();
+        for (sum, times) in sums
+            .iter_mut()
+            .zip(other.pings.as_flattened().as_flattened())
+        {
             *sum += times;
         }
     }
 
     /// In words, a line each: cases and files; each export's calls with the codes
     /// that they gave and the identifiers compared; the records; the channels that
-    /// named a sounder of the other maker; the pings with a length.
+    /// named a sounder of the other maker; the pings of each kind.
     pub fn tell(&self) -> Vec<String> {
         let [lsb, msb] = &self.marked;
         let calls: u64 = self.exports.iter().map(Count::calls).sum();
@@ -277,11 +302,14 @@ impl Tally {
             "files refused for a sounder of the other maker: {biosonics} for Biosonics's channel, \
              {simrad} for Simrad's"
         ));
-        let lengths = SILENCES.iter().zip(self.lengths);
-        let told: Vec<String> = lengths
-            .map(|((_, what), times)| format!("{what} {times}"))
-            .collect();
-        lines.push(format!("pings with a length: {}", told.join(", ")));
+        for (kind, _, what, [without, with]) in self.deeds() {
+            let name = kind.name;
+            let lengths = match kind.is_packed() {
+                true => format!(", with a length {with}"),
+                false => String::new(),
+            };
+            lines.push(format!("{name} {what} {}{lengths}", without + with));
+        }
         lines
     }
 
@@ -326,7 +354,7 @@ impl Tally {
 
     /// What was not compared: codes that no call gave; what an export or a record
     /// never did; files at the limit and past it in either order; a sounder of the
-    /// other maker named by a channel of either; a ping with a length.
+    /// other maker named by a channel of either; pings of each kind.
     pub fn missing(&self, given: &[Given]) -> Vec<String> {
         let mut missing = Vec::new();
         for (export, count) in EXPORTS.iter().zip(&self.exports) {
@@ -355,9 +383,12 @@ impl Tally {
                 ));
             }
         }
-        for ((_, what), times) in SILENCES.iter().zip(self.lengths) {
-            if times == 0 {
-                missing.push(format!("no ping with a length was {what}"));
+        for (kind, deed, what, times) in self.deeds() {
+            for (has_length, times) in [false, true].into_iter().zip(times) {
+                if times == 0 && can_be(kind, deed, has_length) {
+                    let length = if has_length { "with" } else { "without" };
+                    missing.push(format!("no {} {length} a length was {what}", kind.name));
+                }
             }
         }
         missing

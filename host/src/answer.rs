@@ -55,12 +55,12 @@ codes! {
     18 Unturnable "unlisted, non-index type in an MSB file"
     19 NoRoom "lent output too short"
     20 NormalOverLimit "normal form over 16,777,216"
-    21 NoWord "C-32 writer: value in -65536..-1 or outside the limits"
-    22 NoSamples "writer: ping without samples, and, C-32, without a length"
+    21 NoWord "writer of words: a value that has no word"
+    22 NoSamples "writer: ping without samples, and, of words, without a length"
     23 NotRising "sample number not rising"
     24 BadWord "word outside the limits"
     25 Miscounted "number of samples wrong"
-    26 ShortLength "writer: a C-32 ping's length under its last sample number plus 2, or 0 where it has no samples"
+    26 ShortLength "writer of words: a ping's length under its last sample number plus 2, or 0 where it has no samples"
 }
 
 impl Code {

@@ -56,6 +56,14 @@ impl Order {
         }
     }
 
+    /// The number that two bytes stand for.
+    pub(crate) fn two(self, bytes: [u8; 2]) -> u16 {
+        match self {
+            Order::Lsb => u16::from_le_bytes(bytes),
+            Order::Msb => u16::from_be_bytes(bytes),
+        }
+    }
+
     /// The number that four bytes stand for.
     pub(crate) fn four(self, bytes: [u8; 4]) -> u32 {
         match self {

@@ -6,7 +6,7 @@
 #[path = "../../include/calls.rs"]
 mod calls;
 
-use crate::{types, Code, CHANNEL_LIMIT, FILE_LIMIT, FIRST_PLACE, REMARK};
+use crate::{types, Code, PingKind, CHANNEL_LIMIT, FILE_LIMIT, FIRST_PLACE, REMARK};
 use crate::{SOUNDER_LIMIT, TUPLE_LIMIT, VALUE_LIMIT};
 use calls::Header;
 
@@ -77,10 +77,20 @@ fn limits_and_pings() {
         ("CHANNEL_LIMIT", CHANNEL_LIMIT),
         ("REMARK", REMARK),
         ("FIRST_PLACE", FIRST_PLACE),
-        ("TYPE_PING_U", types::PING_U.into()),
-        ("TYPE_PING_C", types::PING_C.into()),
     ] {
         holds(&header, name, number);
+    }
+    for (name, kind) in [
+        ("U", PingKind::U32),
+        ("C", PingKind::C32),
+        ("U32_16_ANGLES", PingKind::U32_16Angles),
+        ("U16", PingKind::U16),
+        ("U16_ANGLES", PingKind::U16Angles),
+        ("C16", PingKind::C16),
+        ("CE16", PingKind::Ce16),
+    ] {
+        holds(&header, &format!("TYPE_PING_{name}"), kind.code().into());
+        assert_eq!(types::name(kind.code()), format!("ping {kind}"));
     }
 }
 

@@ -40,9 +40,9 @@ pub fn normalise_tuple(file: &[u8], out: &mut [u8]) -> Result<Normal, Refusal> {
     call::normalise_tuple(file, out).map(Normal::of)
 }
 
-/// A normal form is less than so many times as long as its file: at the most a
-/// C-32 ping's word of four bytes becomes a pair of eight. One that stays C-32 has
-/// no more words than it had.
+/// A normal form is less than so many times as long as its file: at the most a word
+/// of a C-32 or C-16 ping becomes a pair, which has twice its bytes. A ping that stays
+/// in words has no more than it had.
 const GROWTH: usize = 2;
 
 /// A file's normal form, in new memory that is just enough for it. Refuses as

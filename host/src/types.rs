@@ -31,7 +31,12 @@ listed! {
     1000 CHANNEL "channel Biosonics"
     2000 EK500_CHANNEL "channel EK-500"
     10000 PING_U "ping U-32"
+    10001 PING_U32_16_ANGLES "ping U-32-16-angles"
     10010 PING_C "ping C-32"
+    10030 PING_U16 "ping U-16"
+    10031 PING_U16_ANGLES "ping U-16-angles"
+    10040 PING_C16 "ping C-16"
+    10050 PING_CE16 "ping CE-16"
     10100 THRESHOLD "threshold"
     10110 EVENT "event marker"
     65516 RUN_START "start of run"
@@ -79,8 +84,8 @@ pub const fn maker(code: u16) -> Option<Maker> {
 mod tests {
     use super::*;
 
-    /// The code, name and maker of each sounder and channel that TR lists, and of their
-    /// neighbours.
+    /// The code, name and maker of each sounder and channel that TR lists, of their
+    /// neighbours, and of others.
     #[test]
     fn makers() {
         for (code, named, made) in [
@@ -95,6 +100,9 @@ mod tests {
             (2001, "unlisted", None),
             (3000, "unlisted", None),
             (10000, "ping U-32", None),
+            (10001, "ping U-32-16-angles", None),
+            (10002, "unlisted", None),
+            (10050, "ping CE-16", None),
             (65535, "signature", None),
         ] {
             assert_eq!(name(code), named);

@@ -2,7 +2,7 @@
 
 use crate::answer::{Code, Refusal};
 use crate::file::Order;
-use crate::ping::read_ping;
+use crate::ping::{read_ping, PingKind};
 use crate::walk::{Tuple, Walk};
 use std::fmt;
 
@@ -19,7 +19,8 @@ pub struct WrongSample {
 /// counted from 0.
 #[derive(Clone, Copy, Debug, PartialEq, Eq)]
 pub enum SampleFault {
-    /// 23: the number of a pair isn't above the one before it.
+    /// 23: the number of a pair isn't above the one before it. A pair is a sample number
+    /// with its value, or with its two angles.
     NotRising {
         /// The pair's place among the pairs.
         pair: usize,
@@ -34,8 +35,10 @@ pub enum SampleFault {
         word: usize,
         /// The number of the sample that it is, runs counted.
         number: u32,
-        /// Its 32 bits.
+        /// Its bits.
         pattern: u32,
+        /// How many bytes they are: 4 of C-32, 2 of C-16 and CE-16.
+        bytes: usize,
     },
     /// 25: the number of samples isn't that of the values.
     Miscounted {
@@ -47,12 +50,21 @@ pub enum SampleFault {
 }
 
 /// Places in a ping: its pairs, or its words, and what stands behind them, which
-/// is the attribute and the backlink. Then the bytes of a pair and of a word.
+/// is the attribute and the backlink.
 const PAIRS: usize = 24;
 const WORDS: usize = 28;
 const BEHIND: usize = 8;
-const PAIR: usize = 8;
-const WORD: usize = 4;
+
+/// How a ping stores its samples.
+#[derive(Clone, Copy)]
+struct Stored<'a> {
+    file: &'a [u8],
+    ping: Tuple,
+    /// The bytes of a sample number, or of a word.
+    width: usize,
+    /// The bytes from one to the next.
+    step: usize,
+}
 
 /// Which sample of a file a refusal by 23, 24 or 25 is about. Its ping is looked
 /// for by steps forward: from [`Walk::START`] for a refusal of the whole file,
@@ -74,10 +86,10 @@ const WORD: usize = 4;
 /// assert_eq!(wrong.to_string(), "ping at 4, pair 1 has number 2 behind 2");
 /// ```
 pub fn wrong_sample(file: &[u8], from: Walk, refusal: Refusal) -> Option<WrongSample> {
-    let fault: fn(&[u8], Tuple, usize) -> SampleFault = match refusal.code {
-        Code::NotRising => not_rising,
-        Code::BadWord => bad_word,
-        Code::Miscounted => miscounted,
+    let fault: fn(Stored<'_>, usize) -> SampleFault = match refusal.code {
+        Code::NotRising => |stored, place| stored.not_rising(place),
+        Code::BadWord => |stored, place| stored.bad_word(place),
+        Code::Miscounted => |stored, place| stored.miscounted(place),
         _ => return None,
     };
     let mut tuples = from.forwards(file).map_while(Result::ok);
@@ -88,59 +100,96 @@ pub fn wrong_sample(file: &[u8], from: Walk, refusal: Refusal) -> Option<WrongSa
     }
     Some(WrongSample {
         ping_place: ping.place,
-        fault: fault(file, ping, refusal.place),
+        fault: fault(Stored::of(file, ping)?, refusal.place),
     })
 }
 
-fn not_rising(file: &[u8], ping: Tuple, place: usize) -> SampleFault {
-    SampleFault::NotRising {
-        pair: (place - ping.place - PAIRS) / PAIR,
-        number: four(file, place),
-        before: four(file, place - PAIR),
+impl<'a> Stored<'a> {
+    /// None of a tuple that is no listed ping.
+    fn of(file: &'a [u8], ping: Tuple) -> Option<Stored<'a>> {
+        let (width, step) = match PingKind::of_type(ping.kind)? {
+            PingKind::U32 | PingKind::U32_16Angles => (4, 8),
+            PingKind::U16 => (2, 4),
+            PingKind::U16Angles => (2, 6),
+            PingKind::C32 => (4, 4),
+            PingKind::C16 | PingKind::Ce16 => (2, 2),
+        };
+        Some(Stored {
+            file,
+            ping,
+            width,
+            step,
+        })
+    }
+
+    fn not_rising(self, place: usize) -> SampleFault {
+        SampleFault::NotRising {
+            pair: (place - self.ping.place - PAIRS) / self.step,
+            number: self.number(place),
+            before: self.number(place - self.step),
+        }
+    }
+
+    fn bad_word(self, place: usize) -> SampleFault {
+        let before = self.words_up_to(place);
+        SampleFault::BadWord {
+            word: (place - self.ping.place - WORDS) / self.step,
+            number: before.map(|word| self.samples_of(word)).sum(),
+            pattern: self.number(place),
+            bytes: self.width,
+        }
+    }
+
+    /// A count that is wrong with the last two bytes of a C-16 or CE-16 ping and without
+    /// them leaves these a word.
+    fn miscounted(self, place: usize) -> SampleFault {
+        let words = self.words_up_to(self.ping.place + self.ping.length - BEHIND);
+        SampleFault::Miscounted {
+            said: four(self.file, place),
+            found: words.filter(|word| !self.is_run(*word)).count(),
+        }
+    }
+
+    /// The sample number or the word at a place.
+    fn number(self, place: usize) -> u32 {
+        match self.width {
+            2 => two(self.file, place).into(),
+            _ => four(self.file, place),
+        }
+    }
+
+    /// The words before a place.
+    fn words_up_to(self, place: usize) -> impl Iterator<Item = u32> + 'a {
+        let places = (self.ping.place + WORDS..place).step_by(self.step);
+        places.map(move |place| self.number(place))
+    }
+
+    /// Ones in the upper half make a word a run.
+    fn is_run(self, word: u32) -> bool {
+        let half = 4 * self.width as u32;
+        word >> half == (1 << half) - 1
+    }
+
+    /// How many samples a word stands for: a run for its lower half and one more. Those
+    /// of all words that a ping can have are fewer than 32 bits count.
+    fn samples_of(self, word: u32) -> u32 {
+        if self.is_run(word) {
+            (word & ((1 << (4 * self.width)) - 1)) + 1
+        } else {
+            1
+        }
     }
 }
 
-fn bad_word(file: &[u8], ping: Tuple, place: usize) -> SampleFault {
-    let before = words(file, ping.place + WORDS, place);
-    SampleFault::BadWord {
-        word: (place - ping.place - WORDS) / WORD,
-        number: before.map(samples_of).sum(),
-        pattern: four(file, place),
-    }
+/// The number of two bytes at a place, and that of four.
+fn two(file: &[u8], place: usize) -> u16 {
+    let bytes = file[place..place + 2].try_into().expect("two bytes");
+    Order::of(file).two(bytes)
 }
 
-fn miscounted(file: &[u8], ping: Tuple, place: usize) -> SampleFault {
-    let words = words(file, ping.place + WORDS, ping.place + ping.length - BEHIND);
-    SampleFault::Miscounted {
-        said: four(file, place),
-        found: words.filter(|word| !is_run(*word)).count(),
-    }
-}
-
-/// The number of four bytes at a place.
 fn four(file: &[u8], place: usize) -> u32 {
     let bytes = file[place..place + 4].try_into().expect("four bytes");
     Order::of(file).four(bytes)
-}
-
-/// The words between two places.
-fn words(file: &[u8], from: usize, to: usize) -> impl Iterator<Item = u32> + '_ {
-    (from..to).step_by(WORD).map(|place| four(file, place))
-}
-
-/// Sixteen leading ones make a word a run.
-fn is_run(word: u32) -> bool {
-    word.leading_ones() >= 16
-}
-
-/// How many samples a word stands for: a run for its lower half and one more. Those
-/// of all words that a ping can have are fewer than 32 bits count.
-fn samples_of(word: u32) -> u32 {
-    if is_run(word) {
-        (word & 0xFFFF) + 1
-    } else {
-        1
-    }
 }
 
 impl fmt::Display for WrongSample {
@@ -161,7 +210,11 @@ impl fmt::Display for SampleFault {
                 word,
                 number,
                 pattern,
-            } => write!(to, "word {word} is {pattern:08X} for sample {number}"),
+                bytes,
+            } => {
+                let digits = 2 * bytes;
+                write!(to, "word {word} is {pattern:0digits$X} for sample {number}")
+            }
             SampleFault::Miscounted { said, found } => write!(to, "{said} said and {found} found"),
         }
     }

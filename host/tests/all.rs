@@ -8,6 +8,7 @@ mod damage;
 mod deposit;
 mod face;
 mod json;
+mod kinds;
 mod known;
 mod lengths;
 mod links;

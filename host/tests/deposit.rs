@@ -36,10 +36,15 @@ impl Deposit {
     }
 
     pub fn put(&mut self, write: impl FnOnce(Order, &mut [u8]) -> Result<usize, Refusal>) -> usize {
-        let place = self.bytes.len();
         let mut tuple = [0; LONGEST];
         let length = write(self.order, &mut tuple).expect("a tuple");
-        self.bytes.extend(&tuple[..length]);
+        self.put_bytes(&tuple[..length])
+    }
+
+    /// A tuple that is written already.
+    pub fn put_bytes(&mut self, tuple: &[u8]) -> usize {
+        let place = self.bytes.len();
+        self.bytes.extend(tuple);
         self.tuples += 1;
         place
     }

@@ -230,13 +230,44 @@ const SILENCE: [&str; 8] = [
 /// Pings written in C with a length and without, and read back.
 #[test]
 fn silence() {
+    prints("silence", &SILENCE);
+}
+
+/// What a C program of this folder prints, blanks apart.
+fn prints(name: &str, lines: &[&str]) {
     let room = Room::new();
-    let program = built(&room, "silence");
+    let program = built(&room, name);
     let ran = run(&mut Command::new(&program));
-    let spread = |line: &str| line.split_whitespace().collect::<String>();
-    let printed: Vec<String> = ran.lines().into_iter().map(spread).collect();
-    assert_eq!(printed, SILENCE.map(spread));
+    let spread = |line: &&str| line.split_whitespace().collect::<String>();
+    let printed: Vec<String> = ran.lines().iter().map(spread).collect();
+    assert_eq!(printed, lines.iter().map(spread).collect::<Vec<_>>());
     assert_eq!((ran.status, ran.err.as_str()), (0, ""));
+}
+
+/// What kinds.c prints, by TR's Tables 19 and 21 to 24 and documents 01 and 02: E4's header
+/// with a ping of each kind; of U-16-angles one sample and so a space; of C-16 a run of 2,
+/// two values, and 257 samples of silence as runs of 256 and 1, an odd number of words; of
+/// CE-16 the word A001 for -(0x1000 + 1) * 2.
+const KINDS: [&str; 8] = [
+    "26000000 1127 0000 3c000000 0100 0000 01000000 ffffff7f \
+     02000000 d4fe 0700 03000000 6400 f8ff 00000000 30000000 U-32-16-angles 2: 2 -300 7",
+    "1e000000 2e27 0000 3c000000 0100 0000 01000000 ffffff7f \
+     0200 d4fe 0300 6400 00000000 28000000 U-16 2: 2 -300",
+    "1e000000 2f27 0000 3c000000 0100 0000 01000000 ffffff7f \
+     0200 d4fe 0700 0000 00000000 28000000 U-16-angles 1: 2 -300 7",
+    "26000000 3827 0000 3c000000 0100 0000 01000000 ffffff7f \
+     02000000 01ff d4fe 6400 ffff 00ff 0000 00000000 30000000 C-16 2 length 261: 2 -300",
+    "22000000 4227 0000 3c000000 0100 0000 01000000 ffffff7f \
+     02000000 01ff 01a0 6400 0000 00000000 2c000000 CE-16 2: 2 -8194",
+    "refused 21 at 1",
+    "refused 26 at 0",
+    "refused 23 at 1",
+];
+
+/// A ping of each kind written in C and read back.
+#[test]
+fn kinds() {
+    prints("kinds", &KINDS);
 }
 
 fn hexadecimal(bytes: &[u8]) -> String {

@@ -54,6 +54,18 @@ pub fn four_bytes(order: Order, number: u32) -> [u8; 4] {
     }
 }
 
+/// A number as a ping stores it: its bytes, 2 or 4, and itself.
+pub type Stored = (usize, u32);
+
+/// The bytes of some stored numbers, in an order.
+pub fn stored_bytes(order: Order, stored: &[Stored]) -> Vec<u8> {
+    let bytes = stored.iter().map(|(width, number)| match width {
+        2 => two_bytes(order, *number as u16).to_vec(),
+        _ => four_bytes(order, *number).to_vec(),
+    });
+    bytes.flatten().collect()
+}
+
 /// A tuple of a sample.
 #[derive(Clone)]
 pub struct Tuple {
@@ -85,7 +97,7 @@ impl Tuple {
     }
 
     pub fn is_ping(&self) -> bool {
-        [10000, 10010].contains(&self.kind())
+        [10000, 10001, 10010, 10030, 10031, 10040, 10050].contains(&self.kind())
     }
 
     /// The numbers of four bytes from a place on, up to the attribute.

@@ -3,7 +3,7 @@
 //! Table 20 and by documents 01 and 02.
 
 use crate::deposit::{Deposit, ORDERS};
-use crate::known::{decode, four_bytes, two_bytes, RUN};
+use crate::known::{decode, four_bytes, stored_bytes, two_bytes, Stored, RUN};
 use crate::room::{hac, run, Room};
 use hac::*;
 
@@ -17,7 +17,7 @@ const WORD: u32 = 0xFFFE_EE90;
 /// The most words of a ping.
 const MOST_WORDS: usize = (TUPLE_LIMIT - 36) / 4;
 
-fn header() -> PingHeader {
+pub fn header() -> PingHeader {
     PingHeader {
         time_fraction: 0x0102,
         time_cpu: 0x0304_0506,
@@ -28,19 +28,26 @@ fn header() -> PingHeader {
     }
 }
 
-const ATTRIBUTE: i32 = -3;
+pub const ATTRIBUTE: i32 = -3;
 
 /// A ping of a type, with what stands between its header and its attribute, four bytes
 /// each.
 fn ping(order: Order, kind: u16, stored: &[u32]) -> Vec<u8> {
-    let length = 32 + 4 * stored.len() as u32;
+    let stored: Vec<Stored> = stored.iter().map(|number| (4, *number)).collect();
+    ping_of(order, kind, &stored)
+}
+
+/// The same of numbers of two bytes or of four.
+pub fn ping_of(order: Order, kind: u16, stored: &[Stored]) -> Vec<u8> {
+    let stored = stored_bytes(order, stored);
+    let length = 32 + stored.len() as u32;
     let four = |number| four_bytes(order, number);
     let two = |number| two_bytes(order, number);
     let mut tuple = [&four(length - 10)[..], &two(kind), &two(0x0102)].concat();
     tuple.extend(four(0x0304_0506));
     tuple.extend([two(1), two(0x0708)].concat());
     tuple.extend([four(0x090A_0B0C), four(-2_i32 as u32)].concat());
-    tuple.extend(stored.iter().flat_map(|number| four(*number)));
+    tuple.extend(stored);
     tuple.extend([four(ATTRIBUTE as u32), four(length)].concat());
     tuple
 }
@@ -57,27 +64,24 @@ fn u32_ping(order: Order, pairs: &[u32]) -> Vec<u8> {
 }
 
 /// A mark and a tuple.
-fn alone(order: Order, tuple: &[u8]) -> Vec<u8> {
+pub fn alone(order: Order, tuple: &[u8]) -> Vec<u8> {
     [&order.mark()[..], tuple].concat()
 }
 
 /// The normal form of one tuple, without the mark.
-fn normal_tuple(order: Order, tuple: &[u8]) -> Vec<u8> {
+pub fn normal_tuple(order: Order, tuple: &[u8]) -> Vec<u8> {
     let mut out = vec![0; 2 * tuple.len() + FIRST_PLACE];
     let normal = normalise_tuple(&alone(order, tuple), &mut out).expect("a normal form");
     out[FIRST_PLACE..normal.length].to_vec()
 }
 
 /// A whole file of some pings of channel 1, each of them as it is.
-fn deposit(order: Order, pings: &[Vec<u8>]) -> Vec<u8> {
+pub fn deposit(order: Order, pings: &[Vec<u8>]) -> Vec<u8> {
     let mut deposit = Deposit::begun(order);
     deposit.sounder(1, 1);
     deposit.channel(1, 1);
     for ping in pings {
-        deposit.put(|_, out| {
-            out[..ping.len()].copy_from_slice(ping);
-            Ok(ping.len())
-        });
+        deposit.put_bytes(ping);
     }
     deposit.ended().to_vec()
 }

@@ -3,7 +3,7 @@
 
 use crate::damage::Draft;
 use crate::json::{self, Value};
-use crate::known::{Known, Tuple};
+use crate::known::{four_bytes, stored_bytes, two_bytes, Known, Stored, Tuple};
 use crate::room::{hac, run, Room};
 use hac::*;
 
@@ -14,9 +14,9 @@ const BAD: [u32; 4] = [0x7FFF_0000, 0x7FFF_FFFF, 0x8000_0000, 0x8000_FFFF];
 
 /// Samples that break a rule.
 struct Case {
-    kind: u16,
-    /// What stands between the ping's header and its attribute, four bytes each.
-    stored: Vec<u32>,
+    kind: PingKind,
+    /// What stands between the ping's header and its attribute.
+    stored: Vec<Stored>,
     code: Code,
     /// The first offender's byte in the ping.
     at: usize,
@@ -26,17 +26,37 @@ struct Case {
     members: Vec<(&'static str, u32)>,
 }
 
-/// U-32: the pair whose number isn't above the one before it.
-fn not_rising(numbers: &[u32], pair: usize) -> Case {
+/// A sample of a kind that numbers them, by TR's Tables 6, 19, 21 and 22.
+fn numbered(kind: PingKind, number: u32) -> Vec<Stored> {
+    match kind {
+        PingKind::U32 => vec![(4, number), (4, u32::MAX)],
+        PingKind::U32_16Angles => vec![(4, number), (2, 0x8000), (2, 0x7FFF)],
+        PingKind::U16 => vec![(2, number), (2, 0xFFFF)],
+        PingKind::U16Angles => vec![(2, number), (2, 0x8000), (2, 0x7FFF)],
+        _ => panic!("{kind} has words"),
+    }
+}
+
+/// The bytes of some stored numbers.
+fn bytes(stored: &[Stored]) -> usize {
+    stored.iter().map(|(width, _)| width).sum()
+}
+
+/// The pair whose number isn't above the one before it.
+fn falls(kind: PingKind, numbers: &[u32], pair: usize) -> Case {
     let (number, before) = (numbers[pair], numbers[pair - 1]);
+    let mut stored: Vec<Stored> = numbers
+        .iter()
+        .flat_map(|number| numbered(kind, *number))
+        .collect();
+    // a space
+    if bytes(&stored) % 4 == 2 {
+        stored.push((2, 0));
+    }
     Case {
-        kind: 10000,
-        stored: numbers
-            .iter()
-            .flat_map(|number| [*number, u32::MAX])
-            .collect(),
+        stored,
         code: Code::NotRising,
-        at: 24 + 8 * pair,
+        at: 24 + pair * bytes(&numbered(kind, 0)),
         fault: SampleFault::NotRising {
             pair,
             number,
@@ -48,23 +68,45 @@ fn not_rising(numbers: &[u32], pair: usize) -> Case {
             ("number", number),
             ("before", before),
         ],
+        kind,
     }
 }
 
-/// C-32: the word that is outside the limits, and the sample that it is.
-fn bad_word(count: u32, words: &[u32], word: usize, number: u32) -> Case {
-    let pattern = words[word];
+fn not_rising(numbers: &[u32], pair: usize) -> Case {
+    falls(PingKind::U32, numbers, pair)
+}
+
+/// The bytes of a word.
+fn width(kind: PingKind) -> usize {
+    match kind {
+        PingKind::C32 => 4,
+        _ => 2,
+    }
+}
+
+/// A number of samples, and words.
+fn packed(kind: PingKind, count: u32, words: &[u32]) -> Vec<Stored> {
+    let width = width(kind);
+    let words = words.iter().map(|word| (width, *word));
+    [(4, count)].into_iter().chain(words).collect()
+}
+
+/// The word that is outside the limits, and the sample that it is.
+fn outside(kind: PingKind, count: u32, words: &[u32], word: usize, number: u32) -> Case {
+    let (pattern, bytes) = (words[word], width(kind));
+    let digits = 2 * bytes;
     Case {
-        kind: 10010,
-        stored: [&[count], words].concat(),
+        kind,
+        stored: packed(kind, count, words),
         code: Code::BadWord,
-        at: 28 + 4 * word,
+        at: 28 + bytes * word,
         fault: SampleFault::BadWord {
             word,
             number,
             pattern,
+            bytes,
         },
-        words: format!("word {word} is {pattern:08X} for sample {number}"),
+        words: format!("word {word} is {pattern:0digits$X} for sample {number}"),
         members: vec![
             ("word", word as u32),
             ("number", number),
@@ -73,11 +115,15 @@ fn bad_word(count: u32, words: &[u32], word: usize, number: u32) -> Case {
     }
 }
 
-/// C-32: a number of samples that isn't the one found.
-fn miscounted(said: u32, words: &[u32], found: u32) -> Case {
+fn bad_word(count: u32, words: &[u32], word: usize, number: u32) -> Case {
+    outside(PingKind::C32, count, words, word, number)
+}
+
+/// A number of samples that isn't the one found.
+fn counted(kind: PingKind, said: u32, words: &[u32], found: u32) -> Case {
     Case {
-        kind: 10010,
-        stored: [&[said], words].concat(),
+        kind,
+        stored: packed(kind, said, words),
         code: Code::Miscounted,
         at: 24,
         fault: SampleFault::Miscounted {
@@ -89,11 +135,15 @@ fn miscounted(said: u32, words: &[u32], found: u32) -> Case {
     }
 }
 
+fn miscounted(said: u32, words: &[u32], found: u32) -> Case {
+    counted(PingKind::C32, said, words, found)
+}
+
 /// The first, a middle and the last sample; more than one; numbers that another
 /// order of bytes, or a sign, would let rise.
 fn cases() -> Vec<Case> {
     let [above, most, least, below] = BAD;
-    vec![
+    let mut cases = vec![
         not_rising(&[5, 5, 6], 1),
         not_rising(&[1, 0], 1),
         not_rising(&[1, 2, 9, 7, 8], 3),
@@ -117,33 +167,63 @@ fn cases() -> Vec<Case> {
         miscounted(3, &[100, RUN, 200], 2),
         miscounted(0x0200_0000, &[100, 0], 2),
         miscounted(u32::MAX, &[RUN, 0xFFFE_FFFF], 1),
-    ]
+    ];
+    cases.extend(narrow_cases());
+    cases
 }
 
-fn four(order: Order, number: u32) -> [u8; 4] {
-    match order {
-        Order::Lsb => number.to_le_bytes(),
-        Order::Msb => number.to_be_bytes(),
+/// The same of the other kinds.
+fn narrow_cases() -> Vec<Case> {
+    use PingKind::{Ce16, U16Angles, U32_16Angles, C16, U16};
+    let mut cases = vec![
+        falls(U32_16Angles, &[5, 5, 6], 1),
+        falls(U32_16Angles, &[7, 0x8000_0000, 0x7FFF_FFFF], 2),
+        falls(U32_16Angles, &[0, 65_536, 65_537, 3], 3),
+        falls(U16, &[5, 5, 6], 1),
+        falls(U16, &[1, 2, 9, 7, 8], 3),
+        falls(U16, &[0, 256, 255, 300], 2),
+        falls(U16, &[7, 0x8000, 0x7FFF], 2),
+        falls(U16, &[65_535, 65_535], 1),
+        // with a space behind the last and without
+        falls(U16Angles, &[5, 5, 6], 1),
+        falls(U16Angles, &[0, 256, 255], 2),
+        falls(U16Angles, &[7, 0x8000, 0x7FFF, 2], 2),
+        falls(U16Angles, &[65_535, 0], 1),
+    ];
+    for kind in [C16, Ce16] {
+        cases.extend([
+            outside(kind, 1, &[0x7F00, 0xFFFF], 0, 0),
+            outside(kind, 2, &[0xFFFF, 5, 0xFF03, 0x7FFF], 3, 261),
+            // a space behind it
+            outside(kind, 2, &[5, 0x7F00, 0xFF01, 0x1234], 1, 1),
+            // with a wrong count too: the last two bytes are a word then
+            outside(kind, 9, &[5, 0xFF09, 6, 0x7FFF], 3, 12),
+            counted(kind, 0, &[100, 0xFF00], 1),
+            counted(kind, 1, &[0xFFFF, 0xFF00], 0),
+            counted(kind, 4, &[100, 0xFF00, 200, 0xFEFF], 3),
+            // wrong with the last two bytes and without them
+            counted(kind, 1, &[100, 0, 200, 0], 4),
+            counted(kind, 5, &[100, 0, 200, 0], 4),
+            counted(kind, 0x0200_0000, &[100, 0], 2),
+        ]);
     }
-}
-
-fn two(order: Order, number: u16) -> [u8; 2] {
-    match order {
-        Order::Lsb => number.to_le_bytes(),
-        Order::Msb => number.to_be_bytes(),
+    // Table 23's lowest values; what CE-16 has for them are values
+    for word in [0x8000, 0x80FF, 0x8100] {
+        cases.push(outside(C16, 3, &[0x8101, 0xFF00, 5, word], 3, 3));
     }
+    cases
 }
 
 /// A ping with the header of another, in its order.
-fn ping(like: &Tuple, kind: u16, stored: &[u32]) -> Vec<u8> {
+fn ping(like: &Tuple, kind: PingKind, stored: &[Stored]) -> Vec<u8> {
     let order = like.order;
-    let length = 32 + 4 * stored.len() as u32;
-    let mut tuple = four(order, length - 10).to_vec();
-    tuple.extend(two(order, kind));
+    let length = 32 + bytes(stored) as u32;
+    let mut tuple = four_bytes(order, length - 10).to_vec();
+    tuple.extend(two_bytes(order, kind.code()));
     tuple.extend(&like.bytes[6..24]);
-    tuple.extend(stored.iter().flat_map(|number| four(order, *number)));
+    tuple.extend(stored_bytes(order, stored));
     tuple.extend([0; 4]);
-    tuple.extend(four(order, length));
+    tuple.extend(four_bytes(order, length));
     tuple
 }
 
@@ -182,16 +262,34 @@ fn refuses(file: &[u8], place: usize, refusal: Refusal) {
     reads(file, place, refusal);
 }
 
-/// The refusal that the readers give a ping.
+/// The refusal that the readers give a ping; that of another kind of sample has 9 before
+/// it, at the place.
 fn reads(file: &[u8], place: usize, refusal: Refusal) {
     assert_eq!(read_ping(file, place), Err(refusal));
-    assert_eq!(samples(file, place), Err(refusal));
+    let Step::Tuple { tuple, .. } = (Walk { at: place }).forward(file) else {
+        panic!("no tuple at {place}");
+    };
+    let kind = PingKind::of_type(tuple.kind).expect("a ping");
+    let (of_samples, of_angles) = match kind.has_angles() {
+        false => (refusal, refused(Code::Unfit, place)),
+        true => (refused(Code::Unfit, place), refusal),
+    };
+    assert_eq!(samples(file, place), Err(of_samples));
+    assert_eq!(angles(file, place), Err(of_angles));
     // 19 comes last
     for entries in [0, 8] {
         let (mut numbers, mut values) = (vec![7; entries], vec![7; entries]);
         let answer = read_samples(file, place, &mut numbers, &mut values);
-        assert_eq!(answer, Err(refusal));
-        assert_eq!((numbers, values), (vec![7; entries], vec![7; entries]));
+        assert_eq!(answer, Err(of_samples));
+        assert_eq!((&numbers, values), (&vec![7; entries], vec![7; entries]));
+        let (mut alongship, mut athwartship) = (vec![7; entries], vec![7; entries]);
+        let answer = read_angles(file, place, &mut numbers, &mut alongship, &mut athwartship);
+        assert_eq!(answer, Err(of_angles));
+        assert_eq!(numbers, vec![7; entries]);
+        assert_eq!(
+            (alongship, athwartship),
+            (vec![7; entries], vec![7; entries])
+        );
     }
 }
 
@@ -230,16 +328,34 @@ fn order_of_rules() {
     for known in both_orders() {
         let like = known.pings()[0];
         // 11, at the ping, before 24 and 25
-        let mut overfull = vec![7; 1 + VALUE_LIMIT + 1];
-        overfull[1] = BAD[0];
-        let (file, place) = with_ping(&known, &ping(like, 10010, &overfull));
-        let refusal = refused(Code::Overfull, place);
-        refuses(&file, place, refusal);
-        assert_eq!(wrong_sample(&file, Walk::START, refusal), None);
+        let overfull = |kind, bad| {
+            let mut words = vec![7; VALUE_LIMIT + 2];
+            words[0] = bad;
+            // of C-16 and CE-16 an even number, one of them a run
+            words[1] = RUN >> (8 * (4 - width(kind)));
+            let said = words.len() as u32;
+            packed(kind, said, &words)
+        };
+        for (kind, bad) in [
+            (PingKind::C32, BAD[0]),
+            (PingKind::C16, 0x8100),
+            (PingKind::Ce16, 0x7F00),
+        ] {
+            let (file, place) = with_ping(&known, &ping(like, kind, &overfull(kind, bad)));
+            let refusal = refused(Code::Overfull, place);
+            refuses(&file, place, refusal);
+            assert_eq!(wrong_sample(&file, Walk::START, refusal), None);
+        }
+        // of the kinds of two bytes that number their samples, before 23
+        for kind in [PingKind::U16, PingKind::U16Angles] {
+            let fall = vec![7; VALUE_LIMIT + 2];
+            let (file, place) = with_ping(&known, &ping(like, kind, &falls(kind, &fall, 1).stored));
+            refuses(&file, place, refused(Code::Overfull, place));
+        }
 
         // 13 before 24 by the check; a reader doesn't ask for the channel
-        let mut orphan = ping(like, 10010, &[1, BAD[1]]);
-        orphan[12..14].copy_from_slice(&two(known.order, 99));
+        let mut orphan = ping(like, PingKind::C32, &[(4, 1), (4, BAD[1])]);
+        orphan[12..14].copy_from_slice(&two_bytes(known.order, 99));
         let (file, place) = with_ping(&known, &orphan);
         assert_eq!(check(&file), Err(refused(Code::NoParent, place)));
         reads(&file, place, refused(Code::BadWord, place + 28));
@@ -256,8 +372,9 @@ fn order_of_rules() {
             .filter(|(_, tuple)| tuple.is_ping())
             .map(|(nth, _)| nth)
             .collect();
-        draft.tuples[pings[1]] = ping(like, 10010, &[5, 7]);
-        draft.tuples[pings[2]] = ping(like, 10000, &[4, 0, 3, 0]);
+        draft.tuples[pings[1]] = ping(like, PingKind::C32, &[(4, 5), (4, 7)]);
+        let falling = [(4, 4), (4, 0), (4, 3), (4, 0)];
+        draft.tuples[pings[2]] = ping(like, PingKind::U32, &falling);
         let (first, later) = (draft.place(pings[1]), draft.place(pings[2]));
         let file = draft.bytes();
         assert_eq!(check(&file), Err(refused(Code::Miscounted, first + 24)));

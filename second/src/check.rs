@@ -1,16 +1,16 @@
 //! The whole check, in one pass.
 
 use crate::answer::{Answer, Fault};
+use crate::kinds::PingKind;
 use crate::layout::{self, class, Class};
 use crate::links::{ChannelLink, DocumentId, Links, Maker, SoftwareChannel, SounderLink};
 use crate::order::{four_at, two_at, Order};
 use crate::records::judge_fields;
-use crate::samples::{fewest_of_words, has_length, judge_ping, pairs_length, words_of};
-use crate::samples::{BESIDE_WORDS, COUNT_AT};
+use crate::samples::{judge_ping, normal_ping_length};
 use crate::walk::{frame, mark, Tuple};
 
 /// What a survey is made for. The normaliser alone has to know how long the normal
-/// form is, and of a ping with a length that takes another look at each word.
+/// form is, and of a ping of words that takes another look at each of them.
 #[derive(Clone, Copy, PartialEq, Eq)]
 pub(crate) enum Purpose {
     Check,
@@ -54,6 +54,11 @@ impl Seen {
     }
 }
 
+/// Whether a tuple of a type names a channel; all have it at the same offset.
+fn names_channel(code: u16) -> bool {
+    matches!(code, layout::THRESHOLD | layout::ATTITUDE) || PingKind::of(code).is_some()
+}
+
 /// 12, 14 and 13 of one listed tuple of fit length.
 fn judge_links(links: &mut Links, tuple: &Tuple, bytes: &[u8], order: Order) -> Result<(), u32> {
     let two = |at| two_at(order, bytes, at);
@@ -79,31 +84,25 @@ fn judge_links(links: &mut Links, tuple: &Tuple, bytes: &[u8], order: Order) -> 
         layout::CHANNEL => links.declare_channel(channel(Maker::Biosonics)),
         layout::EK500_CHANNEL => links.declare_channel(channel(Maker::Simrad)),
         layout::ATTITUDE if SoftwareChannel(two(12)) == SoftwareChannel::ALL => Ok(()),
-        layout::PING_U32 | layout::PING_C32 | layout::THRESHOLD | layout::ATTITUDE => {
-            links.name_channel(SoftwareChannel(two(12)))
-        }
+        code if names_channel(code) => links.name_channel(SoftwareChannel(two(12))),
         _ => Ok(()),
     }
 }
 
 /// 11 and 23 to 25 of a framed tuple of fit length.
 pub(crate) fn judge_samples(bytes: &[u8], code: u16, order: Order) -> Result<(), Fault> {
-    match code {
-        layout::PING_U32 | layout::PING_C32 => judge_ping(bytes, code, order).map(|_| ()),
-        _ => Ok(()),
+    match PingKind::of(code) {
+        Some(kind) => judge_ping(bytes, kind, order).map(|_| ()),
+        None => Ok(()),
     }
 }
 
 /// Length of a judged tuple's normal form, 0 for the index class.
 pub(crate) fn normal_length(bytes: &[u8], code: u16, order: Order) -> u64 {
-    match code {
-        layout::PING_C32 if has_length(bytes, code, order) => {
-            BESIDE_WORDS + 4 * fewest_of_words(words_of(bytes), order)
-        }
-        // Judged before, the stated number of samples is the number of values.
-        layout::PING_C32 => pairs_length(four_at(order, bytes, COUNT_AT)),
-        _ if class(code) == Some(Class::Index) => 0,
-        _ => bytes.len() as u64,
+    match PingKind::of(code) {
+        Some(kind) => normal_ping_length(bytes, kind, order),
+        None if class(code) == Some(Class::Index) => 0,
+        None => bytes.len() as u64,
     }
 }
 

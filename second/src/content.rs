@@ -5,10 +5,11 @@
 
 use crate::answer::Answer;
 use crate::check::check;
+use crate::kinds::{Family, PingKind};
 use crate::layout::{self, class, Class};
 use crate::links::{DocumentId, SoftwareChannel, TransceiverNumber};
+use crate::pings::{read_angles, read_samples, Ping, PingHeader};
 use crate::records::*;
-use crate::samples::read_samples;
 use crate::walk::{forward, Step, Tuple};
 
 /// One tuple of a file's content.
@@ -22,12 +23,20 @@ pub enum Entry {
         characters: Vec<u8>,
         attribute: i32,
     },
-    /// A 32-bit ping; U-32 and C-32 are one type. It has a length where it ends in
-    /// silence, which only C-32 can say.
+    /// A ping, by its family: its kinds are one type. It has a length where it ends in
+    /// silence, which only words can say.
     Ping {
+        family: Family,
         header: PingHeader,
         samples: Vec<(u32, i32)>,
         length: Option<u32>,
+        attribute: i32,
+    },
+    /// A ping of angles: alongship, then athwartship.
+    Angles {
+        family: Family,
+        header: PingHeader,
+        samples: Vec<(u32, i16, i16)>,
         attribute: i32,
     },
     /// An unlisted type: its data bytes, the attribute with them.
@@ -77,6 +86,9 @@ macro_rules! fields {
 
 fn ping_entry(file: &[u8], place: u64) -> Result<Entry, Answer> {
     let (_, ping) = Ping::read(file, place)?;
+    if ping.kind.row().has_angles() {
+        return angles_entry(file, place, ping);
+    }
     let count = ping.values as usize;
     let (mut numbers, mut values) = (vec![0; count], vec![0; count]);
     let answer = read_samples(file, place, &mut numbers, &mut values);
@@ -84,9 +96,27 @@ fn ping_entry(file: &[u8], place: u64) -> Result<Entry, Answer> {
         return Err(answer);
     }
     Ok(Entry::Ping {
+        family: ping.kind.row().family,
         header: ping.header,
         samples: numbers.into_iter().zip(values).collect(),
         length: ping.length,
+        attribute: ping.tuple_attribute,
+    })
+}
+
+fn angles_entry(file: &[u8], place: u64, ping: Ping) -> Result<Entry, Answer> {
+    let count = ping.values as usize;
+    let (mut numbers, mut first, mut second) = (vec![0; count], vec![0; count], vec![0; count]);
+    let answer = read_angles(file, place, &mut numbers, &mut first, &mut second);
+    if !answer.is_accepted() {
+        return Err(answer);
+    }
+    let angles = first.into_iter().zip(second);
+    let samples = numbers.into_iter().zip(angles).map(|(n, (a, b))| (n, a, b));
+    Ok(Entry::Angles {
+        family: ping.kind.row().family,
+        header: ping.header,
+        samples: samples.collect(),
         attribute: ping.tuple_attribute,
     })
 }
@@ -154,7 +184,7 @@ fn entry(file: &[u8], tuple: Tuple) -> Result<Entry, Answer> {
             time_fraction time_cpu_ansi_c_standard_time),
         layout::END_OF_FILE => fields!(file, tuple, EndOfFile:
             time_fraction time_cpu_ansi_c_standard_time closing_mode; data),
-        layout::PING_U32 | layout::PING_C32 => ping_entry(file, tuple.place)?,
+        code if PingKind::of(code).is_some() => ping_entry(file, tuple.place)?,
         code => {
             let bytes = tuple.bytes(file);
             Entry::Unlisted { code, data: bytes[6..bytes.len() - 4].to_vec() }

@@ -1,6 +1,10 @@
 //! Kinds, classes, lengths and rows of the listed types.
 
 use self::Field::*;
+use crate::kinds::PingKind;
+pub use crate::kinds::{
+    PING_C16, PING_C32, PING_CE16, PING_U16, PING_U16_ANGLES, PING_U32, PING_U32_16_ANGLES,
+};
 
 pub const SIGNATURE: u16 = 65535;
 pub const SOUNDER: u16 = 100;
@@ -12,8 +16,6 @@ pub const NAVIGATION: u16 = 30;
 pub const ATTITUDE: u16 = 40;
 pub const THRESHOLD: u16 = 10100;
 pub const EVENT_MARKER: u16 = 10110;
-pub const PING_U32: u16 = 10000;
-pub const PING_C32: u16 = 10010;
 pub const START_OF_RUN: u16 = 65516;
 pub const END_OF_RUN: u16 = 65517;
 pub const END_OF_FILE: u16 = 65534;
@@ -29,7 +31,7 @@ pub const PRINTED_IDENTIFIER: u16 = 44201;
 pub const FILE_LIMIT: u64 = 16_777_216;
 pub const TUPLE_LEAST: u64 = 16;
 pub const TUPLE_LIMIT: u64 = 262_144;
-/// Values in one ping, of either kind.
+/// Values in one ping, of any kind.
 pub const VALUE_LIMIT: u64 = 32_764;
 /// Sounders and channels in one file, those of both makers together.
 pub const SOUNDER_LIMIT: usize = 64;
@@ -52,10 +54,8 @@ pub enum Field {
     Space(usize),
     /// As many characters or bytes of data as the length leaves.
     Text,
-    /// Pairs of sample number and value.
-    Pairs,
-    /// Words of a C-32 ping.
-    Words,
+    /// Samples or words of a ping, by its kind, and the space behind them.
+    Samples,
 }
 
 impl Field {
@@ -65,7 +65,7 @@ impl Field {
             Two | SignedTwo | Identifier => 2,
             Four | SignedFour => 4,
             Chars(n) | Space(n) => n,
-            Text | Pairs | Words => 0,
+            Text | Samples => 0,
         }
     }
 
@@ -83,6 +83,8 @@ pub enum Lengths {
         least: u64,
         step: u64,
     },
+    /// Those of a kind of ping.
+    Ping(PingKind),
 }
 
 pub struct Layout {
@@ -116,9 +118,22 @@ const fn open(
     }
 }
 
-/// The fifteen listed types, one row each.
+const fn ping(kind: PingKind) -> Layout {
+    Layout {
+        code: kind.row().code,
+        name: kind.row().name,
+        lengths: Lengths::Ping(kind),
+        row: if kind.row().is_packed() {
+            &[Two, Four, Two, Two, Four, SignedFour, Four, Samples]
+        } else {
+            &[Two, Four, Two, Two, Four, SignedFour, Samples]
+        },
+    }
+}
+
+/// The twenty listed types, one row each.
 #[rustfmt::skip]
-pub static LAYOUTS: [Layout; 15] = [
+pub static LAYOUTS: [Layout; 20] = [
     fixed(SIGNATURE, "signature", 24, &[Identifier, Two, Two, Four]),
     fixed(SOUNDER, "echosounder", 72, &[
         Two, Four, Two, Two, SignedTwo, Two, SignedTwo, Two, Two, SignedTwo, Two, Two,
@@ -152,12 +167,20 @@ pub static LAYOUTS: [Layout; 15] = [
         Two, Four, Two, Two, Two, Two, Two, Two, Four, Four, Four,
     ]),
     open(EVENT_MARKER, "event marker", 24, 4, &[Two, Four, Text]),
-    open(PING_U32, "ping U-32", 40, 8, &[Two, Four, Two, Two, Four, SignedFour, Pairs]),
-    open(PING_C32, "ping C-32", 40, 4, &[Two, Four, Two, Two, Four, SignedFour, Four, Words]),
+    ping(PingKind::U32),
+    ping(PingKind::C32),
+    ping(PingKind::U32_16Angles),
+    ping(PingKind::U16),
+    ping(PingKind::U16Angles),
+    ping(PingKind::C16),
+    ping(PingKind::Ce16),
     fixed(START_OF_RUN, "start of run", 20, &[Two, Four]),
     fixed(END_OF_RUN, "end of run", 20, &[Two, Four]),
     open(END_OF_FILE, "end of file", 24, 4, &[Two, Four, Two, Text]),
 ];
+
+/// The row of the first kind of ping; the others follow in the order of kinds.
+const FIRST_PING: usize = 10;
 
 /// The layout of a listed type.
 pub fn layout(code: u16) -> Option<&'static Layout> {
@@ -172,12 +195,10 @@ pub fn layout(code: u16) -> Option<&'static Layout> {
         ATTITUDE => 7,
         THRESHOLD => 8,
         EVENT_MARKER => 9,
-        PING_U32 => 10,
-        PING_C32 => 11,
-        START_OF_RUN => 12,
-        END_OF_RUN => 13,
-        END_OF_FILE => 14,
-        _ => return None,
+        START_OF_RUN => 17,
+        END_OF_RUN => 18,
+        END_OF_FILE => 19,
+        _ => FIRST_PING + PingKind::of(code)? as usize,
     };
     Some(&LAYOUTS[row])
 }
@@ -197,6 +218,7 @@ impl Layout {
         match self.lengths {
             Lengths::Exactly(exact) => length == exact,
             Lengths::From { least, step } => length >= least && (length - least) % step == 0,
+            Lengths::Ping(kind) => kind.row().fits(length),
         }
     }
 }
@@ -243,13 +265,12 @@ mod tests {
             match layout.lengths {
                 Lengths::Exactly(length) => assert_eq!(whole, length, "{}", layout.name),
                 Lengths::From { least, .. } => {
-                    let smallest = match layout.code {
-                        EVENT_MARKER => 4,
-                        PING_U32 => 8,
-                        PING_C32 => 4,
-                        _ => 2,
-                    };
+                    let smallest = if layout.code == EVENT_MARKER { 4 } else { 2 };
                     assert_eq!(whole + smallest, least, "{}", layout.name);
+                }
+                Lengths::Ping(kind) => {
+                    let start = kind.row().start();
+                    assert_eq!(whole, start as u64 + 8, "{}", layout.name);
                 }
             }
         }
@@ -261,7 +282,7 @@ mod tests {
             assert_eq!(layout(row.code).map(|l| l.code), Some(row.code));
         }
         let listed = (0..=u16::MAX).filter(|code| is_listed(*code)).count();
-        assert_eq!(listed, 15);
+        assert_eq!(listed, LAYOUTS.len());
     }
 
     #[test]

@@ -2,10 +2,10 @@
 
 use crate::answer::Answer;
 use crate::check::{survey, Purpose};
+use crate::kinds::{PingKind, COUNT_AT, HEADER_END, TAIL};
 use crate::layout::{self, class, Class, Field, FILE_LIMIT, HAC_IDENTIFIER, ROW_START};
 use crate::order::{four_at, put_four, put_two, two_at, Order};
-use crate::samples::{has_length, pairs_length, words_of, words_to_pairs, write_fewest};
-use crate::samples::{COUNT_AT, PAIRS_AT, TAIL, WORDS_AT};
+use crate::samples::normal_samples;
 use crate::walk::frame;
 
 /// Writes the normal form of a file. The check's refusals, then 18, 20, 19;
@@ -47,12 +47,8 @@ pub(crate) fn write_normal(tuple: &[u8], code: u16, order: Order, out: &mut [u8]
     if class(code) == Some(Class::Index) {
         return 0;
     }
-    if code == layout::PING_C32 {
-        return if has_length(tuple, code, order) {
-            write_words(tuple, order, out)
-        } else {
-            write_pairs(tuple, order, out)
-        };
+    if let Some(kind) = PingKind::of(code) {
+        return write_ping(tuple, kind, order, out);
     }
     let out = &mut out[..tuple.len()];
     match order {
@@ -87,7 +83,7 @@ fn turn_row(tuple: &[u8], code: u16, out: &mut [u8]) {
     let mut at = ROW_START;
     for field in layout::layout(code).map_or(&[][..], |layout| layout.row) {
         let end = match field {
-            Field::Text | Field::Pairs | Field::Words => tail,
+            Field::Text | Field::Samples => tail,
             _ => at + field.width(),
         };
         match field {
@@ -113,26 +109,15 @@ fn turn_fours(from: &[u8], to: &mut [u8]) {
     }
 }
 
-/// A C-32 ping without a length as U-32.
-fn write_pairs(tuple: &[u8], order: Order, out: &mut [u8]) -> usize {
-    // Judged before, the stated number of samples is the number of values.
-    let length = pairs_length(four_at(order, tuple, COUNT_AT)) as usize;
-    put_header(tuple, order, &mut out[..length]);
-    put_two(Order::Lsb, out, 4, layout::PING_U32);
-    let pairs = &mut out[PAIRS_AT..length - TAIL];
-    match order {
-        Order::Lsb => words_to_pairs::<false>(words_of(tuple), pairs),
-        Order::Msb => words_to_pairs::<true>(words_of(tuple), pairs),
+/// A ping, of its kind or of another of its family, and so of another length.
+fn write_ping(tuple: &[u8], kind: PingKind, order: Order, out: &mut [u8]) -> usize {
+    let (normal, length) = normal_samples(tuple, kind, order, out);
+    let out = &mut out[..length];
+    put_two(Order::Lsb, out, 4, normal.row().code);
+    put_header(tuple, order, out);
+    if normal.row().is_packed() {
+        put_four(Order::Lsb, out, COUNT_AT, four_at(order, tuple, COUNT_AT));
     }
-    length
-}
-
-/// A C-32 ping with a length, in the fewest words.
-fn write_words(tuple: &[u8], order: Order, out: &mut [u8]) -> usize {
-    let length = WORDS_AT + write_fewest(words_of(tuple), order, &mut out[WORDS_AT..]) + TAIL;
-    put_header(tuple, order, &mut out[..length]);
-    put_two(Order::Lsb, out, 4, layout::PING_C32);
-    put_four(Order::Lsb, out, COUNT_AT, four_at(order, tuple, COUNT_AT));
     length
 }
 
@@ -143,7 +128,7 @@ fn put_header(tuple: &[u8], order: Order, out: &mut [u8]) {
     let attribute = &tuple[tuple.len() - TAIL..tuple.len() - 4];
     match order {
         Order::Lsb => {
-            out[6..PAIRS_AT].copy_from_slice(&tuple[6..PAIRS_AT]);
+            out[6..HEADER_END].copy_from_slice(&tuple[6..HEADER_END]);
             out[length - TAIL..length - 4].copy_from_slice(attribute);
         }
         Order::Msb => {

@@ -92,23 +92,38 @@ pub(crate) fn put_four(order: Order, tuple: &mut [u8], at: usize, number: u32) {
     tuple[at..at + 4].copy_from_slice(&order.from_four(number));
 }
 
-/// One chunk of four bytes as a number; the order is fixed when compiled, so
-/// that the loops over words need not look at it.
-pub(crate) fn word<const MSB: bool>(chunk: &[u8]) -> u32 {
-    let bytes = [chunk[0], chunk[1], chunk[2], chunk[3]];
-    if MSB {
-        u32::from_be_bytes(bytes)
-    } else {
-        u32::from_le_bytes(bytes)
+/// Two or four bytes as a number; the order is fixed when compiled, and so is the
+/// width wherever chunks of one width are read, so that the loops over samples need
+/// not look at them.
+#[inline(always)]
+pub(crate) fn number<const MSB: bool>(bytes: &[u8]) -> u32 {
+    let order = if MSB { Order::Msb } else { Order::Lsb };
+    match *bytes {
+        [a, b] => order.two([a, b]).into(),
+        [a, b, c, d] => order.four([a, b, c, d]),
+        _ => 0,
     }
 }
 
-/// Four bytes of a number, the order fixed when compiled.
-pub(crate) fn unword<const MSB: bool>(number: u32) -> [u8; 4] {
-    if MSB {
-        number.to_be_bytes()
+/// The same as a signed number.
+#[inline(always)]
+pub(crate) fn signed<const MSB: bool>(bytes: &[u8]) -> i32 {
+    let number = number::<MSB>(bytes);
+    if bytes.len() == 2 {
+        i32::from(number as i16)
     } else {
-        number.to_le_bytes()
+        number as i32
+    }
+}
+
+/// Puts a number into two bytes, which take its lower ones, or into four.
+#[inline(always)]
+pub(crate) fn put_number<const MSB: bool>(bytes: &mut [u8], number: u32) {
+    let width = bytes.len();
+    if MSB {
+        bytes.copy_from_slice(&number.to_be_bytes()[4 - width..]);
+    } else {
+        bytes.copy_from_slice(&number.to_le_bytes()[..width]);
     }
 }
 
@@ -128,6 +143,22 @@ mod tests {
             assert_eq!(order.two(order.from_two(0xBEEF)), 0xBEEF);
             assert_eq!(order.four(order.from_four(0xDEAD_BEEF)), 0xDEAD_BEEF);
         }
+    }
+
+    #[test]
+    fn numbers_by_width() {
+        let bytes = [0x81, 0x02, 0x03, 0x84];
+        assert_eq!(number::<false>(&bytes), 0x8403_0281);
+        assert_eq!(number::<true>(&bytes), 0x8102_0384);
+        assert_eq!(number::<false>(&bytes[..2]), 0x0281);
+        assert_eq!(number::<true>(&bytes[..2]), 0x8102);
+        assert_eq!(signed::<false>(&bytes[..2]), 0x0281);
+        assert_eq!(signed::<true>(&bytes[..2]), 0x8102 - 0x1_0000);
+        assert_eq!(signed::<true>(&bytes), 0x8102_0384_u32 as i32);
+        let mut out = [0; 4];
+        put_number::<true>(&mut out[..2], 0x1234_5678);
+        put_number::<false>(&mut out[2..], 0x1234_5678);
+        assert_eq!(out, [0x56, 0x78, 0x78, 0x56]);
     }
 
     #[test]

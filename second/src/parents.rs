@@ -2,7 +2,7 @@
 
 use crate::answer::{Answer, Reply};
 use crate::check::{survey, Purpose};
-use crate::layout::{PING_C32, PING_U32};
+use crate::kinds::PingKind;
 use crate::links::{DocumentId, SoftwareChannel};
 use crate::order::two_at;
 use crate::walk::{forward, Step, Tuple};
@@ -41,7 +41,7 @@ pub fn parents(file: &[u8], place: u64) -> Reply<Parents> {
     let survey = survey(file, Purpose::Check)?;
     let refusal = Answer::refused(9, place);
     let tuple = tuple_starting_at(file, place).ok_or(refusal)?;
-    if tuple.code != PING_U32 && tuple.code != PING_C32 {
+    if PingKind::of(tuple.code).is_none() {
         return Err(refusal);
     }
     let id = SoftwareChannel(two_at(survey.order, tuple.bytes(file), 12));

@@ -1,13 +1,12 @@
-//! Chapter "Fields": a record, a reader and a writer for every listed type.
+//! Chapter "Fields": a record, a reader and a writer for every listed type but the pings.
 //!
 //! Names and offsets are those of TR's tables; a test holds them against the
 //! rows of `layout`, which are those of 01.
 
 use crate::answer::{Answer, Reply};
-use crate::layout::{self, is_identifier, HAC_IDENTIFIER, PING_C32, PING_U32, TUPLE_LIMIT};
+use crate::layout::{self, is_identifier, HAC_IDENTIFIER, TUPLE_LIMIT};
 use crate::links::{DocumentId, SoftwareChannel, TransceiverNumber};
 use crate::order::{four_at, put_four, put_two, two_at, Order};
-use crate::samples::{judge_ping, ping_length};
 use crate::walk::{forward, mark, Step};
 
 /// Width of the remarks of sounders and channels.
@@ -73,7 +72,7 @@ number!(
 pub(crate) fn listed_tuple<'a>(
     file: &'a [u8],
     place: u64,
-    asked: &[u16],
+    asked: impl Fn(u16) -> bool,
 ) -> Result<(&'a [u8], u16, Order), Answer> {
     let order = mark(file).map_err(|code| Answer::refused(code, place))?;
     let tuple = match forward(file, place) {
@@ -81,7 +80,7 @@ pub(crate) fn listed_tuple<'a>(
         Step::End => return Err(Answer::refused(3, place)),
         Step::Refused(refusal) => return Err(refusal),
     };
-    if !asked.contains(&tuple.code) {
+    if !asked(tuple.code) {
         return Err(Answer::refused(9, place));
     }
     let bytes = tuple.bytes(file);
@@ -139,7 +138,7 @@ macro_rules! record {
 
             /// Reads the record at a place of a file.
             pub fn read(file: & $($life)? [u8], place: u64) -> Reply<Self> {
-                let (tuple, _, order) = listed_tuple(file, place, &[Self::CODE])?;
+                let (tuple, _, order) = listed_tuple(file, place, |code| code == Self::CODE)?;
                 Ok((Answer::accepted(1, 0), Self::take(tuple, order)))
             }
 
@@ -161,7 +160,7 @@ macro_rules! record {
 }
 
 /// Lends a tuple of some length at the start of the output: 19.
-fn lend(out: &mut [u8], length: u64) -> Result<&mut [u8], Answer> {
+pub(crate) fn lend(out: &mut [u8], length: u64) -> Result<&mut [u8], Answer> {
     usize::try_from(length)
         .ok()
         .and_then(|length| out.get_mut(..length))
@@ -467,78 +466,6 @@ impl EndOfFile<'_> {
             }
             Err(refusal) => refusal,
         }
-    }
-}
-
-/// The header fields that both kinds of ping share: Tables 6 and 20.
-#[derive(Clone, Copy, PartialEq, Eq, Debug)]
-pub struct PingHeader {
-    pub time_fraction: u16,
-    pub time_cpu_ansi_c_standard_time: u32,
-    pub software_channel_identifier: SoftwareChannel,
-    pub transmitter_mode: u16,
-    pub ping_number: u32,
-    pub detected_bottom_range: i32,
-}
-
-impl PingHeader {
-    fn take(tuple: &[u8], order: Order) -> PingHeader {
-        PingHeader {
-            time_fraction: two_at(order, tuple, 6),
-            time_cpu_ansi_c_standard_time: four_at(order, tuple, 8),
-            software_channel_identifier: SoftwareChannel(two_at(order, tuple, 12)),
-            transmitter_mode: two_at(order, tuple, 14),
-            ping_number: four_at(order, tuple, 16),
-            detected_bottom_range: four_at(order, tuple, 20) as i32,
-        }
-    }
-
-    pub(crate) fn put(&self, order: Order, tuple: &mut [u8]) {
-        put_two(order, tuple, 6, self.time_fraction);
-        put_four(order, tuple, 8, self.time_cpu_ansi_c_standard_time);
-        put_two(order, tuple, 12, self.software_channel_identifier.0);
-        put_two(order, tuple, 14, self.transmitter_mode);
-        put_four(order, tuple, 16, self.ping_number);
-        put_four(order, tuple, 20, self.detected_bottom_range as u32);
-    }
-}
-
-#[derive(Clone, Copy, PartialEq, Eq, Debug)]
-pub enum PingKind {
-    U32,
-    C32,
-}
-
-/// What a ping says besides its samples.
-#[derive(Clone, Copy, PartialEq, Eq, Debug)]
-pub struct Ping {
-    pub header: PingHeader,
-    pub tuple_attribute: i32,
-    pub kind: PingKind,
-    /// The number of values, as counted.
-    pub values: u32,
-    /// All its samples, runs counted, where it is C-32 and its last word is a run.
-    pub length: Option<u32>,
-}
-
-impl Ping {
-    /// Reads the ping, of either kind, at a place of a file; gives 11 and 23 to
-    /// 25 as the sample reader does.
-    pub fn read(file: &[u8], place: u64) -> Reply<Ping> {
-        let (tuple, code, order) = listed_tuple(file, place, &[PING_U32, PING_C32])?;
-        let values = judge_ping(tuple, code, order).map_err(|fault| fault.at(place))?;
-        let ping = Ping {
-            header: PingHeader::take(tuple, order),
-            tuple_attribute: four_at(order, tuple, tuple.len() - 8) as i32,
-            kind: if code == PING_U32 {
-                PingKind::U32
-            } else {
-                PingKind::C32
-            },
-            values: values as u32,
-            length: ping_length(tuple, code, order),
-        };
-        Ok((Answer::accepted(1, 0), ping))
     }
 }
 

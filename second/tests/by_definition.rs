@@ -5,7 +5,7 @@
 
 mod common;
 
-use common::{count, sample_faults, seed, Faults, File};
+use common::{count, sample_faults, seed, Faults, File, PINGS};
 use second::gen::{
     fault, limit, limit_count, noise, random_damage, sound_case, two_faults, Case, Kind, Rng,
     FAULT_KINDS, LONG_KIND,
@@ -31,7 +31,7 @@ struct Known {
     compared: u64,
 }
 
-/// Lengths by 01's table and the readings, and by TR's Tables 3 and 5.
+/// Lengths by 01's table and the readings, by TR's Tables 3 and 5 and request f's table.
 fn suits(code: u64, length: u64) -> bool {
     match code {
         65535 => length == 24,
@@ -43,8 +43,10 @@ fn suits(code: u64, length: u64) -> bool {
         10100 => length == 44,
         65516 | 65517 => length == 20,
         10110 | 65534 => length >= 24,
-        10000 => length >= 40 && length % 8 == 0,
-        10010 => length >= 40,
+        10000 | 10001 => length >= 40 && length % 8 == 0,
+        10030 => length >= 36,
+        10031 => length >= 40 && [0, 8].contains(&((length - 32) % 12)),
+        10010 | 10040 | 10050 => length >= 40,
         _ => true,
     }
 }
@@ -68,6 +70,11 @@ fn frame_faults(file: &File, at: usize) -> Faults {
         faults.insert("6", at);
     }
     faults
+}
+
+/// Pings, thresholds and attitudes do.
+fn names_channel(code: u64) -> bool {
+    PINGS.contains(&code) || code == 10100 || code == 40
 }
 
 fn link_faults(file: &File, at: usize, code: u64, known: &Known) -> Faults {
@@ -99,7 +106,7 @@ fn link_faults(file: &File, at: usize, code: u64, known: &Known) -> Faults {
                 faults.insert("13", at);
             }
         }
-        40 | 10000 | 10010 | 10100 => {
+        code if names_channel(code) => {
             let id = file.number(at + 12, 2);
             let all = code == 40 && id == 65535;
             if !all && !has_channel(id) {
@@ -127,7 +134,7 @@ fn faults(file: &File, at: usize, known: &Known) -> Faults {
     }
     all.extend(link_faults(file, at, code, known));
     let fits = suits(code, length) && length <= 262_144;
-    if fits && (code == 10000 || code == 10010) {
+    if fits && PINGS.contains(&code) {
         all.extend(sample_faults(file, at));
     }
     all
@@ -153,7 +160,7 @@ fn comparisons(file: &File, at: usize, code: u64, known: &Known) -> u64 {
     match code {
         1000 | 2000 => searched(sounders, file.number(at + 8, 4)),
         40 if file.number(at + 12, 2) == 65535 => 0,
-        40 | 10000 | 10010 | 10100 => searched(channels, file.number(at + 12, 2)),
+        code if names_channel(code) => searched(channels, file.number(at + 12, 2)),
         _ => 0,
     }
 }

@@ -5,9 +5,8 @@ mod common;
 
 use common::{lent, seed, tuples_found};
 use second::gen::{big_limit, file_case};
+use second::pings::{read_samples, write_c32, write_u32, Ping, PingHeader};
 use second::programs::normalise_tuple;
-use second::records::{Ping, PingHeader};
-use second::samples::{read_samples, write_c32, write_u32};
 use second::{check, normalise, parents, Order, SoftwareChannel};
 use std::collections::BTreeSet;
 

@@ -4,11 +4,12 @@
 mod common;
 
 use common::bytes;
+use second::pings::{read_samples, Ping};
 use second::programs::{program_one, program_two};
-use second::records::{Navigation, Ping, PingKind};
-use second::samples::{read_samples, read_word, Word};
+use second::records::Navigation;
 use second::walk::{forward, Step};
-use second::{check, normalise, Answer, Order};
+use second::words::{read_word, Word};
+use second::{check, normalise, Answer, Order, PingKind};
 use std::io::Write;
 use std::process::{Command, Stdio};
 
@@ -117,13 +118,13 @@ fn e4() {
 
 #[test]
 fn e5() {
-    assert_eq!(read_word(0xFFFF_0000), Word::Run(1));
-    assert_eq!(read_word(0xFFFF_FFFF), Word::Run(65_536));
+    assert_eq!(read_word(PingKind::C32, 0xFFFF_0000), Word::Run(1));
+    assert_eq!(read_word(PingKind::C32, 0xFFFF_FFFF), Word::Run(65_536));
 }
 
 #[test]
 fn e6() {
-    assert_eq!(read_word(0xFFFE_FFFF), Word::Value(-65_537));
+    assert_eq!(read_word(PingKind::C32, 0xFFFE_FFFF), Word::Value(-65_537));
 }
 
 /// A C-32 ping of one word behind a mark, as a line each.

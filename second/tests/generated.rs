@@ -3,15 +3,16 @@
 
 mod common;
 
-use common::{count, first_sample_fault, lent, seed, tuples, File};
+use common::{count, first_sample_fault, is_run, lent, seed, tuples, word_places, word_width};
+use common::{File, PINGS};
 use second::gen::{
     big_limit, big_limit_count, equal_pair, file_case, limit, limit_count, unequal_pair, Case, Rng,
 };
-use second::layout::{class, Class, PING_C32, PING_U32};
+use second::layout::{class, Class, PING_U32};
+use second::pings::*;
 use second::records::*;
-use second::samples::read_samples;
-use second::walk::{backward, forward, Step};
-use second::{check, content, normalise, parents, Answer, Entry, Order};
+use second::walk::{backward, forward, Step, Tuple};
+use second::{check, content, normalise, parents, Answer, Entry, Order, PingKind};
 use second::{DocumentId, Maker, SoftwareChannel};
 
 /// Runs over the generated file cases.
@@ -172,23 +173,48 @@ fn normal_form_holds(file: &[u8], name: &str) {
     assert_eq!(found.len(), kept.len(), "{name}");
     for tuple in found {
         assert_ne!(class(tuple.code), Some(Class::Index), "{name}");
-        if tuple.code == PING_C32 {
-            assert!(ends_in_fewest_runs(tuple.bytes(&normal)), "{name}");
+        if PINGS.contains(&tuple.code.into()) {
+            assert!(is_normal_ping(&normal, &tuple), "{name}");
         }
     }
 }
 
-/// A C-32 ping of the normal form: its last word is a run, and a run behind which
-/// another comes is a full one.
-fn ends_in_fewest_runs(tuple: &[u8]) -> bool {
-    let words: Vec<u32> = tuple[28..tuple.len() - 8]
-        .chunks(4)
-        .map(|word| u32::from_le_bytes(word.try_into().unwrap()))
+/// A ping of the normal form: its spaces are 0; a run behind which another comes is a full
+/// one; CE-16 has no second 0; and one of words that could be numbered ends in a run.
+fn is_normal_ping(normal: &[u8], tuple: &Tuple) -> bool {
+    let file = File::new(normal).unwrap();
+    let (at, code) = (tuple.place as usize, u64::from(tuple.code));
+    let end = tuple.end() as usize - 8;
+    if code == 10031 {
+        let samples = (end - at - 24) / 6 * 6;
+        return normal[at + 24 + samples..end].iter().all(|byte| *byte == 0);
+    }
+    if ![10010, 10040, 10050].contains(&code) {
+        return true;
+    }
+    let places = word_places(&file, at, end, code);
+    let behind = places.last().unwrap() + word_width(code);
+    let spaces = normal[behind..end].iter().all(|byte| *byte == 0);
+    let words: Vec<u64> = places
+        .iter()
+        .map(|place| file.number(*place, word_width(code)))
         .collect();
-    let is_run = |word: &u32| word >> 16 == 0xFFFF;
+    let run = |word: &u64| is_run(code, *word);
+    let full = (1 << (8 * word_width(code))) - 1;
     let mut neighbours = words.windows(2);
-    let full_first = neighbours.all(|pair| !pair.iter().all(is_run) || pair[0] == u32::MAX);
-    words.last().is_some_and(is_run) && full_first
+    let full_first = neighbours.all(|pair| !pair.iter().all(run) || pair[0] == full);
+    let radix = 1 << (4 * word_width(code));
+    let samples: u64 = words
+        .iter()
+        .map(|word| if run(word) { word % radix + 1 } else { 1 })
+        .sum();
+    let ends = words.last().is_some_and(run);
+    let must = match code {
+        10050 => !words.contains(&0x8000),
+        10040 => ends || samples > 65_536,
+        _ => ends,
+    };
+    spaces && full_first && must
 }
 
 #[test]
@@ -349,7 +375,7 @@ fn readers_take_their_own_type() {
         }
         for tuple in tuples(file) {
             for (code, given) in reader_codes(file, tuple.place) {
-                let ping = code == PING_U32 && tuple.code == PING_C32;
+                let ping = code == PING_U32 && PingKind::of(tuple.code).is_some();
                 let expected = if code == tuple.code || ping { 0 } else { 9 };
                 assert_eq!(given, expected, "{name}, {} at {}", tuple.code, tuple.place);
             }
@@ -413,7 +439,7 @@ fn parents_of_pings() {
         };
         for tuple in found.into_iter().rev().step_by(apart) {
             let reply = parents(file, tuple.place);
-            if tuple.code != PING_U32 && tuple.code != PING_C32 {
+            if PingKind::of(tuple.code).is_none() {
                 assert_eq!(reply, Err(Answer::refused(9, tuple.place)), "{name}");
                 continue;
             }
@@ -494,6 +520,7 @@ fn a_ping_in_a_text_has_no_parents() {
 #[test]
 fn content_has_all_kinds() {
     let (mut pings, mut silent, mut lengths, mut fields, mut unlisted) = (0, 0, 0, 0, 0);
+    let mut angles = 0;
     each_case(600, |case, _| {
         for entry in content(&case.bytes).unwrap_or_default() {
             match entry {
@@ -512,10 +539,16 @@ fn content_has_all_kinds() {
                     pings += 1;
                     lengths += u64::from(length.is_some());
                 }
+                Entry::Angles { samples, .. } => {
+                    assert!(!samples.is_empty());
+                    assert!(samples.windows(2).all(|pair| pair[0].0 < pair[1].0));
+                    angles += 1;
+                }
                 Entry::Fields { .. } => fields += 1,
                 Entry::Unlisted { .. } => unlisted += 1,
             }
         }
     });
     assert!(pings > 100 && silent > 20 && lengths > 50 && fields > 500 && unlisted > 50);
+    assert!(angles > 20);
 }

@@ -368,7 +368,7 @@ fn the_generator_has_third_numbers() {
         assert!(seen.contains(&(false, number)), "{number}");
         assert!(seen.contains(&(true, number)), "{number}");
     }
-    for kind in FAULT_KINDS {
+    for kind in FAULT_KINDS.iter().copied() {
         let cases = (0..60).filter_map(|_| identifier(&fault(&mut rng, kind).bytes));
         let numbers: BTreeSet<u16> = cases.collect();
         match kind {

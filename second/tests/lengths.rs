@@ -4,12 +4,13 @@
 
 mod common;
 
-use common::{bytes, count, lent, marked, ping_header, seed, survey, tuples, Bytes, FIRST_PING};
+use common::{bytes, count, is_run, lent, marked, ping_header, seed, survey, tuples};
+use common::{word_places, word_width, Bytes, File, FIRST_PING};
 use second::gen::{equal_pair, file_case, frames, unequal_pair, Case, Rng};
+use second::pings::{read_samples, write_c32, write_u32, Ping};
 use second::programs::{normalise_tuple, program_one, program_two};
-use second::records::{Ping, PingKind};
-use second::samples::{read_samples, write_c32, write_u32};
-use second::{check, content, normalise, Answer, Entry, Order};
+use second::walk::Tuple;
+use second::{check, content, normalise, Answer, Entry, Order, PingKind};
 use std::collections::BTreeMap;
 
 /// The words of a run of 1 and of 65,536; a run of n is RUN + n - 1.
@@ -654,49 +655,59 @@ fn normal_forms_are_the_definitions() {
     assert!(lengths * 4 > count(3000), "{lengths}");
 }
 
-/// What a generated file has of request d, in its byte order.
+/// What a generated file has of request d, in its byte order, in each kind of words.
 fn of_silence(case: &Case) -> Vec<String> {
-    let file = &case.bytes;
-    if check(file).code != 0 {
-        return Vec::new();
-    }
-    let Some(order) = Order::of(file) else {
+    let bytes = &case.bytes;
+    let Some(file) = File::new(bytes).filter(|_| check(bytes).code == 0) else {
         return Vec::new();
     };
+    let order = if file.msb { "Msb" } else { "Lsb" };
     let mut seen = Vec::new();
-    for tuple in tuples(file).iter().filter(|tuple| tuple.code == 10010) {
-        let stored: Vec<u32> = tuple.bytes(file)[28..tuple.length as usize - 8]
-            .chunks(4)
-            .map(|word| order.four(word.try_into().unwrap()))
-            .collect();
-        let last_value = stored.iter().rposition(|word| *word < RUN);
-        let behind = &stored[last_value.map_or(0, |at| at + 1)..];
-        let quiet: u32 = behind.iter().map(|run| run - RUN + 1).sum();
-        let kind = match (last_value, quiet) {
-            (_, 0) => "a value last".to_string(),
-            (None, _) => "silent".to_string(),
-            _ => "a run last".to_string(),
-        };
-        for silence in [1, 65_535, 65_536, 65_537] {
-            if quiet == silence {
-                seen.push(format!("{kind}, {silence}"));
-            }
+    for tuple in tuples(bytes) {
+        let code = u64::from(tuple.code);
+        if [10010, 10040, 10050].contains(&code) {
+            let words = stored_words(&file, &tuple, code);
+            let met = of_words(&words, code).into_iter();
+            seen.extend(met.map(|what| format!("{code}: {what}, {order}")));
         }
-        if quiet >= 3 * 65_536 {
-            seen.push(format!("{kind}, several full"));
-        }
-        if behind.len() > 20 {
-            seen.push(format!("{kind}, short runs"));
-        }
-        let fewest = quiet.div_ceil(65_536) as usize;
-        if behind.len() == fewest && fewest > 1 && behind[0] != FULL {
-            seen.push(format!("{kind}, remainder first"));
-        }
-        seen.push(kind);
     }
-    seen.iter()
-        .map(|what| format!("{what}, {order:?}"))
+    seen
+}
+
+/// The words of a ping as they are stored.
+fn stored_words(file: &File, tuple: &Tuple, code: u64) -> Vec<u64> {
+    let (at, end) = (tuple.place as usize, tuple.end() as usize - 8);
+    word_places(file, at, end, code)
+        .into_iter()
+        .map(|place| file.number(place, word_width(code)))
         .collect()
+}
+
+/// The silence behind a ping's last value.
+fn of_words(words: &[u64], code: u64) -> Vec<String> {
+    let most = 1 << (4 * word_width(code));
+    let last_value = words.iter().rposition(|word| !is_run(code, *word));
+    let behind = &words[last_value.map_or(0, |at| at + 1)..];
+    let quiet: u64 = behind.iter().map(|run| run % most + 1).sum();
+    let kind = match (last_value, quiet) {
+        (_, 0) => "a value last",
+        (None, _) => "silent",
+        _ => "a run last",
+    };
+    let fewest = quiet.div_ceil(most) as usize;
+    let cut = behind.len() == fewest && fewest > 1;
+    let seen = [
+        (quiet == 1, ", 1"),
+        (quiet + 1 == most, ", a run less 1"),
+        (quiet == most, ", a run"),
+        (quiet == most + 1, ", a run and 1"),
+        (quiet >= 3 * most, ", several full"),
+        (behind.len() > 20, ", short runs"),
+        (cut && behind[0] % most + 1 != most, ", remainder first"),
+        (true, ""),
+    ];
+    let met = seen.iter().filter(|(met, _)| *met);
+    met.map(|(_, what)| format!("{kind}{what}")).collect()
 }
 
 /// So many cases of seed 1 are compared in full where every call is (`tests/calls`).
@@ -713,22 +724,28 @@ fn the_generator_has_silences() {
             }
         }
     }
-    for order in ["Lsb", "Msb"] {
-        let met = |what: &str| times.get(&format!("{what}, {order}")).copied().unwrap_or(0);
-        assert!(met("a value last") > 300, "{times:?}");
+    for (code, order) in [10010, 10040, 10050]
+        .map(|code| [(code, "Lsb"), (code, "Msb")])
+        .concat()
+    {
+        let met = |what: &str| {
+            let times = times.get(&format!("{code}: {what}, {order}"));
+            times.copied().unwrap_or(0)
+        };
+        assert!(met("a value last") > 100, "{times:?}");
         for kind in ["silent", "a run last"] {
-            assert!(met(kind) > 300, "{times:?}");
+            assert!(met(kind) > 100, "{times:?}");
             for what in [
                 "1",
-                "65535",
-                "65536",
-                "65537",
+                "a run less 1",
+                "a run",
+                "a run and 1",
                 "several full",
                 "short runs",
                 "remainder first",
             ] {
                 let what = format!("{kind}, {what}");
-                assert!(met(&what) > 5, "{what}, {order}");
+                assert!(met(&what) > 3, "{what}, {code} {order}: {times:?}");
             }
         }
     }

@@ -506,7 +506,7 @@ fn classes() {
     let said = [EkSounder(9, 1), EkChannel(5, 9), Ping(5)];
     accepted("all classes", &said, 1 + 1);
     for order in Order::BOTH {
-        let only = file(order, &[EkSounder(9, 0), Unlisted(10030)]);
+        let only = file(order, &[EkSounder(9, 0), Unlisted(10020)]);
         let length = only.len() as u64;
         assert_eq!(check(&only), Answer::refused(16, length), "{order:?}");
     }

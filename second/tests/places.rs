@@ -5,12 +5,11 @@
 mod common;
 
 use common::{count, first_sample_fault, lent, marked, sample_faults, seed, survey, tuples_found};
-use common::{Bytes, File, FIRST_PING};
+use common::{is_run, word_places, word_value, word_width, Bytes, File, FIRST_PING};
 use second::gen::{fault, frames, line_case, Case, Kind, Rng, Spot, FAULT_KINDS};
+use second::pings::{read_angles, read_samples, Ping};
 use second::programs::{decode, normalise_tuple, program_one, program_two, BYTE_LIMIT};
-use second::records::Ping;
-use second::samples::read_samples;
-use second::{check, content, normalise, parents, Answer, Order};
+use second::{check, content, normalise, parents, Answer, Order, PingKind};
 use std::collections::BTreeMap;
 
 /// The samples of a ping as they are stored.
@@ -75,11 +74,22 @@ fn printed(program: fn(&[u8]) -> Vec<u8>, file: &[u8]) -> String {
 fn readers_refuse(file: &[u8], place: usize, refusal: Answer, name: &str) {
     let fields = Ping::read(file, place as u64);
     assert_eq!(fields, Err(refusal), "{name}");
+    // either reader of samples is for other kinds
+    let code = File::new(file).unwrap().number(place + 4, 2);
+    let other = Answer::refused(9, place as u64);
+    let expected = match code {
+        10001 | 10031 => (other, refusal),
+        _ => (refusal, other),
+    };
     for room in [0, 3, 32_764] {
         let (mut numbers, mut values) = (vec![7; room], vec![8; room]);
-        let answer = read_samples(file, place as u64, &mut numbers, &mut values);
-        assert_eq!(answer, refusal, "{name}");
+        let (mut first, mut second) = (vec![9; room], vec![10; room]);
+        let place = place as u64;
+        let samples = read_samples(file, place, &mut numbers, &mut values);
+        let angles = read_angles(file, place, &mut numbers, &mut first, &mut second);
+        assert_eq!((samples, angles), expected, "{name}");
         assert!(numbers.iter().all(|n| *n == 7) && values.iter().all(|n| *n == 8));
+        assert!(first.iter().all(|n| *n == 9) && second.iter().all(|n| *n == 10));
     }
 }
 
@@ -418,19 +428,40 @@ fn pings_of_damaged_files() {
     assert!(broken * 8 > count(3000), "{broken}");
 }
 
+/// Where the first sample or word of a ping that can offend stands behind its start, and
+/// how many bytes a sample or word has.
+fn stride(code: u64) -> (usize, usize) {
+    match code {
+        10000 | 10001 => (32, 8),
+        10030 => (28, 4),
+        10031 => (30, 6),
+        _ => (28, word_width(code)),
+    }
+}
+
 /// All places of a ping's samples that offend.
 fn offending(file: &File, at: usize) -> Vec<usize> {
     let end = at + file.number(at, 4) as usize + 2;
-    if file.number(at + 4, 2) == 10000 {
-        return (at + 32..end)
-            .step_by(8)
-            .filter(|place| file.number(*place, 4) <= file.number(*place - 8, 4))
+    let code = file.number(at + 4, 2);
+    let (first, bytes) = stride(code);
+    let width = match code {
+        10000 | 10001 => 4,
+        _ => 2,
+    };
+    if ![10010, 10040, 10050].contains(&code) {
+        let number = |place: usize| file.number(place, width);
+        let places = (at + first..=end - bytes).step_by(bytes);
+        return places
+            .filter(|place| number(*place) <= number(*place - bytes))
             .collect();
     }
-    (at + 28..end)
-        .step_by(4)
-        .filter(|place| matches!(file.number(*place, 4) >> 16, 0x7FFF | 0x8000))
-        .collect()
+    let mut places = word_places(file, at, end, code);
+    places.retain(|place| {
+        let word = file.number(*place, bytes);
+        let (value, limits) = word_value(code, word);
+        !is_run(code, word) && !limits.contains(&value)
+    });
+    places
 }
 
 /// A generated ping with broken samples: its told code, how far behind its start
@@ -440,9 +471,21 @@ struct Broken {
     msb: bool,
     code: u32,
     within: usize,
-    end: usize,
+    /// Where its last sample or word starts, a space left out.
+    last: usize,
     offending: usize,
     miscounted: bool,
+}
+
+/// How far behind a ping's start its last sample or word starts.
+fn last_within(file: &File, at: usize) -> usize {
+    let end = file.number(at, 4) as usize + 2;
+    let code = file.number(at + 4, 2);
+    let (first, bytes) = stride(code);
+    match code {
+        10010 | 10040 | 10050 => *word_places(file, at, at + end, code).last().unwrap() - at,
+        _ => first + (end - first) / bytes * bytes - bytes,
+    }
 }
 
 /// A ping of a kind; where a file has no channel, its fault is another one.
@@ -463,7 +506,7 @@ fn broken(rng: &mut Rng, kind: Kind) -> Broken {
         msb: file.msb,
         code,
         within: told as usize - at,
-        end: ping.length as usize - 8,
+        last: last_within(&file, at),
         offending: offending(&file, at).len(),
         miscounted: sample_faults(&file, at).contains_key("25"),
     }
@@ -480,43 +523,63 @@ fn several(kind: Kind, judge: impl Fn(&Broken) -> bool) -> usize {
     pings.iter().filter(|ping| ping.offending > 1).count()
 }
 
+const LISTED: [PingKind; 4] = [
+    PingKind::U32,
+    PingKind::U32_16Angles,
+    PingKind::U16,
+    PingKind::U16Angles,
+];
+const PACKED: [PingKind; 3] = [PingKind::C32, PingKind::C16, PingKind::Ce16];
+
+/// The generator's broken pings of a kind of damage at each spot.
+fn has_all_spots(code: u32, first: usize, kind: impl Fn(Spot) -> Kind) {
+    let of_code = |ping: &Broken| ping.code == code && !ping.miscounted;
+    let at_first = several(kind(Spot::First), |ping| {
+        of_code(ping) && ping.within == first
+    });
+    let between = several(kind(Spot::Middle), |ping| {
+        of_code(ping) && ping.within > first && ping.within < ping.last
+    });
+    let at_last = several(kind(Spot::Last), |ping| {
+        of_code(ping) && ping.within == ping.last && ping.within > first
+    });
+    assert!(at_first > 50 && between > 50 && at_last == 0, "{code}");
+}
+
 /// The generator's broken pings have their first offender where their kind says,
 /// and many have others behind it.
 #[test]
 fn the_generator_has_all_spots() {
-    for (code, kind, first, width) in [
-        (23, Kind::Pairs as fn(Spot) -> Kind, 32, 8),
-        (24, Kind::Word, 28, 4),
-    ] {
-        let of_code = |ping: &Broken| ping.code == code && !ping.miscounted;
-        let at_first = several(kind(Spot::First), |ping| {
-            of_code(ping) && ping.within == first
-        });
-        let between = several(kind(Spot::Middle), |ping| {
-            of_code(ping) && ping.within > first && ping.within < ping.end - width
-        });
-        let at_last = several(kind(Spot::Last), |ping| {
-            of_code(ping) && ping.within == ping.end - width && ping.within > first
-        });
-        assert!(at_first > 50 && between > 50 && at_last == 0, "{code}");
+    for kind in LISTED {
+        let (first, _) = stride(kind.row().code.into());
+        has_all_spots(23, first, |spot| Kind::Pairs(kind, spot));
+    }
+    for kind in PACKED {
+        has_all_spots(24, 28, |spot| Kind::Word(kind, spot));
     }
 }
 
 /// Count and words broken at once, and too many values with both.
 #[test]
 fn the_generator_has_several_faults_at_once() {
-    several(Kind::Count, |ping| {
-        ping.code == 25 && ping.offending == 0 && ping.miscounted
-    });
-    let words = several(Kind::WordAndCount, |ping| {
-        ping.code == 24 && ping.offending > 0 && ping.miscounted
-    });
-    assert!(words > 50, "{words}");
-    several(Kind::TooMany, |ping| ping.code == 11 && ping.within == 0);
-    let mut rng = Rng::new(seed());
-    let all = |ping: &Broken| ping.offending > 0 && ping.miscounted;
-    let many = (0..100).filter(|_| all(&broken(&mut rng, Kind::TooMany)));
-    assert!(many.count() > 20);
+    for kind in PACKED {
+        several(Kind::Count(kind), |ping| {
+            ping.code == 25 && ping.offending == 0 && ping.miscounted
+        });
+        let words = several(Kind::WordAndCount(kind), |ping| {
+            ping.code == 24 && ping.offending > 0
+        });
+        assert!(words > 50, "{words}");
+        let mut rng = Rng::new(seed());
+        let all = |ping: &Broken| ping.offending > 0 && ping.miscounted;
+        let many = (0..100).filter(|_| all(&broken(&mut rng, Kind::TooMany(kind))));
+        assert!(many.count() > 20);
+    }
+    for kind in [PACKED.as_slice(), &LISTED[2..]].concat() {
+        several(Kind::TooMany(kind), |ping| {
+            ping.code == 11 && ping.within == 0
+        });
+    }
 }
 
 /// The second program's lines have broken pings of all three codes.

@@ -59,7 +59,7 @@ fn comparisons_by_hand() {
 /// MSB order they have no normal form.
 #[test]
 fn none_compared() {
-    let said = [Unlisted(300), Unlisted(3000), Unlisted(10030)];
+    let said = [Unlisted(300), Unlisted(3000), Unlisted(10020)];
     for order in Order::BOTH {
         let answer = check(&file(order, &said));
         assert_eq!(answer, Answer::checked(6, 0, 0), "{order:?}");

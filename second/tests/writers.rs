@@ -6,9 +6,12 @@ mod common;
 use common::{count, lent, limit_case, ping_header, seed, tuples};
 use second::gen::{any_length, sample_list, sound_drafts, Rng, Style, Wish};
 use second::layout;
+use second::pings::*;
 use second::records::*;
-use second::samples::*;
-use second::{check, Answer, DocumentId, Order, SoftwareChannel, TransceiverNumber};
+use second::words::fewest_words;
+use second::{
+    check, Answer, DocumentId, Family, Order, PingKind, SoftwareChannel, TransceiverNumber,
+};
 use std::collections::BTreeSet;
 
 /// Calls a writer with room enough, room exactly, and a byte too little, and
@@ -296,6 +299,7 @@ fn read_and_written_again() {
             printed: false,
             rubbish: false,
             cut: false,
+            minus_zero: false,
             ..Style::any(&mut rng)
         };
         let file = second::gen::render(&drafts, &style, &mut rng).bytes;
@@ -309,7 +313,7 @@ fn read_and_written_again() {
             seen.insert(tuple.code);
         }
     }
-    assert_eq!(seen.len(), 15);
+    assert_eq!(seen.len(), 20);
 }
 
 /// The listed tuple at a place, read and written; none for other types.
@@ -376,33 +380,42 @@ fn write_again(file: &[u8], place: u64, code: u16, order: Order) -> Option<Vec<u
             tuple[14..16].copy_from_slice(end.data);
             return Some(tuple);
         }
-        layout::PING_U32 | layout::PING_C32 => {
-            let (_, ping) = Ping::read(file, place).unwrap();
-            let n = ping.values as usize;
-            let (mut numbers, mut values) = (vec![0; n], vec![0; n]);
-            assert_eq!(
-                read_samples(file, place, &mut numbers, &mut values).length,
-                n as u64
-            );
-            let (header, attribute) = (&ping.header, ping.tuple_attribute);
-            match ping.kind {
-                PingKind::U32 => write_u32(header, attribute, &numbers, &values, order, out_slice),
-                PingKind::C32 => write_c32(
-                    header,
-                    attribute,
-                    &numbers,
-                    &values,
-                    ping.length,
-                    order,
-                    out_slice,
-                ),
-            }
-        }
+        code if PingKind::of(code).is_some() => ping_rewritten(file, place, order, out_slice),
         _ => return None,
     };
     assert_eq!((answer.code, answer.tuples), (0, 1));
     out.truncate(answer.length as usize);
     Some(out)
+}
+
+/// A ping of any kind, read and written again.
+fn ping_rewritten(file: &[u8], place: u64, order: Order, out: &mut [u8]) -> Answer {
+    let (_, ping) = Ping::read(file, place).unwrap();
+    let (header, attribute, length) = (&ping.header, ping.tuple_attribute, ping.length);
+    let n = ping.values as usize;
+    let mut numbers = vec![0; n];
+    let short: fn(&[u32]) -> Vec<u16> = |list| list.iter().map(|n| *n as u16).collect();
+    if ping.kind.row().has_angles() {
+        let (mut a, mut b) = (vec![0; n], vec![0; n]);
+        let answer = read_angles(file, place, &mut numbers, &mut a, &mut b);
+        assert_eq!(answer.length, n as u64);
+        return if ping.kind == PingKind::U16Angles {
+            write_u16_angles(header, attribute, &short(&numbers), &a, &b, order, out)
+        } else {
+            write_u32_16_angles(header, attribute, &numbers, &a, &b, order, out)
+        };
+    }
+    let mut values = vec![0; n];
+    let answer = read_samples(file, place, &mut numbers, &mut values);
+    assert_eq!(answer.length, n as u64);
+    let narrow: Vec<i16> = values.iter().map(|value| *value as i16).collect();
+    match ping.kind {
+        PingKind::U32 => write_u32(header, attribute, &numbers, &values, order, out),
+        PingKind::C32 => write_c32(header, attribute, &numbers, &values, length, order, out),
+        PingKind::U16 => write_u16(header, attribute, &short(&numbers), &narrow, order, out),
+        PingKind::C16 => write_c16(header, attribute, &numbers, &narrow, length, order, out),
+        _ => write_ce16(header, attribute, &numbers, &values, length, order, out),
+    }
 }
 
 /// Whatever the file has that it was read from.
@@ -499,8 +512,8 @@ fn pings_of_both_kinds_read_the_same() {
     let mut with_length = 0;
     for index in 0..count(2000) {
         let mut rng = Rng::of_case(seed, index);
-        let samples = sample_list(&mut rng, false);
-        let length = any_length(&mut rng, &samples);
+        let samples = sample_list(&mut rng, Family::Bits32, false);
+        let length = any_length(&mut rng, Family::Bits32, &samples);
         let name = format!("seed {seed} list {index}");
         let (numbers, values): (Vec<u32>, Vec<i32>) = samples.into_iter().unzip();
         let n = numbers.len();
@@ -512,7 +525,11 @@ fn pings_of_both_kinds_read_the_same() {
                 let c32 = written(36 + 4 * words as usize, |out| {
                     write_c32(&ping_header(), -8, &numbers, &values, length, order, out)
                 });
-                assert_eq!(fewest_words(&numbers, length), words, "{name}");
+                assert_eq!(
+                    fewest_words(PingKind::C32, &numbers, length),
+                    words,
+                    "{name}"
+                );
                 let file = behind_mark(order, &c32);
                 read_back(&file, (PingKind::C32, length), &numbers, &values, &name);
             }

@@ -58,7 +58,3 @@ module _ {O : Type 0} (n : ℕ) (numbers : O → List ℕ) (promise : O → Type
 pub alone-answer : (promise : Answer → Type 0) (lent : List ℕ) (a : Answer) (code : ℕ) (left : List ℕ) → head ≤ length lent → promise a
     → (code ≡ numbers a .code) × (left ≡ sets lent 0 (five a)) → SaidAlone 0 five promise lent code left
 alone-answer promise lent a code left h p e = answer-told (λ o m. promise o) lent (record {}) a code left (record {}) h p e
-
--- a promise about a header and an attribute, of the same ones
-pub of-same : {S A : Type 0} (W : S → A → Type 0) {r s : S} {x y : A} → r ≡ s → x ≡ y → W r x → W s y
-of-same {S = S} {A = A} W {r} {s} {x} {y} e f w = subst (λ (z : A). W s z) f (subst (λ (z : S). W z x) e w)

@@ -1,9 +1,8 @@
-// Pings: fields and samples read, and both kinds written.
+// Pings: fields, samples and angles read.
 use super::HEAD;
 use super::tell_answer;
 use super::tell_found;
 use super::tell_refusal;
-use layout::SoftwareChannel;
 use layout::codes;
 use pings::PingHeader;
 use pings::PingKind;
@@ -18,15 +17,24 @@ ghost use lib.Seq.{sets};
 ghost use Rattle.layout.specs.declared.Answer.{Answer};
 ghost use Rattle.pings.specs.declared.PingRead.the-variants.{Read};
 ghost use Rattle.pings.specs.Fields.{pingNumbers, kindNumber, lengthNumbers, readFields, PingAt};
-ghost use Rattle.pings.specs.Readers.{SamplesRead};
-ghost use Rattle.pings.specs.Headers.{handedLength, WrittenU, WrittenC};
+ghost use Rattle.pings.specs.Readers.{SamplesRead, AnglesRead};
 ghost use Rattle.archive.specs.Saying.{head, Said, SaidAlone};
-ghost use Rattle.archive.specs.Numbers.{five, told, headerWith, handedBy};
+ghost use Rattle.archive.specs.Numbers.{five, told};
 
 // The kinds of ping as numbers.
 const U32: u64 = 0;
 
 const C32: u64 = 1;
+
+const U32_16_ANGLES: u64 = 2;
+
+const U16: u64 = 3;
+
+const U16_ANGLES: u64 = 4;
+
+const C16: u64 = 5;
+
+const CE16: u64 = 6;
 
 // The entries of a ping's fields.
 const PING: usize = HEAD + 11;
@@ -37,6 +45,11 @@ fn kind_number(kind: PingKind) -> u64
     match kind {
         PingKind::U32 => U32,
         PingKind::C32 => C32,
+        PingKind::U32Angles => U32_16_ANGLES,
+        PingKind::U16 => U16,
+        PingKind::U16Angles => U16_ANGLES,
+        PingKind::C16 => C16,
+        PingKind::CE16 => CE16,
     }
 }
 
@@ -131,90 +144,26 @@ pub extern "C" fn hac_read_samples(
 }
 
 #[no_mangle]
-pub extern "C" fn hac_write_u32(
-    time_fraction: u16,
-    time_cpu: u32,
-    software_channel_identifier: u16,
-    transmitter_mode: u16,
-    ping_number: u32,
-    detected_bottom_range: i32,
-    tuple_attribute: i32,
-    numbers: &[u32],
-    values: &[i32],
-    msb: bool,
-    out: &mut [u8],
+pub extern "C" fn hac_read_angles(
+    file: &[u8],
+    place: usize,
+    numbers: &mut [u32],
+    alongship: &mut [i16],
+    athwartship: &mut [i16],
     answer: &mut [u64],
 ) -> u8
     ensures { λ r. ⌜ Said 0 five
-        (WrittenU msb
-        (headerWith «time_fraction» «time_cpu» «software_channel_identifier» «transmitter_mode» «ping_number» «detected_bottom_range»)
-        «tuple_attribute» (now (numbers .entry)) (now (values .entry)) (now (out .entry)))
-        (now (answer .entry)) (now (out .entry)) r (now (answer .exit)) (now (out .exit)) ⌝ }
+        (λ (a : Answer) (m : List ℕ × List ℤ × List ℤ).
+        AnglesRead (now (file .entry)) place (now (numbers .entry)) (now (alongship .entry)) (now (athwartship .entry)) a
+        (m .0) (m .1) (m .2))
+        (now (answer .entry)) (now (numbers .entry), now (alongship .entry), now (athwartship .entry)) r
+        (now (answer .exit)) (now (numbers .exit), now (alongship .exit), now (athwartship .exit)) ⌝ }
 {
     if answer.len() < HEAD {
         return codes::NO_ROOM;
     }
-    let header = PingHeader {
-        time_fraction,
-        time_cpu,
-        software_channel_identifier: SoftwareChannel(software_channel_identifier),
-        transmitter_mode,
-        ping_number,
-        detected_bottom_range,
-    };
     tell_answer(
         answer,
-        pings::write_u32(header, tuple_attribute, numbers, values, msb, out),
-    )
-}
-
-// The length that is handed over: its number is not looked at where there is none.
-fn handed_length(has_length: bool, ping_length: u32) -> PingLength
-    ensures { λ r. ⌜ handedLength r ≡ handedBy «has_length» «ping_length» ⌝ }
-{
-    if has_length {
-        return PingLength::Samples(ping_length);
-    }
-    PingLength::Absent
-}
-
-#[no_mangle]
-pub extern "C" fn hac_write_c32(
-    time_fraction: u16,
-    time_cpu: u32,
-    software_channel_identifier: u16,
-    transmitter_mode: u16,
-    ping_number: u32,
-    detected_bottom_range: i32,
-    tuple_attribute: i32,
-    numbers: &[u32],
-    values: &[i32],
-    has_length: bool,
-    ping_length: u32,
-    msb: bool,
-    out: &mut [u8],
-    answer: &mut [u64],
-) -> u8
-    ensures { λ r. ⌜ Said 0 five
-        (WrittenC msb
-        (headerWith «time_fraction» «time_cpu» «software_channel_identifier» «transmitter_mode» «ping_number» «detected_bottom_range»)
-        «tuple_attribute» (now (numbers .entry)) (now (values .entry)) (handedBy «has_length» «ping_length») (now (out .entry)))
-        (now (answer .entry)) (now (out .entry)) r (now (answer .exit)) (now (out .exit)) ⌝ }
-{
-    if answer.len() < HEAD {
-        return codes::NO_ROOM;
-    }
-    let header = PingHeader {
-        time_fraction,
-        time_cpu,
-        software_channel_identifier: SoftwareChannel(software_channel_identifier),
-        transmitter_mode,
-        ping_number,
-        detected_bottom_range,
-    };
-    let length = handed_length(has_length, ping_length);
-    tell_answer(
-        answer,
-        pings::write_c32(header, tuple_attribute, numbers, values, length, msb, out),
+        pings::read_angles(file, place, numbers, alongship, athwartship),
     )
 }

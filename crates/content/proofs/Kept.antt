@@ -5,14 +5,16 @@ use mathlib.Core.Bool.{Bool, false}
 use mathlib.Core.Option.{some, none}
 use Prim.Native.Nat.{ℕ}
 use native.Mathlib.Omega.{arith}
-use Rattle.layout.specs.Types.{Shape, indexed, row, pairs, words, unlisted, shapeOf}
+use Rattle.layout.specs.Types.{Shape, indexed, row, uncompressed, compressed, unlisted, shapeOf}
 use Rattle.frame.specs.Frames.{Tup, lengthOf}
 use Rattle.content.specs.Pings.{contentU, contentC}
 use Rattle.content.specs.Items.{Item, raw, itemBy, itemOf}
 use Rattle.content.specs.Forms.{formOf}
 use Rattle.content.proofs.Fine.{Sound, Kept, head-length, head-fine, inner-was, inner-fine, upward-least}
 use Rattle.content.proofs.Plain.{kept-plain}
-use Rattle.content.proofs.Pings.{formed-U, formed-C, kept-ping}
+use Rattle.content.proofs.Families.{plain-least, some-sample-bytes}
+use Rattle.content.proofs.Places.{listed-U, listed-C}
+use Rattle.content.proofs.Pings.{good-U, good-C, kept-ping}
 
 none-some : {A : Type 0} {B : Type 0} {a : A} → none ≡ some a → B
 none-some {a = a} e = absurd (let z : _≡_ {A = ℕ} 0 1 = cc in omega arith)
@@ -36,12 +38,14 @@ kept o t g i e = by-shape (shapeOf (t .kind)) refl
     by-shape : (q : Shape) → shapeOf (t .kind) ≡ q → Kept i
     by-shape indexed s = none-some (this indexed s)
     by-shape (row fs x) s = subst Kept (cc (this (row fs x) s)) (kept-plain o t fs x s g)
-    by-shape pairs s =
-        let n = upward-least 40 (lengthOf t) _ (head-length o t pairs s (g .head)) in
-        subst Kept (cc (this pairs s))
-        (kept-ping (contentU o (t .body)) (formed-U o t (g .framed) (omega arith) (inner-was o t pairs s (g .inner))))
-    by-shape words s =
-        let n = upward-least 40 (lengthOf t) _ (head-length o t words s (g .head)) in
-        subst Kept (cc (this words s))
-        (kept-ping (contentC o (t .body)) (formed-C o t (g .framed) (omega arith) (inner-was o t words s (g .inner))))
+    by-shape (uncompressed f) s =
+        let fits = head-length o t (uncompressed f) s (g .head) in
+        let n = plain-least f (lengthOf t) fits in
+        subst Kept (cc (this (uncompressed f) s)) (kept-ping (contentU f o (t .body))
+        (good-U o t (g .framed) (omega (arith, some-sample-bytes f)) f (listed-U (t .kind) f s) fits
+        (inner-was o t (uncompressed f) s (g .inner))))
+    by-shape (compressed f) s =
+        let n = upward-least 40 (lengthOf t) _ (head-length o t (compressed f) s (g .head)) in
+        subst Kept (cc (this (compressed f) s)) (kept-ping (contentC f o (t .body))
+        (good-C o t (g .framed) (omega arith) f (listed-C (t .kind) f s) (omega arith) (inner-was o t (compressed f) s (g .inner))))
     by-shape unlisted s = subst Kept (cc (this unlisted s)) (kept-raw o t s g)

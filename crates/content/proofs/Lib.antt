@@ -1,5 +1,7 @@
 pub mod Fine
 pub mod Plain
+pub mod Families
 pub mod Pings
-pub mod Kept
+pub mod Packing
 pub mod Places
+pub mod Kept

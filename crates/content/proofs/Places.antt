@@ -1,7 +1,7 @@
 -- A tuple by its places in the file, as the code reads it: what it says to the others, and what its own rules are asked of.
 -- Assumes nothing.
-use mathlib.Core.Path.{_≡_, refl, sym, ap, ap₂, _∙_}
-use mathlib.Core.Bool.{Bool, true, false, cond, _&&_, _||_, true≢false}
+use mathlib.Core.Path.{_≡_, refl, sym, ap, ap₂, subst, _∙_}
+use mathlib.Core.Bool.{Bool, true, false, cond, _&&_, true≢false}
 use mathlib.Core.List.{List, [], _∷_, _++_, append-assoc}
 use mathlib.Core.Option.{Option, some, none}
 use Prim.Native.Nat.{ℕ, _+_, _-_, _≤_, _<_}
@@ -11,11 +11,12 @@ use lib.Dec.{leb, eqb}
 use lib.ListN.{length, take, drop, length-drop, take-append-drop}
 use lib.Seq.{drop-drop, take-all, length-take-le}
 use Rattle.order.specs.Order.{numOf}
-use Rattle.layout.specs.Families.{isPing}
+use Rattle.layout.specs.Families.{Family, typeU, typeC, hasU, hasC, valueBytes, radixOf}
 use Rattle.layout.specs.Fields.{Field, u, known, size}
 use Rattle.layout.specs.Types
-use Rattle.layout.specs.Types.{Shape, indexed, row, pairs, words, unlisted, classes, inClass, index, listings, notListed, among, listingOf}
-use Rattle.layout.specs.Types.{shapeOf, lengthsOf, saysOf, Length, fitting, lengthFrom, pingRow}
+use Rattle.layout.specs.Types.{Shape, indexed, row, uncompressed, compressed, unlisted, classes, inClass, index, listings, notListed, among}
+use Rattle.layout.specs.Types.{listingOf}
+use Rattle.layout.specs.Types.{shapeOf, hasSamples, isPing, lengthsOf, saysOf, Length, fitting, lengthFrom, pingRow}
 use Rattle.layout.specs.declared.Says.{Says}
 use Rattle.layout.specs.declared.Says.the-variants.{Nothing, Sounder, Channel, Names, NamesOrAll}
 use Rattle.layout.specs.inner.Codes.{fieldsIn}
@@ -27,13 +28,15 @@ use Rattle.rules.proofs.Bools.{both-true, and-false, and-true, same-arms}
 use Rattle.frame.proofs.Places.{Whole, body-place}
 use Rattle.links.specs.Links.{Link, Digest}
 use Rattle.links.specs.Links
-use Rattle.samples.specs.Words.{allWords, pairUp}
-use Rattle.samples.specs.Runs.{radix, decode, pingLength}
-use Rattle.samples.specs.Judging.{pairRules, wordRules, judgedPairs, judgedWords}
+use Rattle.samples.specs.Words.{allWords, allSamples}
+use Rattle.samples.specs.Runs.{pingLength}
+use Rattle.samples.specs.Values.{samplesIn, heldWords}
+use Rattle.samples.specs.Judging.{sampleRules, wordRules, judgedSamples, judgedWords}
 use Rattle.layout.specs.declared.Verdict.the-variants.{Fine}
 use Rattle.layout.specs.Answers.{judged}
 use Rattle.content.proofs.Fine.{row-size, upward-least}
-use Rattle.content.specs.Pings.{Ping, wordsIn, attributeIn, countIn, contentU, contentC}
+use Rattle.content.proofs.Families.{PingCode, class-U, class-C, plain-least, some-sample-bytes}
+use Rattle.content.specs.Pings.{Ping, partIn, wordsIn, attributeIn, countIn, contentU, contentC}
 use Rattle.content.specs.Items.{ping, rowIn, itemBy, itemOf, identifiedBy, innerBy, innerRules, numberAt, unless, linkBy, digestOf}
 use Rattle.content.specs.Items.{digestItem, digest}
 
@@ -41,16 +44,16 @@ use Rattle.content.specs.Items.{digestItem, digest}
 abbrev pub Shaped : ℕ → Shape → Type 0
 Shaped k indexed = (65406 ≤ k) × (k ≤ 65515)
 Shaped k (row fs x) = Unit {0}
-Shaped k pairs = k ≡ 10000
-Shaped k words = k ≡ 10010
+Shaped k (uncompressed f) = (k ≡ typeU f) × (hasU f ≡ true)
+Shaped k (compressed f) = (k ≡ typeC f) × (hasC f ≡ true)
 Shaped k unlisted = (eqb k 65535 ≡ false) × (eqb k 65534 ≡ false)
 
 -- one test over the listed types
 shapedBy : ℕ → Shape → Bool
 shapedBy k indexed = inClass index k
 shapedBy k (row fs x) = true
-shapedBy k pairs = eqb k 10000
-shapedBy k words = eqb k 10010
+shapedBy k (uncompressed f) = eqb k (typeU f) && hasU f
+shapedBy k (compressed f) = eqb k (typeC f) && hasC f
 shapedBy k unlisted = true
 
 shaped-by : (k : ℕ) → shapedBy k (shapeOf k) ≡ true
@@ -65,8 +68,8 @@ shaped-by = alike (λ k l. shapedBy k (l .shape)) (λ k l. true) (unfold listing
 isListed : Shape → Bool
 isListed indexed = true
 isListed (row fs x) = true
-isListed pairs = true
-isListed words = true
+isListed (uncompressed f) = true
+isListed (compressed f) = true
 isListed unlisted = false
 
 no-other : (k c : ℕ) → shapeOf k ≡ unlisted → isListed (shapeOf c) ≡ true → eqb k c ≡ false
@@ -81,9 +84,16 @@ shaped k = by (shapeOf k) refl (shaped-by k)
     by indexed s e = unfold inClass classes in
         let b = both-true (leb 65406 k) (leb k 65515) e in (leb-true 65406 k (b .0), leb-true k 65515 (b .1))
     by (row fs x) s e = tt
-    by pairs s e = eqb-true k 10000 e
-    by words s e = eqb-true k 10010 e
+    by (uncompressed f) s e = let b = both-true (eqb k (typeU f)) (hasU f) e in (eqb-true k (typeU f) (b .0), b .1)
+    by (compressed f) s e = let b = both-true (eqb k (typeC f)) (hasC f) e in (eqb-true k (typeC f) (b .0), b .1)
     by unlisted s e = unfold isListed listingOf among listings in (no-other k 65535 s refl, no-other k 65534 s refl)
+
+-- so the family of a ping's type has that kind
+pub listed-U : (k : ℕ) (f : Family) → shapeOf k ≡ uncompressed f → hasU f ≡ true
+listed-U k f e = subst (Shaped k) e (shaped k) .1
+
+pub listed-C : (k : ℕ) (f : Family) → shapeOf k ≡ compressed f → hasC f ≡ true
+listed-C k f e = subst (Shaped k) e (shaped k) .1
 
 above : (a b k : ℕ) → b < k → leb a k && leb k b ≡ false
 above a b k h = rw (lt-leb k b h) (and-false (leb a k) refl)
@@ -101,6 +111,17 @@ pub by-code : (o : Bool) (t : Tup) → ByCode (t .kind) (digest o t)
 unfolding itemOf digestOf inClass classes
 by-code o t = by-shape (shapeOf (t .kind)) (shaped (t .kind))
   where
+    of-ping : (p : Ping) → PingCode (t .kind) → ByCode (t .kind) (digestOf (ping p))
+    of-ping p c =
+        record {
+          signs = c .signs;
+          ends = c .ends;
+          position = c .position;
+          sounder = c .sounder;
+          channel = c .channel;
+          ping = c .ping;
+        }
+
     by-shape : (q : Shape) → Shaped (t .kind) q → ByCode (t .kind) (digestItem (itemBy q o t))
     by-shape indexed h =
         let lo = h .0 in
@@ -114,8 +135,8 @@ by-code o t = by-shape (shapeOf (t .kind)) (shaped (t .kind))
           ping = sym (above 10000 10099 (t .kind) (omega arith));
         }
     by-shape (row fs x) h = record { signs = refl; ends = refl; position = refl; sounder = refl; channel = refl; ping = refl }
-    by-shape pairs h = rw h (record { signs = refl; ends = refl; position = refl; sounder = refl; channel = refl; ping = refl })
-    by-shape words h = rw h (record { signs = refl; ends = refl; position = refl; sounder = refl; channel = refl; ping = refl })
+    by-shape (uncompressed f) h = of-ping (contentU f o (t .body)) (subst PingCode (sym (h .0)) (class-U f (h .1)))
+    by-shape (compressed f) h = of-ping (contentC f o (t .body)) (subst PingCode (sym (h .0)) (class-C f (h .1)))
     by-shape unlisted h = record { signs = sym (h .0); ends = sym (h .1); position = refl; sounder = refl; channel = refl; ping = refl }
 
 -- the number of w bytes at a place p of the tuple at a place
@@ -135,12 +156,12 @@ opens =
     alike-all (λ k l. take (length (opening (l .says))) (fieldsIn (l .shape))) (λ k l. opening (l .says)) (unfold listings in refl)
     (λ k. refl) (λ k. refl)
 
--- both pings name a channel, and what isn't listed says nothing
+-- every ping names a channel, and what isn't listed says nothing
 abbrev sayableBy : Shape → Says → Says
 sayableBy indexed a = Nothing
 sayableBy (row fs x) a = a
-sayableBy pairs a = Names
-sayableBy words a = Names
+sayableBy (uncompressed f) a = Names
+sayableBy (compressed f) a = Names
 sayableBy unlisted a = Nothing
 
 sayable : (k : ℕ) → sayableBy (shapeOf k) (saysOf k) ≡ saysOf k
@@ -198,16 +219,15 @@ module _ (o : Bool) (f : List ℕ) (at n : ℕ) (w : Whole o f at n) where
       ∙ ap (numOf o) (field-place (n - 14) 4 (omega (arith, w .long)))
       ∙ ap (λ (i : ℕ). numOf o (take 4 (drop (at + i) f))) z
 
-  -- the words between a header of a bytes and the attribute
-  pub words-place : (a : ℕ) → a + 14 ≤ n
-      → wordsIn a o (tupAt o (drop at f) .body) ≡ allWords 4 o (take (n - 14 - a) (drop (at + (6 + a)) f))
-  unfolding wordsIn t
-  words-place a h =
+  -- what stands between a header of a bytes and the attribute
+  pub part-place : (a : ℕ) → a + 14 ≤ n → partIn a (tupAt o (drop at f) .body) ≡ take (n - 14 - a) (drop (at + (6 + a)) f)
+  unfolding partIn t
+  part-place a h =
       let e : length (t .body) - (a + 4) ≡ n - 14 - a = omega (arith, length-body) in
-      ap (λ (k : ℕ). allWords 4 o (take k (drop a (t .body)))) e ∙ ap (allWords 4 o) (field-place a (n - 14 - a) (omega arith))
+      ap (λ (k : ℕ). take k (drop a (t .body))) e ∙ field-place a (n - 14 - a) (omega arith)
 
-  -- both pings name the channel of their header
-  pub header : 40 ≤ n → numberAt (valuesOf o pingRow (tupAt o (drop at f) .body)) 2 ≡ fieldAt o f at 2 12
+  -- every ping names the channel of its header
+  pub header : 36 ≤ n → numberAt (valuesOf o pingRow (tupAt o (drop at f) .body)) 2 ≡ fieldAt o f at 2 12
   unfolding t
   header h = ap (λ (vs : List Value). numberAt vs 2) (values-place pingRow (omega arith))
 
@@ -266,8 +286,10 @@ module _ (o : Bool) (f : List ℕ) (at n : ℕ) (w : Whole o f at n) where
           let whole : m + 10 ≡ n = omega (arith, length-body, w .long) in
           let z : size (rowIn fs x m) ≡ m = row-size fs x m (ap (fitting (lengthFrom (row fs x))) whole ∙ g) in
           ap (λ (b : Says). linkBy b (valuesOf o (rowIn fs x m) (t .body))) d ∙ texted a fs x m e (omega (arith, length-body, w .long))
-      by pairs s a d e y g = ap (λ (c : ℕ). Links.names (record { 0 = c })) (header (upward-least 40 n _ g)) ∙ ap linkAt y
-      by words s a d e y g = ap (λ (c : ℕ). Links.names (record { 0 = c })) (header (upward-least 40 n _ g)) ∙ ap linkAt y
+      by (uncompressed h) s a d e y g =
+          ap (λ (c : ℕ). Links.names (record { 0 = c })) (header (omega (arith, plain-least h n g, some-sample-bytes h))) ∙ ap linkAt y
+      by (compressed h) s a d e y g =
+          ap (λ (c : ℕ). Links.names (record { 0 = c })) (header (omega (arith, upward-least 40 n _ g))) ∙ ap linkAt y
       by unlisted s a d e y g = ap linkAt y
 
   -- ---- its own rules
@@ -283,49 +305,56 @@ module _ (o : Bool) (f : List ℕ) (at n : ℕ) (w : Whole o f at n) where
       ∙ and-true (known (numOf o (take 2 (t .body))))
       ∙ ap (λ (l : List ℕ). known (numOf o l)) (field-place 0 2 (omega arith))
 
-  -- the words of a ping stand behind its header
-  words-U : 40 ≤ n → wordsIn 18 o (t .body) ≡ allWords 4 o (take (n - 32) (drop (at + 24) f))
+  -- the samples of an uncompressed ping stand behind its header, the words of a compressed one behind its number of samples
+  part-U : 36 ≤ n → partIn 18 (t .body) ≡ take (n - 32) (drop (at + 24) f)
   unfolding t
-  words-U h = let z : n - 14 - 18 ≡ n - 32 = omega arith in
-      words-place 18 (omega arith) ∙ ap (λ (i : ℕ). allWords 4 o (take i (drop (at + 24) f))) z
+  part-U h = let z : n - 14 - 18 ≡ n - 32 = omega arith in part-place 18 (omega arith) ∙ ap (λ (i : ℕ). take i (drop (at + 24) f)) z
 
-  words-C : 40 ≤ n → wordsIn 22 o (t .body) ≡ allWords 4 o (take (n - 36) (drop (at + 28) f))
+  part-C : 40 ≤ n → partIn 22 (t .body) ≡ take (n - 36) (drop (at + 28) f)
   unfolding t
-  words-C h = let z : n - 14 - 22 ≡ n - 36 = omega arith in
-      words-place 22 (omega arith) ∙ ap (λ (i : ℕ). allWords 4 o (take i (drop (at + 28) f))) z
+  part-C h = let z : n - 14 - 22 ≡ n - 36 = omega arith in part-place 22 (omega arith) ∙ ap (λ (i : ℕ). take i (drop (at + 28) f)) z
 
-  pub inner-U : kindAt o (drop at f) ≡ 10000 → 40 ≤ n
-      → judged (innerRules o (tupAt o (drop at f))) ≡ judgedPairs o (take (n - 32) (drop (at + 24) f))
-  unfolding listingOf among listings contentU judgedPairs t
-  inner-U e h =
-      ap (λ (k : ℕ). judged (innerBy (shapeOf k) o t)) e ∙ ap (λ (ws : List ℕ). judged (pairRules (pairUp ws))) (words-U h)
+  module _ (g : Family) where
+    -- the words that are held: by the number of samples
+    abbrev pub wordsThere : List ℕ
+    wordsThere = heldWords g (fieldAt o f at 4 24) (allWords (valueBytes g) o (take (n - 36) (drop (at + 28) f)))
 
-  pub inner-C : kindAt o (drop at f) ≡ 10010 → 40 ≤ n
-      → judged (innerRules o (tupAt o (drop at f))) ≡ judgedWords o (fieldAt o f at 4 24) (take (n - 36) (drop (at + 28) f))
-  unfolding listingOf among listings judgedWords countIn t
-  inner-C e h =
-      ap (λ (k : ℕ). judged (innerBy (shapeOf k) o t)) e
-      ∙ ap₂ (λ (i : ℕ) (ws : List ℕ). judged (wordRules i ws)) (ap (numOf o) (field-place 18 4 (omega arith))) (words-C h)
+    words-C : 40 ≤ n → wordsIn g o (t .body) ≡ wordsThere
+    unfolding wordsIn countIn
+    words-C h =
+        ap₂ (λ (i : ℕ) (l : List ℕ). heldWords g i (allWords (valueBytes g) o l)) (ap (numOf o) (field-place 18 4 (omega arith)))
+        (part-C h)
 
-  -- and say its samples and its length
-  pub samples-U : kindAt o (drop at f) ≡ 10000 → 40 ≤ n
-      → (q : Ping) × (itemOf o (tupAt o (drop at f)) ≡ some (ping q))
-      × (q .samples ≡ pairUp (allWords 4 o (take (n - 32) (drop (at + 24) f))))
-      × (q .length ≡ none)
-  unfolding listingOf among listings itemOf contentU t
-  samples-U e h = (contentU o (t .body), ap (λ (k : ℕ). itemBy (shapeOf k) o t) e, ap pairUp (words-U h), refl)
+    pub inner-U : shapeOf (kindAt o (drop at f)) ≡ uncompressed g → 36 ≤ n
+        → judged (innerRules o (tupAt o (drop at f))) ≡ judgedSamples g o (take (n - 32) (drop (at + 24) f))
+    unfolding contentU judgedSamples t
+    inner-U e h =
+        ap (λ (q : Shape). judged (innerBy q o t)) e ∙ ap (λ (l : List ℕ). judged (sampleRules g (allSamples g o l))) (part-U h)
 
-  pub samples-C : kindAt o (drop at f) ≡ 10010 → 40 ≤ n
-      → (q : Ping) × (itemOf o (tupAt o (drop at f)) ≡ some (ping q))
-      × (q .samples ≡ decode radix (allWords 4 o (take (n - 36) (drop (at + 28) f))))
-      × (q .length ≡ pingLength radix (allWords 4 o (take (n - 36) (drop (at + 28) f))))
-  unfolding listingOf among listings itemOf contentC t
-  samples-C e h = (
-    contentC o (t .body),
-    ap (λ (k : ℕ). itemBy (shapeOf k) o t) e,
-    ap (decode radix) (words-C h),
-    ap (pingLength radix) (words-C h),
-  )
+    pub inner-C : shapeOf (kindAt o (drop at f)) ≡ compressed g → 40 ≤ n
+        → judged (innerRules o (tupAt o (drop at f))) ≡ judgedWords g o (fieldAt o f at 4 24) (take (n - 36) (drop (at + 28) f))
+    unfolding judgedWords countIn t
+    inner-C e h =
+        ap (λ (q : Shape). judged (innerBy q o t)) e
+        ∙ ap₂ (λ (i : ℕ) (ws : List ℕ). judged (wordRules g i ws)) (ap (numOf o) (field-place 18 4 (omega arith))) (words-C h)
+
+    -- and say its samples and its length
+    pub samples-U : shapeOf (kindAt o (drop at f)) ≡ uncompressed g → 36 ≤ n
+        → (q : Ping) × (itemOf o (tupAt o (drop at f)) ≡ some (ping q)) × (q .samples ≡ allSamples g o (take (n - 32) (drop (at + 24) f)))
+        × (q .length ≡ none)
+    unfolding itemOf contentU t
+    samples-U e h = (contentU g o (t .body), ap (λ (q : Shape). itemBy q o t) e, ap (allSamples g o) (part-U h), refl)
+
+    pub samples-C : shapeOf (kindAt o (drop at f)) ≡ compressed g → 40 ≤ n
+        → (q : Ping) × (itemOf o (tupAt o (drop at f)) ≡ some (ping q)) × (q .samples ≡ samplesIn g wordsThere)
+        × (q .length ≡ pingLength (radixOf g) wordsThere)
+    unfolding itemOf contentC t
+    samples-C e h = (
+      contentC g o (t .body),
+      ap (λ (q : Shape). itemBy q o t) e,
+      ap (samplesIn g) (words-C h),
+      ap (pingLength (radixOf g)) (words-C h),
+    )
 
 -- ---- codes of no concern to a rule
 module _ (o : Bool) (t : Tup) where
@@ -335,8 +364,13 @@ module _ (o : Bool) (t : Tup) where
       ∙ alike-all (λ k l. cond (eqb k 65535) true (identifiedBy (l .shape) o t)) (λ k l. true) (unfold listings in refl)
       (λ k. same-arms (eqb k 65535) true) (λ k. same-arms (eqb k 65535) true) (t .kind)
 
-  pub inner-other : (t .kind ≡ 10000 → ⊥) → (t .kind ≡ 10010 → ⊥) → judged (innerRules o t) ≡ Fine
-  inner-other a b =
-      ap₂ (λ (u c : Bool). cond (u || c) Fine (judged (innerRules o t))) (sym (ne-eqb (t .kind) 10000 a)) (sym (ne-eqb (t .kind) 10010 b))
-      ∙ alike-all (λ k l. cond (isPing k) Fine (judged (innerBy (l .shape) o t))) (λ k l. Fine) (unfold listings in refl)
-      (λ k. same-arms (isPing k) Fine) (λ k. same-arms (isPing k) Fine) (t .kind)
+  pub inner-other : isPing (t .kind) ≡ false → judged (innerRules o t) ≡ Fine
+  unfolding isPing
+  inner-other a = by (shapeOf (t .kind)) a
+    where
+      by : (q : Shape) → hasSamples q ≡ false → judged (innerBy q o t) ≡ Fine
+      by indexed e = refl
+      by (row fs x) e = refl
+      by (uncompressed f) e = absurd (true≢false e)
+      by (compressed f) e = absurd (true≢false e)
+      by unlisted e = refl

@@ -10,16 +10,16 @@ use Rattle.layout.specs.declared.Says.{Says}
 use Rattle.layout.specs.declared.Says.the-variants.{Nothing, Sounder, Channel, Names, NamesOrAll}
 use Rattle.layout.specs.Fields.{Field, s, c, size}
 use Rattle.layout.specs.Types
-use Rattle.layout.specs.Types.{Shape, indexed, row, pairs, words, unlisted, shapeOf, lengthsOf, saysOf, fitting, inClass}
+use Rattle.layout.specs.Types.{Shape, indexed, row, uncompressed, compressed, unlisted, shapeOf, lengthsOf, saysOf, fitting, inClass}
 use Rattle.layout.specs.Answers.{Breach, _byte_}
 use Rattle.turning.specs.Rows.{Value, number, text, valuesOf, identified}
 use Rattle.frame.specs.Frames.{Tup, lengthOf}
-use Rattle.samples.specs.Judging.{pairRules, wordRules}
+use Rattle.samples.specs.Judging.{sampleRules, wordRules}
 use Rattle.links.specs.Links.{Link, Digest, nothing}
 use Rattle.links.specs.Links
-use Rattle.content.specs.Pings.{Ping, headC, wordsIn, countIn, contentU, contentC}
+use Rattle.content.specs.Pings.{Ping, wordsIn, countIn, contentU, contentC}
 
--- ---- content: each tuple with type, attribute and fields, where 10000 and 10010 count as one type
+-- ---- content: each tuple with type, attribute and fields, where the pings of a family count as one type
 pub data Item : Type 0 where
   plain : ℕ → List Value → Item  -- a type code, and the values of its row, the attribute the last
   ping : Ping → Item
@@ -34,8 +34,8 @@ rowIn fs (some least) m = fs ++ (c (m - (size fs + 4)) ∷ s 4 ∷ [])
 abbrev pub itemBy : Shape → Bool → Tup → Option Item
 itemBy indexed o t = none
 itemBy (row fs x) o t = some (plain (t .kind) (valuesOf o (rowIn fs x (length (t .body))) (t .body)))
-itemBy pairs o t = some (ping (contentU o (t .body)))
-itemBy words o t = some (ping (contentC o (t .body)))
+itemBy (uncompressed f) o t = some (ping (contentU f o (t .body)))
+itemBy (compressed f) o t = some (ping (contentC f o (t .body)))
 itemBy unlisted o t = some (raw (t .kind) (t .body))
 
 unfoldable pub itemOf : Bool → Tup → Option Item
@@ -46,8 +46,8 @@ itemOf o t = itemBy (shapeOf (t .kind)) o t
 abbrev pub identifiedBy : Shape → Bool → Tup → Bool
 identifiedBy indexed o t = true
 identifiedBy (row fs x) o t = identified o (rowIn fs x (length (t .body))) (t .body)
-identifiedBy pairs o t = true
-identifiedBy words o t = true
+identifiedBy (uncompressed f) o t = true
+identifiedBy (compressed f) o t = true
 identifiedBy unlisted o t = true
 
 -- 9: length unfit for a listed type; 8: identifier is neither 44204 nor 44201
@@ -57,12 +57,12 @@ headRules o t =
     ∷ (not (identifiedBy (shapeOf (t .kind)) o t) ⇒ 8 byte 0)
     ∷ []
 
--- those of its samples: 23 of pairs; 11, 24, 25 of words
+-- those of its samples: 11, 23 of an uncompressed ping's; 11, 24, 25 of a compressed one's words
 abbrev pub innerBy : Shape → Bool → Tup → List (Rule Breach)
 innerBy indexed o t = []
 innerBy (row fs x) o t = []
-innerBy pairs o t = pairRules (contentU o (t .body) .samples)
-innerBy words o t = wordRules (countIn o (t .body)) (wordsIn headC o (t .body))
+innerBy (uncompressed f) o t = sampleRules f (contentU f o (t .body) .samples)
+innerBy (compressed f) o t = wordRules f (countIn o (t .body)) (wordsIn f o (t .body))
 innerBy unlisted o t = []
 
 abbrev pub innerRules : Bool → Tup → List (Rule Breach)

@@ -13,7 +13,7 @@ use lib.Seq.{drop-at, drop-drop}
 use Rattle.order.specs.Order.{Bytes}
 use Rattle.layout.specs.declared.Counts.{Counts}
 use Rattle.layout.specs.declared.Answer.the-variants.{Accepted}
-use Rattle.layout.specs.Types.{Shape, indexed, row, pairs, words, unlisted, shapeOf}
+use Rattle.layout.specs.Types.{Shape, indexed, row, uncompressed, compressed, unlisted, shapeOf, hasSamples, isPing}
 use Rattle.frame.specs.Frames.{Tup, lengthOf, frame, frames, tupAt}
 use Rattle.frame.specs.Files.{mark, isMsb}
 use Rattle.frame.specs.Tuples.{tuplesOf}
@@ -22,28 +22,26 @@ use Rattle.frame.proofs.Files.{length-mark}
 use Rattle.links.proofs.Linked.{Linked, linked-here, linked-some, linked-next}
 use Rattle.content.specs.Pings.{Ping}
 use Rattle.content.specs.Items.{Item, plain, ping, raw, itemBy, itemOf, digest}
-use Rattle.content.proofs.Places.{Shaped, shaped}
 use Rattle.intake.specs.declared.Asked.{Asked}
 use Rattle.intake.specs.Check.{Course, begin, past, onward, after, turn, checkFile, ending}
 use Rattle.intake.specs.Asking.{courseTo, askItem, askCourse, askAccepted}
 use Rattle.intake.proofs.Turns.{parts-judged, to-end, to-next}
 use Rattle.intake.proofs.Accepted.{AllSound, digests, whole-turn, divided}
-use Rattle.layout.specs.Families.{isPing}
 use Rattle.demands.specs.Lineages.{Among, Listed, placeAfter}
 use Rattle.demands.specs.Refusals.{PingAt}
 use Rattle.demands.proofs.Named.{stands-there}
 
 -- a tuple with a ping's content is of a listed type
 ping-listed : (o : Bool) (t : Tup) (q : Ping) → itemOf o t ≡ some (ping q) → Listed t
-unfolding itemOf
-ping-listed o t q e = by (shapeOf (t .kind)) (shaped (t .kind)) e
+unfolding itemOf isPing
+ping-listed o t q e = by (shapeOf (t .kind)) e
   where
-    by : (s : Shape) → Shaped (t .kind) s → itemBy s o t ≡ some (ping q) → Listed t
-    by indexed h z = absurd (let y : _≡_ {A = ℕ} 0 1 = cc in omega arith)
-    by (row fs x) h z = absurd (let y : _≡_ {A = ℕ} 0 1 = cc in omega arith)
-    by pairs h z = ap isPing h
-    by words h z = ap isPing h
-    by unlisted h z = absurd (let y : _≡_ {A = ℕ} 0 1 = cc in omega arith)
+    by : (s : Shape) → itemBy s o t ≡ some (ping q) → hasSamples s ≡ true
+    by indexed z = absurd (let y : _≡_ {A = ℕ} 0 1 = cc in omega arith)
+    by (row fs x) z = absurd (let y : _≡_ {A = ℕ} 0 1 = cc in omega arith)
+    by (uncompressed f) z = refl
+    by (compressed f) z = refl
+    by unlisted z = absurd (let y : _≡_ {A = ℕ} 0 1 = cc in omega arith)
 
 -- ---- a turn that starts at a place p stands at one of the tuples left
 module _ (o : Bool) (f : List ℕ) (p : ℕ) where

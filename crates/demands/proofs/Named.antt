@@ -16,7 +16,8 @@ use Rattle.layout.specs.declared.Counts.{Counts}
 use Rattle.layout.specs.declared.Answer.the-variants.{Accepted}
 use Rattle.layout.specs.declared.SoftwareChannel.{SoftwareChannel}
 use Rattle.layout.specs.declared.DocumentId.{DocumentId}
-use Rattle.layout.specs.Types.{shapeOf, listings, among, listingOf}
+use Rattle.layout.specs.Families.{Family}
+use Rattle.layout.specs.Types.{Shape, uncompressed, compressed, shapeOf, listings, among, listingOf, isPing}
 use Rattle.frame.specs.Frames.{Tup, lengthOf, frame, frames, tupAt}
 use Rattle.frame.specs.Files.{mark, isMsb}
 use Rattle.frame.specs.Tuples.{tuplesOf}
@@ -35,7 +36,7 @@ use Rattle.intake.specs.declared.Asked.{Asked}
 use Rattle.intake.specs.Check.{Course, begin, go, past, onward, after, turn, checkFile, sounderPlace, channelPlace}
 use Rattle.intake.specs.Asking.{noChannel, courseTo, parentsIn, askItem, askCourse, askAccepted, askChecked, askAt}
 use Rattle.intake.proofs.Turns.{parts-judged}
-use Rattle.layout.proofs.Families.{ping-kind}
+use Rattle.layout.proofs.Families.{ping-shape}
 use Rattle.demands.specs.Lineages.{Among, Lineage, channelIn, Listed, placeAfter, gives, Answered}
 use Rattle.demands.proofs.Declared.{earlier, declaredBy, spots, declared-at, spot-at}
 use Rattle.intake.proofs.Accepted.{AllSound, digests, whole-turn, Divided, divided}
@@ -45,14 +46,25 @@ use Rattle.demands.proofs.Lineages.{even-channels, even-sounders}
 -- ---- a listed ping
 -- it has a ping's content
 pub listed-ping : (o : Bool) (t : Tup) → Listed t → (q : Ping) × (itemOf o t ≡ some (ping q))
-unfolding itemOf listingOf among listings
-listed-ping o t h = by (ping-kind (t .kind) h)
+unfolding itemOf
+listed-ping o t h = let s = ping-shape (t .kind) h in by (s .0) (s .1)
   where
-    by : (t .kind ≡ 10000) ⊎ (t .kind ≡ 10010) → (q : Ping) × (itemOf o t ≡ some (ping q))
-    by (inl e) = (contentU o (t .body), ap (λ (k : ℕ). itemBy (shapeOf k) o t) e)
-    by (inr e) = (contentC o (t .body), ap (λ (k : ℕ). itemBy (shapeOf k) o t) e)
+    by : (f : Family) → (shapeOf (t .kind) ≡ uncompressed f) ⊎ (shapeOf (t .kind) ≡ compressed f)
+        → (q : Ping) × (itemOf o t ≡ some (ping q))
+    by f (inl e) = (contentU f o (t .body), ap (λ (s : Shape). itemBy s o t) e)
+    by f (inr e) = (contentC f o (t .body), ap (λ (s : Shape). itemBy s o t) e)
 
--- and its link names that channel
+-- the seven types of the tables
+abbrev All : (ℕ → Type 0) → List ℕ → Type 0
+All P [] = Unit {0}
+All P (k ∷ ks) = P k × All P ks
+
+pub listed-types : (d : List ℕ)
+    → All (λ (k : ℕ). Listed (record { kind = k; body = d })) (10000 ∷ 10001 ∷ 10010 ∷ 10030 ∷ 10031 ∷ 10040 ∷ 10050 ∷ [])
+unfolding isPing listingOf among listings
+listed-types d = (refl, (refl, (refl, (refl, (refl, (refl, (refl, tt)))))))
+
+-- its link names that channel
 names-channel : (o : Bool) (t : Tup) (q : Ping) → itemOf o t ≡ some (ping q) → digest o t .link ≡ Link.names (channelIn q)
 unfolding digestOf
 names-channel o t q e = ap (λ (i : Option Item). digestItem i .link) e

@@ -12,20 +12,19 @@ use lib.ListN.{length}
 use Rattle.rules.specs.Rules.{Rule, _⇒_}
 use Rattle.rules.proofs.Bools.{both-true}
 use Rattle.layout.specs.Answers.{Breach, _byte_}
-use Rattle.layout.specs.Families.{wide}
-use Rattle.layout.specs.Types.{Shape, indexed, row, pairs, words, unlisted, shapeOf, listings, among, listingOf}
+use Rattle.layout.specs.Families.{Family, measuresOf, valueBytes, sampleBytes, isBad}
+use Rattle.layout.specs.Types.{Shape, indexed, row, uncompressed, compressed, unlisted, shapeOf}
 use Rattle.frame.specs.Frames.{Tup}
 use Rattle.samples.specs.Words.{Sample}
-use Rattle.samples.specs.Runs.{isBad, firstBad}
-use Rattle.samples.specs.Judging.{most, firstDrop, pairRules, wordRules}
+use Rattle.samples.specs.Runs.{firstBad}
+use Rattle.samples.specs.Judging.{most, firstDrop, dropping, sampleRules, wordRules}
 use Rattle.samples.proofs.Runs.{by-bool}
 use Rattle.samples.proofs.Rising.{drop-here, drop-later}
 use Rattle.samples.proofs.Values.{bad-here, bad-later}
 use Rattle.content.specs.Items.{innerBy, innerRules}
-use Rattle.content.proofs.Places.{Shaped, shaped}
 use Rattle.demands.specs.Causes.{Broken, here, later}
-use Rattle.demands.specs.Offenders.{FirstAt, Falls, numberIn, Outside, samplesIn, wordsOf, found, said, Offends, too-many, not-rising}
-use Rattle.demands.specs.Offenders.{bad-word, miscounted}
+use Rattle.demands.specs.Offenders.{FirstAt, Falls, numberIn, Outside, samplesOf, wordsOf, found, said, Uncompressed, Compressed}
+use Rattle.demands.specs.Offenders.{Offends, too-many, too-many-words, not-rising, bad-word, miscounted}
 
 -- ---- a list of rules, one after the other
 abbrev pub Said : {A : Type 0} → List (Rule A) → A → Type 0
@@ -67,45 +66,47 @@ module _ {P : ℕ → Type 0} {n i : ℕ} (s : Search P n i) where
   none-found g = by-bool (ltb i n) (λ e. absurd (g i (s .there (ltb-true i n e)))) (λ e. e)
 
 -- ---- words outside the limits
--- the limits as numbers
-outside : (w : ℕ) → isBad wide w ≡ true → (wide .first ≤ w) × (w ≤ wide .last)
-unfolding isBad
-outside w e =
-    let b = both-true (leb (wide .first) w) (leb w (wide .last)) e in
-    (leb-true (wide .first) w (b .0), leb-true w (wide .last) (b .1))
+module _ (f : Family) where
+  -- the limits as numbers
+  outside : (w : ℕ) → isBad f w ≡ true → (measuresOf f .first ≤ w) × (w ≤ measuresOf f .last)
+  unfolding isBad
+  outside w e =
+      let b = both-true (leb (measuresOf f .first) w) (leb w (measuresOf f .last)) e in
+      (leb-true (measuresOf f .first) w (b .0), leb-true w (measuresOf f .last) (b .1))
 
-inside : (w : ℕ) → isBad wide w ≡ false → wide .first ≤ w → w ≤ wide .last → ⊥
-unfolding isBad
-inside w e l m = true≢false (sym (ap₂ _&&_ (le-leb (wide .first) w l) (le-leb w (wide .last) m)) ∙ e)
+  inside : (w : ℕ) → isBad f w ≡ false → measuresOf f .first ≤ w → w ≤ measuresOf f .last → ⊥
+  unfolding isBad
+  inside w e l m = true≢false (sym (ap₂ _&&_ (le-leb (measuresOf f .first) w l) (le-leb w (measuresOf f .last) m)) ∙ e)
 
--- a word, and the same word behind one more
-behind-word : (w : ℕ) (ws : List ℕ) (i : ℕ) → Outside ws i → Outside (w ∷ ws) (suc i)
-behind-word w ws i g = record { within = omega (arith, g .within); least = g .least; most = g .most }
+  -- a word, and the same word behind one more
+  behind-word : (w : ℕ) (ws : List ℕ) (i : ℕ) → Outside f ws i → Outside f (w ∷ ws) (suc i)
+  behind-word w ws i g = record { within = omega (arith, g .within); least = g .least; most = g .most }
 
-before-word : (w : ℕ) (ws : List ℕ) (i : ℕ) → Outside (w ∷ ws) (suc i) → Outside ws i
-before-word w ws i g = record { within = omega (arith, g .within); least = g .least; most = g .most }
+  before-word : (w : ℕ) (ws : List ℕ) (i : ℕ) → Outside f (w ∷ ws) (suc i) → Outside f ws i
+  before-word w ws i g = record { within = omega (arith, g .within); least = g .least; most = g .most }
 
-words-there : (ws : List ℕ) → firstBad wide ws < length ws → Outside ws (firstBad wide ws)
-words-there [] h = absurd (omega arith)
-words-there (w ∷ ws) h =
-    by-bool (isBad wide w)
-    (λ e. subst (Outside (w ∷ ws)) (sym (bad-here wide w ws e))
-    (record { within = omega arith; least = outside w e .0; most = outside w e .1 }))
-    (λ e.
-    subst (Outside (w ∷ ws)) (sym (bad-later wide w ws e ∙ add-one (firstBad wide ws)))
-    (behind-word w ws (firstBad wide ws) (words-there ws (omega (arith, bad-later wide w ws e)))))
+  words-there : (ws : List ℕ) → firstBad f ws < length ws → Outside f ws (firstBad f ws)
+  words-there [] h = absurd (omega arith)
+  words-there (w ∷ ws) h =
+      by-bool (isBad f w)
+      (λ e.
+      subst (Outside f (w ∷ ws)) (sym (bad-here f w ws e))
+      (record { within = omega arith; least = outside w e .0; most = outside w e .1 }))
+      (λ e.
+      subst (Outside f (w ∷ ws)) (sym (bad-later f w ws e ∙ add-one (firstBad f ws)))
+      (behind-word w ws (firstBad f ws) (words-there ws (omega (arith, bad-later f w ws e)))))
 
-words-before : (ws : List ℕ) (j : ℕ) → j < firstBad wide ws → Outside ws j → ⊥
-words-before [] j h g = absurd (omega (arith, g .within))
-words-before (w ∷ ws) zero h g =
-    by-bool (isBad wide w) (λ e. absurd (omega (arith, bad-here wide w ws e))) (λ e. inside w e (g .least) (g .most))
-words-before (w ∷ ws) (suc j) h g =
-    by-bool (isBad wide w)
-    (λ e. absurd (omega (arith, bad-here wide w ws e)))
-    (λ e. words-before ws j (omega (arith, bad-later wide w ws e)) (before-word w ws j g))
+  words-before : (ws : List ℕ) (j : ℕ) → j < firstBad f ws → Outside f ws j → ⊥
+  words-before [] j h g = absurd (omega (arith, g .within))
+  words-before (w ∷ ws) zero h g =
+      by-bool (isBad f w) (λ e. absurd (omega (arith, bad-here f w ws e))) (λ e. inside w e (g .least) (g .most))
+  words-before (w ∷ ws) (suc j) h g =
+      by-bool (isBad f w)
+      (λ e. absurd (omega (arith, bad-here f w ws e)))
+      (λ e. words-before ws j (omega (arith, bad-later f w ws e)) (before-word w ws j g))
 
-pub words-search : (ws : List ℕ) → Search (Outside ws) (length ws) (firstBad wide ws)
-words-search ws = record { there = words-there ws; before = words-before ws; within = λ j g. g .within }
+  pub words-search : (ws : List ℕ) → Search (Outside f ws) (length ws) (firstBad f ws)
+  words-search ws = record { there = words-there ws; before = words-before ws; within = λ j g. g .within }
 
 -- ---- numbers that don't rise
 -- a number and the one before it, and the same two behind one more
@@ -178,70 +179,80 @@ module _ (o : Bool) (t : Tup) where
   as-said : {c q d p : ℕ} → Offends o t c q → (c byte q) ≡ (d byte p) → Offends o t d p
   as-said h e = subst₂ (Offends o t) (ap (λ (b : Breach). b .code) e) (ap (λ (b : Breach). b .offset) e) h
 
-  by-pairs : t .kind ≡ 10000 → {c q : ℕ} → Said (pairRules (samplesIn o t)) (c byte q) → Offends o t c q
-  by-pairs k = ⊎-elim (λ e. as-said (not-rising k (finds (numbers-search (samplesIn o t)) (e .0))) (e .1)) (λ e. absurd (e .1))
+  by-samples : (f : Family) → Uncompressed f t → {c q : ℕ} → Said (sampleRules f (samplesOf f o t)) (c byte q) → Offends o t c q
+  by-samples f k =
+      let s = samplesOf f o t in
+      ⊎-elim (λ e. as-said (too-many k (ltb-true most (length s) (e .0))) (e .1))
+      (λ l. ⊎-elim (λ e. as-said (not-rising k (ltb-false most (length s) (l .0)) (finds (numbers-search s) (e .0))) (e .1))
+      (λ e. absurd (e .1))
+      (l .1))
 
-  module _ (k : t .kind ≡ 10010) where
-    abbrev search : Search (Outside (wordsOf o t)) (length (wordsOf o t)) (firstBad wide (wordsOf o t))
-    search = words-search (wordsOf o t)
+  module _ (f : Family) (k : Compressed f t) where
+    abbrev search : Search (Outside f (wordsOf f o t)) (length (wordsOf f o t)) (firstBad f (wordsOf f o t))
+    search = words-search f (wordsOf f o t)
 
-    by-words : {c q : ℕ} → Said (wordRules (said o t) (wordsOf o t)) (c byte q) → Offends o t c q
+    by-words : {c q : ℕ} → Said (wordRules f (said o t) (wordsOf f o t)) (c byte q) → Offends o t c q
     by-words =
-        ⊎-elim (λ e. as-said (too-many k (ltb-true most (found o t) (e .0))) (e .1))
-        (λ l. ⊎-elim (λ e. as-said (bad-word k (ltb-false most (found o t) (l .0)) (finds search (e .0))) (e .1))
+        ⊎-elim (λ e. as-said (too-many-words k (ltb-true most (found f o t) (e .0))) (e .1))
+        (λ l. ⊎-elim (λ e. as-said (bad-word k (ltb-false most (found f o t) (l .0)) (finds search (e .0))) (e .1))
         (λ g. ⊎-elim
         (λ e.
-        as-said (miscounted k (ltb-false most (found o t) (l .0)) (finds-none search (g .0))
-        (eqb-false (said o t) (found o t) (not-true _ (e .0))))
+        as-said (miscounted k (ltb-false most (found f o t) (l .0)) (finds-none search (g .0))
+        (eqb-false (said o t) (found f o t) (not-true _ (e .0))))
         (e .1))
         (λ e. absurd (e .1))
         (g .1))
         (l .1))
 
   pub offends : {c q : ℕ} → Broken (innerRules o t) (c byte q) → Offends o t c q
-  offends {c} {q} b = by (shapeOf (t .kind)) (shaped (t .kind)) (broken-says b)
+  offends {c} {q} b = by (shapeOf (t .kind)) refl (broken-says b)
     where
-      by : (s : Shape) → Shaped (t .kind) s → Said (innerBy s o t) (c byte q) → Offends o t c q
-      by indexed h z = absurd z
-      by (row fs x) h z = absurd z
-      by pairs h z = by-pairs h z
-      by words h z = by-words h z
-      by unlisted h z = absurd z
+      by : (s : Shape) → shapeOf (t .kind) ≡ s → Said (innerBy s o t) (c byte q) → Offends o t c q
+      by indexed k z = absurd z
+      by (row fs x) k z = absurd z
+      by (uncompressed f) k z = by-samples f k z
+      by (compressed f) k z = by-words f k z
+      by unlisted k z = absurd z
 
-  -- and the other way round
-  shape-U : t .kind ≡ 10000 → shapeOf (t .kind) ≡ pairs
-  unfolding listingOf among listings
-  shape-U k = ap shapeOf k
+  -- and the other way round: by the rules of the tuple's shape
+  by-shape : {s : Shape} {x : Breach} → shapeOf (t .kind) ≡ s → Broken (innerBy s o t) x → Broken (innerRules o t) x
+  by-shape {x = x} k b = subst (λ (s : Shape). Broken (innerBy s o t) x) (sym k) b
 
-  shape-C : t .kind ≡ 10010 → shapeOf (t .kind) ≡ words
-  unfolding listingOf among listings
-  shape-C k = ap shapeOf k
+  -- those behind the first
+  abbrev behindSamples : Family → List (Rule Breach)
+  behindSamples f =
+      let s = samplesOf f o t in
+      (dropping s ⇒ 23 byte (24 + sampleBytes f * firstDrop 0 s)) ∷ []
 
-  -- the rules of words behind the first
-  abbrev behindMany : List (Rule Breach)
-  behindMany =
-      let ws = wordsOf o t in
-      (ltb (firstBad wide ws) (length ws) ⇒ 24 byte (28 + 4 * firstBad wide ws)) ∷ (not (eqb (said o t) (found o t)) ⇒ 25 byte 24) ∷ []
+  abbrev behindMany : Family → List (Rule Breach)
+  behindMany f =
+      let ws = wordsOf f o t in
+      (ltb (firstBad f ws) (length ws) ⇒ 24 byte (28 + valueBytes f * firstBad f ws))
+      ∷ (not (eqb (said o t) (found f o t)) ⇒ 25 byte 24)
+      ∷ []
 
   pub offended : {c q : ℕ} → Offends o t c q → Broken (innerRules o t) (c byte q)
-  offended (not-rising {i = i} k g) =
-      let f = first-found (numbers-search (samplesIn o t)) g in
-      subst (λ (s : Shape). Broken (innerBy s o t) (23 byte (24 + 8 * i))) (sym (shape-U k))
-      (subst (λ (m : ℕ). Broken (pairRules (samplesIn o t)) (23 byte (24 + 8 * m))) (f .1) (here (f .0)))
-  offended (too-many k m) =
-      subst (λ (s : Shape). Broken (innerBy s o t) (11 byte 0)) (sym (shape-C k)) (here (lt-ltb most (found o t) m))
-  offended (bad-word {i = i} k m g) =
-      let f = first-found (words-search (wordsOf o t)) g in
-      subst (λ (s : Shape). Broken (innerBy s o t) (24 byte (28 + 4 * i))) (sym (shape-C k))
-      (later (le-ltb most (found o t) m) (subst (λ (j : ℕ). Broken behindMany (24 byte (28 + 4 * j))) (f .1) (here (f .0))))
-  offended (miscounted k m g e) =
-      subst (λ (s : Shape). Broken (innerBy s o t) (25 byte 24)) (sym (shape-C k))
-      (later (le-ltb most (found o t) m)
-      (later (none-found (words-search (wordsOf o t)) g) (here (ap not (ne-eqb (said o t) (found o t) e)))))
+  offended (too-many {f = f} k m) = by-shape k (here (lt-ltb most (length (samplesOf f o t)) m))
+  offended (too-many-words {f = f} k m) = by-shape k (here (lt-ltb most (found f o t) m))
+  offended (not-rising {f = f} {i = i} k m g) =
+      let g = first-found (numbers-search (samplesOf f o t)) g in
+      by-shape k
+      (later (le-ltb most (length (samplesOf f o t)) m)
+      (subst (λ (j : ℕ). Broken (behindSamples f) (23 byte (24 + sampleBytes f * j))) (g .1) (here (g .0))))
+  offended (bad-word {f = f} {i = i} k m g) =
+      let g = first-found (words-search f (wordsOf f o t)) g in
+      by-shape k
+      (later (le-ltb most (found f o t) m)
+      (subst (λ (j : ℕ). Broken (behindMany f) (24 byte (28 + valueBytes f * j))) (g .1) (here (g .0))))
+  offended (miscounted {f = f} k m g e) =
+      by-shape k
+      (later (le-ltb most (found f o t) m)
+      (later (none-found (words-search f (wordsOf f o t)) g) (here (ap not (ne-eqb (said o t) (found f o t) e)))))
 
 -- no code is 10
 pub no-ten : {o : Bool} {t : Tup} {c q : ℕ} → Offends o t c q → c ≡ 10 → ⊥
 no-ten (too-many k m) e = absurd (omega arith)
-no-ten (not-rising k g) e = absurd (omega arith)
+no-ten (too-many-words k m) e = absurd (omega arith)
+no-ten (not-rising k m g) e = absurd (omega arith)
 no-ten (bad-word k m g) e = absurd (omega arith)
 no-ten (miscounted k m g e) h = absurd (omega arith)

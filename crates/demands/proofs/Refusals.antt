@@ -23,8 +23,8 @@ use Rattle.intake.specs.declared.Asked.{Asked}
 use Rattle.intake.specs.Check.{checkFile}
 use Rattle.intake.specs.Asking.{askAccepted, askChecked, askAt}
 use Rattle.intake.specs.inner.Tallies.{ownVerdict}
-use Rattle.forms.specs.inner.Sound.{SoundHere}
-use Rattle.forms.proofs.Placed.{at-most-twice, most}
+use Rattle.ping_forms.specs.inner.Sound.{SoundHere}
+use Rattle.ping_forms.proofs.Placed.{at-most-twice, most}
 use Rattle.normal.specs.Normaliser.{normalRules, normalCounts, behindCheck, normalAnswer}
 use Rattle.normal.specs.Single.{singleForm, behindRules, singleRules, singleAnswer}
 use Rattle.normal.proofs.Singles.{single-length}
@@ -104,9 +104,9 @@ module _ (f : List ℕ) (room : ℕ) where
       (silent-append (saying (refusedAt 4) alone) (behindRules f room) (silent-saying 4 alone) (refl, (refl, (refl, tt))))
 
   -- a tuple that keeps its rules is sound, and its form at most twice as long
-  small : AllPass (singleRules f room) → length (singleForm f) ≤ limit
+  small : Bytes f → AllPass (singleRules f room) → length (singleForm f) ≤ limit
   unfolding framing ownVerdict
-  small h =
+  small bytes h =
       let o = isMsb f in
       let r = drop 4 f in
       let a = kept-append (saying (refusedAt 0) (fileRules f)) (saying (refusedAt 4) alone ++ behindRules f room) h in
@@ -120,7 +120,7 @@ module _ (f : List ℕ) (room : ℕ) where
         here = record { framed = passed (frameRules o r) (b .0); size = refl; kind = refl };
         own = passed own (b .1);
       } in
-      omega (arith, single-length f, at-most-twice s, most s)
+      omega (arith, single-length f, at-most-twice s bytes, most s)
 
 -- ---- asking
 module _ (f : List ℕ) (b : Bytes f) (p : ℕ) where

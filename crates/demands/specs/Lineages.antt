@@ -5,7 +5,7 @@ use mathlib.Core.Bool.{Bool, true}
 use mathlib.Core.List.{List, _∷_, _++_}
 use Prim.Native.Nat.{ℕ, _+_}
 use lib.ListN.{length}
-use Rattle.layout.specs.Families.{isPing}
+use Rattle.layout.specs.Types.{isPing}
 use Rattle.layout.specs.declared.Maker.{Maker}
 use Rattle.layout.specs.declared.Maker.the-variants.{Biosonics, Simrad}
 use Rattle.layout.specs.declared.SoftwareChannel.{SoftwareChannel}

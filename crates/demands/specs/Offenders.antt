@@ -7,14 +7,16 @@ use lib.Dec.{eqb}
 use lib.ListN.{length, drop, getD}
 use Rattle.rules.specs.Rules.{Rule, AllPass}
 use Rattle.layout.specs.Answers.{Breach}
+use Rattle.layout.specs.Families.{Family, measuresOf, valueBytes, sampleBytes, radixOf}
+use Rattle.layout.specs.Types.{uncompressed, compressed, shapeOf}
 use Rattle.frame.specs.declared.Walk.{Walk}
 use Rattle.frame.specs.declared.Step.the-variants.{Tuple}
 use Rattle.frame.specs.Frames.{Tup, tupAt, frameRules}
 use Rattle.frame.specs.Files.{isMsb, fileRules}
 use Rattle.frame.specs.Steps.{stepForward}
 use Rattle.samples.specs.Words.{Sample}
-use Rattle.samples.specs.Runs.{radix, values}
-use Rattle.content.specs.Pings.{headC, wordsIn, countIn, contentU}
+use Rattle.samples.specs.Runs.{values}
+use Rattle.content.specs.Pings.{wordsIn, countIn, contentU}
 use Rattle.content.specs.Items.{headRules}
 use Rattle.intake.specs.Check.{Course, earlierRules}
 use Rattle.tuples.specs.Readers.{tupleThere}
@@ -26,7 +28,7 @@ pub record FirstAt (P : ℕ → Type 0) (i : ℕ) : Type 0 where
   pub before : (j : ℕ) → j < i → P j → ⊥
 
 -- ---- what breaks a rule
--- a U-32 ping's number that is not above the one before it
+-- an uncompressed ping's number that is not above the one before it
 abbrev pub numberIn : List Sample → ℕ → ℕ
 numberIn s i = getD s i (0, 0) .0
 
@@ -35,36 +37,46 @@ pub record Falls (s : List Sample) (i : ℕ) : Type 0 where
   pub behind : 0 < i
   pub falls : numberIn s i ≤ numberIn s (i - 1)
 
--- a C-32 ping's word outside the limits: 7FFF0000 to 8000FFFF
-pub record Outside (ws : List ℕ) (i : ℕ) : Type 0 where
+-- a compressed ping's word outside its family's limits: of C-32 7FFF0000 to 8000FFFF, of C-16 7F00 to 8100, of CE-16 7F00 to 7FFF
+pub record Outside (f : Family) (ws : List ℕ) (i : ℕ) : Type 0 where
   pub within : i < length ws
-  pub least : 0x7fff0000 ≤ getD ws i 0
-  pub most : getD ws i 0 ≤ 0x8000ffff
+  pub least : measuresOf f .first ≤ getD ws i 0
+  pub most : getD ws i 0 ≤ measuresOf f .last
 
--- ---- a tuple's samples, its words, its value words as they are found, and as many as it says there are
-abbrev pub samplesIn : Bool → Tup → List Sample
-samplesIn o t = contentU o (t .body) .samples
+-- ---- an uncompressed ping's samples; a compressed one's words, its value words as they are found, and as many as it says there are
+abbrev pub samplesOf : Family → Bool → Tup → List Sample
+samplesOf f o t = contentU f o (t .body) .samples
 
-abbrev pub wordsOf : Bool → Tup → List ℕ
-wordsOf o t = wordsIn headC o (t .body)
+abbrev pub wordsOf : Family → Bool → Tup → List ℕ
+wordsOf f o t = wordsIn f o (t .body)
 
-abbrev pub found : Bool → Tup → ℕ
-found o t = values radix (wordsOf o t)
+abbrev pub found : Family → Bool → Tup → ℕ
+found f o t = values (radixOf f) (wordsOf f o t)
 
 abbrev pub said : Bool → Tup → ℕ
 said o t = countIn o (t .body)
 
+-- ---- of which kind a tuple is
+abbrev pub Uncompressed : Family → Tup → Type 0
+Uncompressed f t = shapeOf (t .kind) ≡ uncompressed f
+
+abbrev pub Compressed : Family → Tup → Type 0
+Compressed f t = shapeOf (t .kind) ≡ compressed f
+
 -- ---- the codes of samples, each with the byte of the first offender, counted from the tuple's first
 pub data Offends (o : Bool) (t : Tup) : ℕ → ℕ → Type 0 where
-  -- over 32,764 values, at the tuple
-  too-many : t .kind ≡ 10010 → 32764 < found o t → Offends o t 11 0
+  -- over 32,764 values, at the tuple: in samples, and in words
+  too-many : {f : Family} → Uncompressed f t → 32764 < length (samplesOf f o t) → Offends o t 11 0
+  too-many-words : {f : Family} → Compressed f t → 32764 < found f o t → Offends o t 11 0
   -- a number that doesn't rise
-  not-rising : {i : ℕ} → t .kind ≡ 10000 → FirstAt (Falls (samplesIn o t)) i → Offends o t 23 (24 + 8 * i)
+  not-rising : {f : Family} {i : ℕ} → Uncompressed f t → length (samplesOf f o t) ≤ 32764 → FirstAt (Falls (samplesOf f o t)) i
+      → Offends o t 23 (24 + sampleBytes f * i)
   -- a word outside the limits
-  bad-word : {i : ℕ} → t .kind ≡ 10010 → found o t ≤ 32764 → FirstAt (Outside (wordsOf o t)) i → Offends o t 24 (28 + 4 * i)
+  bad-word : {f : Family} {i : ℕ} → Compressed f t → found f o t ≤ 32764 → FirstAt (Outside f (wordsOf f o t)) i
+      → Offends o t 24 (28 + valueBytes f * i)
   -- a number of samples that is wrong, every word being within the limits
-  miscounted : t .kind ≡ 10010 → found o t ≤ 32764 → ((i : ℕ) → Outside (wordsOf o t) i → ⊥) → (said o t ≡ found o t → ⊥)
-      → Offends o t 25 24
+  miscounted : {f : Family} → Compressed f t → found f o t ≤ 32764 → ((i : ℕ) → Outside f (wordsOf f o t) i → ⊥)
+      → (said o t ≡ found f o t → ⊥) → Offends o t 25 24
 
 -- the codes that are said of samples alone: these, and 10 before them, which no tuple offends by
 abbrev pub ofSamples : ℕ → Bool

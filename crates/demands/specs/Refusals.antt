@@ -59,7 +59,7 @@ pub record Demand1 : Type 0 where
       → (r ≡ Refused c p) ↔ Broken (singleRules f (length out)) (Refused c p)
   pub tuple-takes : {f out left : List ℕ} {r : Answer} → NormalisedTuple f out r left → {n : Counts}
       → (r ≡ Accepted n) ↔ (AllPass (singleRules f (length out)) × (accepting 1 (length (singleForm f)) ≡ Accepted n))
-  pub tuple-small : (f : List ℕ) (room : ℕ) → AllPass (singleRules f room) → length (singleForm f) ≤ limit
+  pub tuple-small : (f : List ℕ) (room : ℕ) → Bytes f → AllPass (singleRules f room) → length (singleForm f) ≤ limit
   -- asking
   pub asking : {f : List ℕ} {p : ℕ} {r : Asked} → Bytes f → AskedFor f p r → {c q : ℕ} → (r ≡ Asked.Refused c q) ↔ AskCause f p c q
   -- ---- of samples: each code exactly where its rule is the first one broken, at the first offender

@@ -8,15 +8,16 @@ use borrow.Author.Tests.{eqb-true, ne-eqb}
 use lib.Dec.{eqb, lit<}
 use Rattle.rules.proofs.Bools.{same-arms}
 use Rattle.layout.specs.Fields.{size}
-use Rattle.layout.specs.Types.{Shape, indexed, row, pairs, words, unlisted, Length, fitting, inClass, index, listings, among}
-use Rattle.layout.specs.Types.{listingOf, shapeOf, listed, pingRow, lengthFrom}
-use Rattle.layout.specs.inner.Codes.{placeAmong, placeIn, fieldsIn}
+use Rattle.layout.specs.Types.{Shape, indexed, row, uncompressed, compressed, unlisted, Length, fitting, inClass, index, listings, among}
+use Rattle.layout.specs.Types.{listingOf, shapeOf, hasSamples, isPing, listed, lengthFrom}
+use Rattle.layout.specs.inner.Codes.{placeAmong, placeIn, rowed, fieldsIn}
+use Rattle.layout.proofs.Families.{IsRow, row-rowed}
 use Rattle.layout.proofs.Tables.{Tabled, tabled, fields-there, alike-all, lengths-from}
 use Rattle.content.proofs.Fine.{upward-least}
 use Rattle.content.proofs.Places.{Shaped, shaped}
 use Rattle.intake.specs.inner.Tallies.{Fits}
 use Rattle.forms.specs.inner.Parts.{listedFields, Rowed}
-use Rattle.forms.proofs.Placed.{within-index}
+use Rattle.ping_forms.proofs.Placed.{within-index}
 
 -- ---- listings
 -- a type code outside the index class, by its listing
@@ -27,19 +28,20 @@ module _ (k : ℕ) (e : inClass index k ≡ false) where
       by : (q : Shape) → shapeOf k ≡ q → Shaped k q → Tabled q (placeIn k) → shapeOf k ≡ unlisted
       by indexed z h l = absurd (within-index k e h)
       by (row fs x) z h l = absurd (omega arith)
-      by pairs z h l = absurd (omega arith)
-      by words z h l = absurd (omega arith)
+      by (uncompressed y) z h l = absurd (omega arith)
+      by (compressed y) z h l = absurd (omega arith)
       by unlisted z h l = z
 
-  pub rowed : (k ≡ 10010 → ⊥) → (k ≡ 10000 → ⊥) → (placeIn k ≡ listed → ⊥) → Rowed k
-  rowed c u p = by (shapeOf k) refl (shaped k) (tabled k)
+  pub by-row : isPing k ≡ false → (placeIn k ≡ listed → ⊥) → Rowed k
+  unfolding isPing
+  by-row c p = by (shapeOf k) refl (shaped k) (tabled k) c
     where
-      by : (q : Shape) → shapeOf k ≡ q → Shaped k q → Tabled q (placeIn k) → Rowed k
-      by indexed z h l = absurd (within-index k e h)
-      by (row fs x) z h l = record { fields = fs; text = x; shape = z }
-      by pairs z h l = absurd (u h)
-      by words z h l = absurd (c h)
-      by unlisted z h l = absurd (p l)
+      by : (q : Shape) → shapeOf k ≡ q → Shaped k q → Tabled q (placeIn k) → hasSamples q ≡ false → Rowed k
+      by indexed z h l d = absurd (within-index k e h)
+      by (row fs x) z h l d = record { fields = fs; text = x; shape = z }
+      by (uncompressed y) z h l d = absurd (true≢false d)
+      by (compressed y) z h l d = absurd (true≢false d)
+      by unlisted z h l d = absurd (p l)
 
 fields-listed : (k : ℕ) → placeIn k < listed → (listing : ℕ) → listing ≡ placeIn k → listedFields listing ≡ fieldsIn (shapeOf k)
 fields-listed k h listing e = ap listedFields e ∙ fields-there k h
@@ -48,20 +50,11 @@ module _ {k listing : ℕ} (g : Rowed k) (e : listing ≡ placeIn k) where
   placed : placeIn k < listed
   placed = subst (λ (q : Shape). Tabled q (placeIn k)) (g .shape) (tabled k)
 
-  pub row-listed : listing < listed
-  row-listed = omega (arith, placed)
+  pub row-listed : listing < rowed
+  row-listed = omega (arith, e, row-rowed k (subst IsRow (sym (g .shape)) tt))
 
   pub row-fields : listedFields listing ≡ g .fields
   row-fields = fields-listed k placed listing e ∙ ap fieldsIn (g .shape)
-
--- both pings have the header of the listing of U-32 pings
-pub ping-fields : {listing : ℕ} → listing ≡ placeIn 10000 → listedFields listing ≡ pingRow
-unfolding listingOf among listings placeAmong
-ping-fields {listing} e = fields-listed 10000 (lit< tt) listing e
-
-pub ping-listed : {listing : ℕ} → listing ≡ placeIn 10000 → (listing < listed) × (size (listedFields listing) ≡ 18)
-unfolding listings placeAmong
-ping-listed e = (omega arith, ap size (ping-fields e))
 
 -- ---- characters
 -- the types that have some
@@ -73,16 +66,16 @@ abbrev Bare : Shape → Type 0
 Bare indexed = Unit {0}
 Bare (row fs none) = Unit {0}
 Bare (row fs (some n)) = ⊥
-Bare pairs = Unit {0}
-Bare words = Unit {0}
+Bare (uncompressed y) = Unit {0}
+Bare (compressed y) = Unit {0}
 Bare unlisted = Unit {0}
 
 isBare : Shape → Bool
 isBare indexed = true
 isBare (row fs none) = true
 isBare (row fs (some n)) = false
-isBare pairs = true
-isBare words = true
+isBare (uncompressed y) = true
+isBare (compressed y) = true
 isBare unlisted = true
 
 bare-by : (q : Shape) → isBare q ≡ true → Bare q
@@ -90,8 +83,8 @@ unfolding isBare
 bare-by indexed e = tt
 bare-by (row fs none) e = tt
 bare-by (row fs (some n)) e = true≢false (sym e)
-bare-by pairs e = tt
-bare-by words e = tt
+bare-by (uncompressed y) e = tt
+bare-by (compressed y) e = tt
 bare-by unlisted e = tt
 
 bare : (k : ℕ) → (k ≡ 10110 → ⊥) → (k ≡ 65534 → ⊥) → Bare (shapeOf k)

@@ -2,46 +2,26 @@
 use frame::DATA;
 use layout::FIELDS;
 use layout::types;
-use samples::PAIR;
-use samples::WORD;
 ghost use mathlib.Core.Path.{_≡_};
-ghost use mathlib.Core.Bool.{true, false};
+ghost use mathlib.Core.Bool.{false};
 ghost use Prim.Native.Nat.{_+_, _*_, _^_, _≤_, _<_};
-ghost use lib.ListN.{length, take, drop};
+ghost use lib.ListN.{length, drop};
 ghost use lib.Seq.{sets};
-ghost use Rattle.order.specs.Order.{numOf};
 ghost use Rattle.layout.specs.Fields.{size};
-ghost use Rattle.layout.specs.Types.{unlisted, listed, shapeOf};
-ghost use Rattle.layout.specs.inner.Codes.{placeIn};
+ghost use Rattle.layout.specs.Types.{unlisted, shapeOf};
+ghost use Rattle.layout.specs.inner.Codes.{placeIn, rowed};
 ghost use Rattle.turning.specs.Rows.{turned};
 ghost use Rattle.frame.specs.Frames.{tupAt};
-ghost use Rattle.frame.specs.inner.Framing.{openingBytes, closeBytes};
-ghost use Rattle.samples.specs.Runs.{radix, endsFrom};
+ghost use Rattle.frame.specs.inner.Framing.{openingBytes};
 ghost use Rattle.content.specs.Forms.{formBytes};
 ghost use Rattle.intake.specs.inner.Tallies.{Fits};
-ghost use Rattle.forms.specs.inner.Sound.{SoundHere};
-ghost use Rattle.forms.specs.inner.Parts.{wordsAt, listedFields, firstListings, Rowed};
+ghost use Rattle.ping_forms.specs.inner.Sound.{SoundHere};
+ghost use Rattle.forms.specs.inner.Parts.{listedFields, firstListings, Rowed};
 
 // The places of an event's characters and of an end of file's data bytes.
 const EVENT_TEXT: usize = 12;
 
 const END_DATA: usize = 14;
-
-// How many bytes the normal form of a C-32 ping has. One with a length is measured by its words; any other counts its samples itself,
-// so that they are not read.
-fn ping_length(file: &[u8], at: usize, msb: bool, whole: usize) -> usize
-    requires { ⌜ SoundHere msb (now file) at whole 10010 ⌝ }
-    ensures { λ r. ⌜ r ≡ length (formBytes msb (tupAt msb (drop at (now (file .entry))))) ⌝ }
-    ensures { λ r. ⌜ r ≤ 2 * whole ⌝ }
-{
-    let tail = whole - frame::TAIL;
-    let words = &file[at + samples::WORDS..at + tail];
-    if samples::ends_in_run(words, msb) {
-        return samples::WORDS + WORD * spelling::packing::count_packed(words, msb) + frame::TAIL;
-    }
-    let count = order::read4(file, at + samples::COUNT, msb) as usize;
-    samples::PAIRS + PAIR * count + frame::TAIL
-}
 
 // How many bytes the normal form of the tuple at a place has: none for the index class.
 pub fn form_length(file: &[u8], at: usize, msb: bool, whole: usize, code: u16) -> usize
@@ -52,10 +32,10 @@ pub fn form_length(file: &[u8], at: usize, msb: bool, whole: usize, code: u16) -
     if layout::in_class(layout::INDEX, code) {
         return 0;
     }
-    if code != types::PING_C {
-        return whole;
+    if ping_forms::is_compressed(code) {
+        return ping_forms::compressed_length(file, at, msb, whole, code);
     }
-    ping_length(file, at, msb, whole)
+    whole
 }
 
 // Writes the fields of a tuple of a listed type, by its listing. Each arm names its row by a constant, and how many fields it has before
@@ -76,9 +56,9 @@ fn turn_first(file: &[u8], at: usize, msb: bool, listing: usize, out: &mut [u8],
     }
 }
 
-// and of any listing.
+// and of any that a row reads.
 fn turn_listed(file: &[u8], at: usize, msb: bool, listing: usize, out: &mut [u8], to: usize)
-    requires { ⌜ listing < listed ⌝ }
+    requires { ⌜ listing < rowed ⌝ }
     requires { ⌜ at + size (listedFields listing) ≤ length (now file) ⌝ }
     requires { ⌜ to + size (listedFields listing) ≤ length (now out) ⌝ }
     ensures { λ _. ⌜ now (out .exit) ≡ sets (now (out .entry)) to (turned msb (listedFields listing) (drop at (now (file .entry)))) ⌝ }
@@ -109,7 +89,7 @@ fn open_form(
     bytes: usize,
     code: u16,
 )
-    requires { ⌜ listing < listed ⌝ }
+    requires { ⌜ listing < rowed ⌝ }
     requires { ⌜ at + 6 + size (listedFields listing) ≤ length (now file) ⌝ }
     requires { ⌜ to + 6 + size (listedFields listing) ≤ length (now out) ⌝ }
     requires { ⌜ (10 ≤ bytes) × (bytes < 2 ^ 32) ⌝ }
@@ -119,17 +99,6 @@ fn open_form(
 {
     frame::open_frame(out, to, false, bytes, code);
     turn_listed(file, at + DATA, msb, listing, out, to + DATA);
-}
-
-// Writes what stands behind them: the attribute, from its place in the file, and the backlink.
-fn close_form(file: &[u8], from: usize, msb: bool, out: &mut [u8], to: usize, bytes: usize)
-    requires { ⌜ from + 4 ≤ length (now file) ⌝ }
-    requires { ⌜ to + 8 ≤ length (now out) ⌝ }
-    requires { ⌜ bytes < 2 ^ 32 ⌝ }
-    ensures { λ _.
-        ⌜ now (out .exit) ≡ sets (now (out .entry)) to (closeBytes false bytes (numOf msb (take 4 (drop from (now (file .entry)))))) ⌝ }
-{
-    frame::close_frame(out, to, false, bytes, order::read4(file, from, msb));
 }
 
 // Where the characters of a tuple begin, behind its fields: where its attribute stands, for a type that has none.
@@ -167,7 +136,7 @@ fn write_row(
     let tail = whole - frame::TAIL;
     open_form(file, at, msb, listing, out, to, whole, code);
     turning::copy(file, at + text, tail - text, out, to + text);
-    close_form(file, at + tail, msb, out, to + tail, whole);
+    ping_forms::close_form(file, at + tail, msb, out, to + tail, whole);
 }
 
 // Writes the form of an unlisted tuple: its data as they stand.
@@ -180,92 +149,6 @@ fn write_raw(file: &[u8], at: usize, msb: bool, whole: usize, code: u16, out: &m
     frame::open_frame(out, to, false, whole, code);
     turning::copy(file, at + DATA, whole - frame::FRAME, out, to + DATA);
     order::store4(out, to + whole - frame::BACKLINK, false, whole as u32);
-}
-
-// Writes the form of a U-32 ping: its header and its pairs turned.
-fn write_u(file: &[u8], at: usize, msb: bool, whole: usize, out: &mut [u8], to: usize)
-    requires { ⌜ SoundHere msb (now file) at whole 10000 ⌝ }
-    requires { ⌜ to + whole ≤ length (now out) ⌝ }
-    ensures { λ _. ⌜ now (out .exit) ≡ sets (now (out .entry)) to (formBytes msb (tupAt msb (drop at (now (file .entry))))) ⌝ }
-{
-    let tail = whole - frame::TAIL;
-    let listing = layout::listing_of(types::PING_U);
-    open_form(file, at, msb, listing, out, to, whole, types::PING_U);
-    spelling::lsb::turn_words(
-        &file[at + samples::PAIRS..at + tail],
-        msb,
-        out,
-        to + samples::PAIRS,
-    );
-    close_form(file, at + tail, msb, out, to + tail, whole);
-}
-
-// Writes the form of a C-32 ping with a length: its words packed, then what stands behind them and before them; and says how many bytes
-// it has.
-fn write_packed(file: &[u8], at: usize, msb: bool, whole: usize, out: &mut [u8], to: usize) -> usize
-    requires { ⌜ SoundHere msb (now file) at whole 10010 ⌝ }
-    requires { ⌜ endsFrom radix false (wordsAt msb (now file) at whole) ≡ true ⌝ }
-    requires { ⌜ to + length (formBytes msb (tupAt msb (drop at (now file)))) ≤ length (now out) ⌝ }
-    ensures { λ r. ⌜ r ≡ length (formBytes msb (tupAt msb (drop at (now (file .entry))))) ⌝ }
-    ensures { λ _. ⌜ now (out .exit) ≡ sets (now (out .entry)) to (formBytes msb (tupAt msb (drop at (now (file .entry))))) ⌝ }
-{
-    let tail = whole - frame::TAIL;
-    let words = &file[at + samples::WORDS..at + tail];
-    let end = spelling::packing::pack_words(words, msb, out, to + samples::WORDS);
-    let bytes = end - to + frame::TAIL;
-    close_form(file, at + tail, msb, out, end, bytes);
-    let listing = layout::listing_of(types::PING_U);
-    open_form(file, at, msb, listing, out, to, bytes, types::PING_C);
-    let count = order::read4(file, at + samples::COUNT, msb);
-    order::store4(out, to + samples::COUNT, false, count);
-    bytes
-}
-
-// Writes the form of a C-32 ping without a length, of as many samples as it counts: U-32, each sample a pair.
-fn write_sampled(
-    file: &[u8],
-    at: usize,
-    msb: bool,
-    whole: usize,
-    bytes: usize,
-    out: &mut [u8],
-    to: usize,
-)
-    requires { ⌜ SoundHere msb (now file) at whole 10010 ⌝ }
-    requires { ⌜ endsFrom radix false (wordsAt msb (now file) at whole) ≡ false ⌝ }
-    requires { ⌜ bytes ≡ 24 + 8 * numOf msb (take 4 (drop (at + 24) (now file))) + 8 ⌝ }
-    requires { ⌜ to + bytes ≤ length (now out) ⌝ }
-    ensures { λ _. ⌜ now (out .exit) ≡ sets (now (out .entry)) to (formBytes msb (tupAt msb (drop at (now (file .entry))))) ⌝ }
-{
-    let tail = whole - frame::TAIL;
-    let end = to + (bytes - frame::TAIL);
-    let listing = layout::listing_of(types::PING_U);
-    open_form(file, at, msb, listing, out, to, bytes, types::PING_U);
-    spelling::lsb::spread_words(
-        &file[at + samples::WORDS..at + tail],
-        msb,
-        out,
-        to + samples::PAIRS,
-        end,
-    );
-    close_form(file, at + tail, msb, out, end, bytes);
-}
-
-// Writes the form of a C-32 ping, by whether it has a length, and says how many bytes it has.
-fn write_c(file: &[u8], at: usize, msb: bool, whole: usize, out: &mut [u8], to: usize) -> usize
-    requires { ⌜ SoundHere msb (now file) at whole 10010 ⌝ }
-    requires { ⌜ to + length (formBytes msb (tupAt msb (drop at (now file)))) ≤ length (now out) ⌝ }
-    ensures { λ r. ⌜ r ≡ length (formBytes msb (tupAt msb (drop at (now (file .entry))))) ⌝ }
-    ensures { λ _. ⌜ now (out .exit) ≡ sets (now (out .entry)) to (formBytes msb (tupAt msb (drop at (now (file .entry))))) ⌝ }
-{
-    let tail = whole - frame::TAIL;
-    if samples::ends_in_run(&file[at + samples::WORDS..at + tail], msb) {
-        return write_packed(file, at, msb, whole, out, to);
-    }
-    let count = order::read4(file, at + samples::COUNT, msb) as usize;
-    let bytes = samples::PAIRS + PAIR * count + frame::TAIL;
-    write_sampled(file, at, msb, whole, bytes, out, to);
-    bytes
 }
 
 // Writes the normal form of the tuple at a place, and says how many bytes it has.
@@ -286,11 +169,11 @@ pub fn write_form(
     if layout::in_class(layout::INDEX, code) {
         return 0;
     }
-    if code == types::PING_C {
-        return write_c(file, at, msb, whole, out, to);
+    if ping_forms::is_compressed(code) {
+        return ping_forms::write_compressed(file, at, msb, whole, code, out, to);
     }
-    if code == types::PING_U {
-        write_u(file, at, msb, whole, out, to);
+    if intake::is_ping(code) {
+        ping_forms::plain::write_form(file, at, msb, whole, code, out, to);
         return whole;
     }
     let listing = layout::listing_of(code);

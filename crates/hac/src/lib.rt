@@ -33,35 +33,58 @@ pub use frame::Walk;
 pub use intake::Asked;
 pub use intake::ask;
 
-// read_ping(file, place): header, attribute, kind, number of values and length of a listed ping. The length is the number of all samples,
-// runs counted, of a C-32 ping that ends in a run, so that one without samples always has it; a U-32 ping, and a C-32 ping that ends in a
-// value, have none. Refuses as a forward step does, 3 at the end; then 9 for another type; 9, 11; 23 at the byte of the first number that
-// doesn't rise, or 24 at that of the first word outside the limits, 25 at the number of samples. Promise: `PingAt`,
-// crates/pings/specs/Fields.antt.
+// Pings are of seven kinds. With values: U-32 (10000) and U-16 (10030) uncompressed, C-32 (10010), C-16 (10040) and CE-16 (10050)
+// compressed. With angles, uncompressed: U-32-16-angles (10001) and U-16-angles (10031).
+
+// read_ping(file, place): header, attribute, kind, number of values and length of a listed ping of any kind; of one with angles the number
+// of its samples. The length is the number of all samples, runs counted, of a compressed ping that ends in a run, so that one without
+// samples always has it; an uncompressed ping, and a compressed one that ends in a value, have none. Refuses as a forward step does, 3 at
+// the end; then 9 for another type; 9, 11; 23 at the byte of the first number that doesn't rise, or 24 at that of the first word outside
+// the limits, 25 at the number of samples. Promise: `PingAt`, crates/pings/specs/Fields.antt.
 pub use pings::PingHeader;
 pub use pings::PingKind;
 pub use pings::PingLength;
 pub use pings::PingRead;
 pub use pings::read_ping;
 
-// What is the own of each of the two types, as constants: the places of the header (PingHeader::TIME_FRACTION and so on, in the row's
-// order PingHeader::places()); code, least length and step, and where pairs, number of samples and words stand.
+// What is the own of each of the seven types, as constants: the places of the header (PingHeader::TIME_FRACTION and so on, in the row's
+// order PingHeader::places()); code, least length and step, and where samples stand, or number of samples and words. `of_pairs` is
+// U-32's, `of_words` C-32's.
+pub use pings::of_c16;
+pub use pings::of_ce16;
 pub use pings::of_pairs;
+pub use pings::of_u16;
+pub use pings::of_u16_angles;
+pub use pings::of_u32_16_angles;
 pub use pings::of_words;
 
-// read_samples(file, place, numbers, values): a listed ping's samples, an entry of both slices for each; the length is their number.
-// Refuses as read_ping does, then by 19 at 0 where either slice is short. Promise: `SamplesRead`, crates/pings/specs/Readers.antt.
+// read_samples(file, place, numbers, values): the samples of a ping with values, an entry of both slices for each; the length is their
+// number. A value of 16 bits keeps its sign; CE-16's are handed over as counts. Refuses as read_ping does, but a ping with angles is
+// another type, 9; then by 19 at 0 where either slice is short. Promise: `SamplesRead`, crates/pings/specs/Readers.antt.
 pub use pings::read_samples;
 
-// write_u32(header, attribute, numbers, values, msb, out): a ping as pairs. Refuses by 23 at the smaller of unequal counts; 11 (count); 22
-// without samples; 23 at the first number not above the one before it; 11 (the tuple's bytes); 19. Promise: `WrittenU`,
-// crates/pings/specs/Headers.antt.
-// write_c32(header, attribute, numbers, values, length, msb, out): a ping in the fewest words, with a length up to it in runs behind the
-// last value, without one none there. Refuses by 23 at the smaller of unequal counts; 11 (count); 22 with neither samples nor a length;
-// 23 at the first number not above the one before it; 21 at the first value that has no word; 26 for a length under the last number
-// plus 2, or of 0 without samples; 11 (the tuple's bytes); 19. Promise: `WrittenC`, crates/pings/specs/Headers.antt.
-pub use pings::write_c32;
-pub use pings::write_u32;
+// read_angles(file, place, numbers, alongship, athwartship): the samples of a ping with angles, an entry of all three slices for each; the
+// length is their number. Refuses as read_ping does, but a ping with values is another type, 9; then by 19 at 0 where one of the slices is
+// short. Promise: `AnglesRead`, crates/pings/specs/Readers.antt.
+pub use pings::read_angles;
+
+// write_u32 and write_u16(header, attribute, numbers, values, msb, out): a ping as pairs of number and value, of four bytes each or of two.
+// Refuse by 23 at the smaller of unequal counts; 11 (count); 22 without samples; 23 at the first number not above the one before it; 11
+// (the tuple's bytes); 19. Promise: `WrittenU`, crates/ping_writers/specs/Writers.antt.
+// write_u32_16_angles and write_u16_angles(header, attribute, numbers, alongship, athwartship, msb, out): a ping as triples of number and
+// angles, the number of four bytes or of two. Refuse as these do, by 23 first at the smallest of three counts. Promise: `WrittenA`, there.
+// write_c32, write_c16 and write_ce16(header, attribute, numbers, values, length, msb, out): a ping in the fewest words, with a length up
+// to it in runs behind the last value, without one none there; a CE-16 ping's values are counts. Refuse by 23 at the smaller of unequal
+// counts; 11 (count); 22 with neither samples nor a length; 23 at the first number not above the one before it; 21 at the first value that
+// has no word of the kind; 26 for a length under the last number plus 2, or of 0 without samples; 11 (the tuple's bytes); 19. Promise:
+// `WrittenC`, there.
+pub use ping_writers::write_c16;
+pub use ping_writers::write_c32;
+pub use ping_writers::write_ce16;
+pub use ping_writers::write_u16;
+pub use ping_writers::write_u16_angles;
+pub use ping_writers::write_u32;
+pub use ping_writers::write_u32_16_angles;
 
 // read_row(file, place, code, numbers): the record of a type at a place as the numbers of its row, in its order, the attribute last, a
 // signed one as its pattern, an entry each, and where its characters stand (`Part`). Refuses as a forward step does, 3 at the end; 9 for
@@ -112,9 +135,11 @@ pub use threshold::Threshold;
 pub use threshold::ThresholdRead;
 // up to here
 
-// normalise(file, out): the file's normal form, in which a ping with a length is C-32 in the fewest words and all others are U-32.
-// Refuses as the check does; then by 18 at the first unlisted tuple, index class apart, of an MSB file; 20 where the normal form is over
-// the limit of a file; 19. Accepts with the file's tuples, the bytes written and the identifiers compared in the file handed in.
+// normalise(file, out): the file's normal form. There a ping of U-32 or C-32 is C-32 in the fewest words where it has a length and U-32
+// where it has none; one of U-16 or C-16 is C-16 in the fewest words where it has a length or a number past 65,535, else U-16; a CE-16
+// ping is CE-16 in the fewest words; one with angles keeps its type. Refuses as the check does; then by 18 at the first unlisted tuple,
+// index class apart, of an MSB file; 20 where the normal form is over the limit of a file; 19. Accepts with the file's tuples, the bytes
+// written and the identifiers compared in the file handed in.
 // Promise: `Normalised`, crates/normal/specs/Normaliser.antt; demand 3: crates/normal/specs/Demand.antt.
 pub use normal::normalise;
 

@@ -3,7 +3,7 @@
 use mathlib.Core.Path.{_≡_, refl, sym, ap, ap₂, subst, _∙_}
 use mathlib.Core.Bool.{Bool, true, false, not, cond, Bool·beq}
 use mathlib.Core.List.{List, [], _∷_}
-use Prim.Native.Nat.{ℕ, _+_, _-_, _≤_}
+use Prim.Native.Nat.{ℕ, _+_, _-_, _%_, _≤_}
 use native.Mathlib.Omega.{arith}
 use borrow.Author.Tests.{eqb-true, leb-true, eq-eqb, ne-eqb, not-false}
 use lib.Dec.{leb, eqb}
@@ -17,12 +17,14 @@ use Rattle.layout.specs.Fields.{known}
 use Rattle.layout.specs.declared.Maker.{Maker}
 use Rattle.layout.specs.declared.Says.{Says}
 use Rattle.layout.specs.declared.Says.the-variants as says
-use Rattle.layout.specs.Types.{listings, among, listingOf, shapeOf, lengthsOf, saysOf, Length, leastOf, exactly, upward, free, fitting}
-use Rattle.layout.proofs.Tables.{alike-all}
+use Rattle.layout.specs.Families.{Family}
+use Rattle.layout.specs.Types.{Shape, uncompressed, compressed, listings, among, listingOf, shapeOf, isPing, lengthsOf, saysOf}
+use Rattle.layout.specs.Types.{Length, leastOf, lengthFrom, exactly, upward, upwardOr, free, fitting}
+use Rattle.layout.proofs.Tables.{alike-all, lengths-from}
 use Rattle.layout.proofs.Verdicts.{passes, judged-append}
 use Rattle.frame.specs.Frames.{Tup, kindAt, tupAt, framing}
 use Rattle.rules.proofs.Bools.{both-true}
-use Rattle.frame.proofs.Frames.{allowed-most}
+use Rattle.frame.proofs.Frames.{allowed-4, allowed-most}
 use Rattle.frame.proofs.Places.{Whole, framing-whole}
 use Rattle.links.specs.declared.Sounder.{Sounder}
 use Rattle.links.specs.declared.Channel.{Channel}
@@ -32,10 +34,12 @@ use Rattle.links.specs.declared.LinkVerdict.{LinkVerdict}
 use Rattle.links.specs.declared.LinkVerdict.the-variants.{Linked, Faulty}
 use Rattle.links.specs.inner.Tables.{comparing, linking}
 use Rattle.links.proofs.Rows.{told-fine, told-fault}
-use Rattle.samples.specs.Judging.{judgedPairs, judgedWords}
+use Rattle.samples.specs.Judging.{judgedSamples, judgedWords}
 use Rattle.content.specs.Items.{identifiedBy, headRules, innerRules, unless, digest}
 use Rattle.content.proofs.Places.{by-code, fieldAt, fits-place, identifier-place, identified-other, linkAt, link-place}
 use Rattle.content.proofs.Places.{inner-U, inner-C, inner-other}
+use Rattle.content.proofs.Fine.{upward-least}
+use Rattle.content.proofs.Families.{plain-least, some-sample-bytes}
 use Rattle.intake.specs.declared.Tally.{Tally}
 use Rattle.intake.specs.inner.Tallies.{Tables, soundersBy, channelsBy, Here, Fits, sounderAt, channelAt, namedAt, headVerdict}
 use Rattle.intake.specs.inner.Tallies.{linkVerdict, innerVerdict, ownVerdict, turnVerdict, said, comparesAt, linkTold, turnTold}
@@ -59,6 +63,7 @@ headBy o f at n k first =
 least-fits : (l : Length) (n : ℕ) → fitting l n ≡ true → leastOf l ≤ n
 least-fits (exactly m) n e = omega (arith, eqb-true n m e)
 least-fits (upward m step) n e = leb-true m n (both-true (leb m n) _ e .0)
+least-fits (upwardOr m step more) n e = leb-true m n (both-true (leb m n) _ e .0)
 least-fits free n e = omega arith
 
 abbrev roomyBy : Says → Length → Bool
@@ -143,9 +148,9 @@ module _ {o : Bool} {f : List ℕ} {at n k : ℕ} (h : Here o f at n k) where
   pub no-identifier : (k ≡ 65535 → ⊥) → identifiedIn o f at ≡ true
   no-identifier a = identified-other o t (other a)
 
-  pub no-inner : (k ≡ 10000 → ⊥) → (k ≡ 10010 → ⊥) → innerVerdict o (tupIn o f at) ≡ Fine
+  pub no-inner : isPing k ≡ false → innerVerdict o (tupIn o f at) ≡ Fine
   unfolding innerVerdict
-  no-inner a b = inner-other o t (other a) (other b)
+  no-inner a = inner-other o t (ap isPing (h .kind) ∙ a)
 
   -- ---- where the length fits: by its code,
   module _ (g : Fits n k) where
@@ -155,13 +160,24 @@ module _ {o : Bool} {f : List ℕ} {at n k : ℕ} (h : Here o f at n k) where
     length-of : {j : ℕ} → k ≡ j → fitting (lengthsOf j) n ≡ true
     length-of e = subst (Fits n) e g
 
-    pub long-U : k ≡ 10000 → 40 ≤ n
-    unfolding listingOf among listings
-    long-U e = leb-true 40 n (both-true (leb 40 n) _ (length-of e) .0)
+    -- of a ping's shape
+    length-by : {q : Shape} → shapeOf k ≡ q → fitting (lengthFrom q) n ≡ true
+    length-by e = ap (λ (l : Length). fitting l n) (sym (lengths-from k ∙ ap lengthFrom e)) ∙ g
 
-    pub long-C : k ≡ 10010 → 40 ≤ n
-    unfolding listingOf among listings
-    long-C e = leb-true 40 n (both-true (leb 40 n) _ (length-of e) .0)
+    pub long-U : (p : Family) → shapeOf k ≡ uncompressed p → 36 ≤ n
+    long-U p e = omega (arith, plain-least p n (length-by e), some-sample-bytes p)
+
+    pub long-C : (p : Family) → shapeOf k ≡ compressed p → 40 ≤ n
+    long-C p e = upward-least 40 n _ (length-by e)
+
+    -- a word at least stands behind a compressed ping's header, and whole words
+    pub worded : (p : Family) → shapeOf k ≡ compressed p → let part = take (at + n - 8 - (at + 28)) (drop (at + 28) f) in
+        (2 ≤ length part) × ((length part % 2 ≡ 0) × (length part ≤ 262108))
+    worded p e =
+        let l = length-take-le (at + n - 8 - (at + 28)) (drop (at + 28) f) (simp length-drop (omega (arith, whole .fits))) in
+        let long = long-C p e in
+        let four = allowed-4 n (whole .allowed) in
+        (omega arith, (omega arith, few 28))
 
     pub identifier-read : k ≡ 65535 → identifiedIn o f at ≡ known (fieldAt o f at 2 6)
     unfolding listingOf among listings
@@ -182,18 +198,20 @@ module _ {o : Bool} {f : List ℕ} {at n k : ℕ} (h : Here o f at n k) where
     attitude e d = link-by e ∙ ap (λ (b : Bool). unless b (Links.names (namedAt o f at))) d
 
     -- its samples, from behind the header to its last 8 bytes
-    pub inner-pairs : k ≡ 10000 → innerVerdict o (tupIn o f at) ≡ judgedPairs o (take (at + n - 8 - (at + 24)) (drop (at + 24) f))
+    pub inner-samples : (p : Family) → shapeOf k ≡ uncompressed p
+        → innerVerdict o (tupIn o f at) ≡ judgedSamples p o (take (at + n - 8 - (at + 24)) (drop (at + 24) f))
     unfolding innerVerdict
-    inner-pairs e =
-        let z : n - 32 ≡ at + n - 8 - (at + 24) = omega (arith, long-U e) in
-        inner-U o f at n whole (code-of e) (long-U e) ∙ ap (λ (i : ℕ). judgedPairs o (take i (drop (at + 24) f))) z
+    inner-samples p e =
+        let z : n - 32 ≡ at + n - 8 - (at + 24) = omega (arith, long-U p e) in
+        inner-U o f at n whole p (ap shapeOf (h .kind) ∙ e) (long-U p e) ∙ ap (λ (i : ℕ). judgedSamples p o (take i (drop (at + 24) f))) z
 
-    pub inner-words : k ≡ 10010
-        → innerVerdict o (tupIn o f at) ≡ judgedWords o (fieldAt o f at 4 24) (take (at + n - 8 - (at + 28)) (drop (at + 28) f))
+    pub inner-words : (p : Family) → shapeOf k ≡ compressed p
+        → innerVerdict o (tupIn o f at) ≡ judgedWords p o (fieldAt o f at 4 24) (take (at + n - 8 - (at + 28)) (drop (at + 28) f))
     unfolding innerVerdict
-    inner-words e =
-        let z : n - 36 ≡ at + n - 8 - (at + 28) = omega (arith, long-C e) in
-        inner-C o f at n whole (code-of e) (long-C e) ∙ ap (λ (i : ℕ). judgedWords o (fieldAt o f at 4 24) (take i (drop (at + 28) f))) z
+    inner-words p e =
+        let z : n - 36 ≡ at + n - 8 - (at + 28) = omega (arith, long-C p e) in
+        inner-C o f at n whole p (ap shapeOf (h .kind) ∙ e) (long-C p e)
+        ∙ ap (λ (i : ℕ). judgedWords p o (fieldAt o f at 4 24) (take i (drop (at + 28) f))) z
 
 -- ---- what is told of its links where a tally stands, by its code
 module _ {o : Bool} {f : List ℕ} (w : Tally) (c : Tables) {n k : ℕ} (h : Here o f (w .at) n k) where

@@ -1,20 +1,22 @@
 -- Asking where the tally stands at a tuple of an accepted file: a listed ping's rows are declared, and what they say is what
 -- the course says. Assumes nothing.
-use mathlib.Core.Path.{_≡_, refl, sym, ap, subst, _∙_}
+use mathlib.Core.Path.{_≡_, refl, sym, ap, _∙_}
 use mathlib.Core.Bool.{Bool, true, false, cond, true≢false}
-use mathlib.Core.Logic.{_⊎_, inl, inr}
+use mathlib.Core.Logic.{inl, inr}
 use mathlib.Core.List.{List, []}
 use mathlib.Core.Option.{Option, some}
 use Prim.Native.Nat.{ℕ, _%_, _<_, _≤_}
 use native.Mathlib.Omega.{arith}
 use borrow.Author.Tests.{not-false}
 use lib.ListN.{length, drop, getD}
-use Rattle.layout.specs.Families.{isPing}
-use Rattle.layout.proofs.Families.{ping-kind}
+use Rattle.layout.specs.Families.{Family}
+use Rattle.layout.proofs.Families.{OfFamily, ping-shape}
 use Rattle.layout.specs.declared.Counts.{Counts}
 use Rattle.layout.specs.declared.SoftwareChannel.{SoftwareChannel}
 use Rattle.layout.specs.Answers.{judged}
-use Rattle.layout.specs.Types.{Shape, indexed, row, pairs, words, unlisted, listings, among, listingOf, shapeOf, lengthsOf, fitting}
+use Rattle.layout.specs.Types.{Shape, indexed, row, uncompressed, compressed, unlisted, shapeOf, hasSamples, isPing}
+use Rattle.layout.specs.Types.{Length, lengthsOf, lengthFrom, fitting}
+use Rattle.layout.proofs.Tables.{lengths-from}
 use Rattle.layout.proofs.Verdicts.{passes}
 use Rattle.frame.specs.Frames.{kindAt, lenAt, tupAt}
 use Rattle.frame.proofs.Places.{Whole, framing-whole}
@@ -26,7 +28,8 @@ use Rattle.links.proofs.Rows.{rows-length, rows-at, one-place, one-below}
 use Rattle.content.specs.Pings.{Ping, contentU, contentC}
 use Rattle.content.specs.Items.{Item, ping, itemBy, itemOf, numberAt, headRules, digestOf, digestItem, digest}
 use Rattle.content.proofs.Fine.{upward-least}
-use Rattle.content.proofs.Places.{Shaped, shaped, fits-place, header}
+use Rattle.content.proofs.Families.{plain-least, some-sample-bytes}
+use Rattle.content.proofs.Places.{fits-place, header}
 use Rattle.intake.specs.declared.Tally.{Tally}
 use Rattle.intake.specs.declared.Asked.{Asked}
 use Rattle.intake.specs.declared.Asked.the-variants
@@ -59,33 +62,34 @@ module _ (o : Bool) (f : List ℕ) (w : Tally) (c : Tables) (s : Standing f w) (
     pub item : itemOf o (tupAt o (drop (w .at) f)) ≡ some (ping it)
     pub named : numberAt (it .head) 2 ≡ namedAt o f (w .at) .0
 
-  pinged-U : k ≡ 10000 → Pinged
-  unfolding itemOf contentU listingOf among listings k
-  pinged-U e =
-      let long = upward-least 40 n _ (subst (λ (j : ℕ). fitting (lengthsOf j) n ≡ true) e fits) in
+  fits-by : {q : Shape} → shapeOf k ≡ q → fitting (lengthFrom q) n ≡ true
+  fits-by e = ap (λ (l : Length). fitting l n) (sym (lengths-from k ∙ ap lengthFrom e)) ∙ fits
+
+  pinged-U : (p : Family) → shapeOf k ≡ uncompressed p → Pinged
+  unfolding itemOf contentU k
+  pinged-U p e =
       record {
-        it = contentU o (tupAt o (drop (w .at) f) .body);
-        item = ap (λ (j : ℕ). itemBy (shapeOf j) o (tupAt o (drop (w .at) f))) e;
-        named = header o f (w .at) n whole long;
+        it = contentU p o (tupAt o (drop (w .at) f) .body);
+        item = ap (λ (q : Shape). itemBy q o (tupAt o (drop (w .at) f))) e;
+        named = header o f (w .at) n whole (omega (arith, plain-least p n (fits-by e), some-sample-bytes p));
       }
 
-  pinged-C : k ≡ 10010 → Pinged
-  unfolding itemOf contentC listingOf among listings k
-  pinged-C e =
-      let long = upward-least 40 n _ (subst (λ (j : ℕ). fitting (lengthsOf j) n ≡ true) e fits) in
+  pinged-C : (p : Family) → shapeOf k ≡ compressed p → Pinged
+  unfolding itemOf contentC k
+  pinged-C p e =
       record {
-        it = contentC o (tupAt o (drop (w .at) f) .body);
-        item = ap (λ (j : ℕ). itemBy (shapeOf j) o (tupAt o (drop (w .at) f))) e;
-        named = header o f (w .at) n whole long;
+        it = contentC p o (tupAt o (drop (w .at) f) .body);
+        item = ap (λ (q : Shape). itemBy q o (tupAt o (drop (w .at) f))) e;
+        named = header o f (w .at) n whole (omega (arith, upward-least 40 n _ (fits-by e)));
       }
 
   pinged : pingAt o f (w .at) ≡ true → Pinged
   unfolding k
-  pinged e = by-kind (ping-kind k e)
+  pinged e = by-shape (ping-shape k e)
     where
-      by-kind : (k ≡ 10000) ⊎ (k ≡ 10010) → Pinged
-      by-kind (inl z) = pinged-U z
-      by-kind (inr z) = pinged-C z
+      by-shape : OfFamily (shapeOf k) → Pinged
+      by-shape (p, inl z) = pinged-U p z
+      by-shape (p, inr z) = pinged-C p z
 
   -- ---- its rows
   x : SoftwareChannel
@@ -137,15 +141,15 @@ module _ (o : Bool) (f : List ℕ) (w : Tally) (c : Tables) (s : Standing f w) (
   -- any other tuple gives 9
   by-other : (m : Counts) → pingAt o f (w .at) ≡ false
       → askItem (courseOf w c) (w .at) m (itemOf o (tupAt o (drop (w .at) f))) ≡ Asked.Refused 9 (w .at)
-  unfolding itemOf k
-  by-other m e = by-shape (shapeOf k) (shaped k)
+  unfolding itemOf isPing k
+  by-other m e = by-shape (shapeOf k) e
     where
-      by-shape : (q : Shape) → Shaped k q
+      by-shape : (q : Shape) → hasSamples q ≡ false
           → askItem (courseOf w c) (w .at) m (itemBy q o (tupAt o (drop (w .at) f))) ≡ Asked.Refused 9 (w .at)
       by-shape indexed z = refl
       by-shape (row fs y) z = refl
-      by-shape pairs z = absurd (true≢false (sym (ap isPing z) ∙ e))
-      by-shape words z = absurd (true≢false (sym (ap isPing z) ∙ e))
+      by-shape (uncompressed p) z = absurd (true≢false z)
+      by-shape (compressed p) z = absurd (true≢false z)
       by-shape unlisted z = refl
 
   pub ask-course : (m : Counts) → askWhere o f m (courseOf w c) ≡ askItem (courseOf w c) (w .at) m (itemOf o (tupAt o (drop (w .at) f)))

@@ -3,28 +3,32 @@
 use mathlib.Core.Path.{_≡_, refl, sym, ap, _∙_}
 use mathlib.Core.List.{List, [], _∷_, _++_}
 use mathlib.Core.Bool.{Bool, true, false, cond, _&&_, _||_, true≢false}
-use Prim.Native.Nat.{ℕ, _+_, _-_, _*_, _%_, _≤_, _<_}
+use Prim.Native.Nat.{ℕ, _+_, _-_, _*_, _/_, _%_, _≤_, _<_}
+use native.Mathlib.Nat.{le-trans, mul-le-mul-left, mul-comm, div-mul-le-self}
 use native.Mathlib.Omega.{arith}
 use borrow.Author.Tests.{leb-true, leb-false, not-false}
 use lib.Dec.{eqb, leb, lit≤}
-use lib.ListN.{length, take, drop, length-take, length-drop}
+use lib.ListN.{length, drop, length-take, length-drop}
 use Rattle.rules.specs.Rules.{_⇒_}
 use Rattle.rules.proofs.Bools.{both-true, same-arms}
 use Rattle.layout.specs.declared.Verdict.the-variants.{Fine, Fault}
-use Rattle.layout.specs.Families.{wide}
+use Rattle.layout.specs.Families.{Family, valueBytes, sampleBytes}
 use Rattle.layout.specs.Answers.{both, judged, _byte_}
 use Rattle.layout.specs.declared.Says.{Says}
 use Rattle.layout.specs.declared.Says.the-variants as says
 use Rattle.layout.specs.Types
-use Rattle.layout.specs.Types.{Shape, indexed, row, pairs, words, unlisted, classes, inClass, listings, shapeOf, saysOf}
+use Rattle.layout.specs.Types.{Shape, indexed, row, uncompressed, compressed, unlisted, classes, inClass, listings, shapeOf, saysOf}
 use Rattle.layout.proofs.Tables.{alike-all}
 use Rattle.layout.proofs.Verdicts.{both-left, both-right, passes, Near, AllNear, near-rules, near-append, near-both, near-fault}
 use Rattle.turning.specs.Rows.{Value, valuesOf}
 use Rattle.frame.specs.Frames.{Tup, allowed, sizeAt, lenAt, tupAt, frameRules, framing}
-use Rattle.samples.specs.Words.{pairUp}
+use Rattle.samples.specs.Words.{allWords, allSamples}
+use Rattle.samples.specs.Runs.{firstBad}
+use Rattle.samples.specs.Judging.{firstDrop}
 use Rattle.samples.proofs.Rising.{drop-most}
 use Rattle.samples.proofs.Turning.{length-all}
-use Rattle.samples.proofs.Words.{pairs-few}
+use Rattle.samples.proofs.Words.{samples-many}
+use Rattle.samples.proofs.Held.{held-few}
 use Rattle.samples.proofs.Values.{bad-most}
 use Rattle.links.specs.Links
 use Rattle.links.specs.declared.Sounder.{Sounder}
@@ -32,7 +36,7 @@ use Rattle.links.specs.declared.Channel.{Channel}
 use Rattle.links.specs.Links.{Link, mostSounders, mostChannels, signRules, rulesAmong}
 use Rattle.content.specs.Items.{rowIn, itemBy, itemOf, unless, linkBy, numberAt, digestOf, digestItem, digest, headRules, innerBy}
 use Rattle.content.specs.Items.{innerRules}
-use Rattle.content.specs.Pings.{headU, headC, wordsIn, contentU}
+use Rattle.content.specs.Pings.{headU, headC, partIn, countIn, wordsIn, contentU}
 use Rattle.intake.specs.inner.Tallies.{headVerdict, linkVerdict, innerVerdict, ownVerdict, turnVerdict}
 use Rattle.intake.proofs.Turns.{emptied}
 
@@ -64,11 +68,32 @@ module _ (o : Bool) (r : List ℕ) where
       let most = leb-true (lenAt o r) 262144 (both-true (eqb (lenAt o r % 4) 0 && leb 16 (lenAt o r)) (leb (lenAt o r) 262144) a .1) in
       omega (arith, most, length-take (sizeAt o r) (drop 6 r))
 
-  many : (h : ℕ) → 4 * length (wordsIn h o (front .body)) ≤ length (front .body)
-  unfolding wordsIn
-  many h =
+  part-few : (h : ℕ) → length (partIn h (front .body)) ≤ length (front .body)
+  unfolding partIn
+  part-few h =
       let d = front .body in
-      omega (arith, length-all 4 o (take (length d - (h + 4)) (drop h d)), length-take (length d - (h + 4)) (drop h d), length-drop h d)
+      omega (arith, length-take (length d - (h + 4)) (drop h d), length-drop h d)
+
+  -- a sample or a word of k bytes of which no more are than fit stands within them
+  within : (k i m : ℕ) → i ≤ m / k → k * i ≤ m
+  within k i m h = le-trans (mul-le-mul-left k h) (omega (arith, div-mul-le-self m k, mul-comm k (m / k)))
+
+  drop-within : (f : Family) → sampleBytes f * firstDrop 0 (allSamples f o (partIn headU (front .body))) ≤ length (front .body)
+  drop-within f =
+      let d = partIn headU (front .body) in
+      let i = firstDrop 0 (allSamples f o d) in
+      le-trans (within (sampleBytes f) i (length d) (omega (arith, drop-most (allSamples f o d) 0, samples-many f o d))) (part-few headU)
+
+  bad-within : (f : Family) → valueBytes f * firstBad f (wordsIn f o (front .body)) ≤ length (front .body)
+  unfolding wordsIn
+  bad-within f =
+      let d = partIn headC (front .body) in
+      let all = allWords (valueBytes f) o d in
+      let ws = wordsIn f o (front .body) in
+      le-trans
+      (within (valueBytes f) (firstBad f ws) (length d)
+      (omega (arith, bad-most f ws, held-few f (countIn o (front .body)) all, length-all (valueBytes f) o d)))
+      (part-few headC)
 
   inner-near : framing o r ≡ Fine → AllNear far (innerRules o front)
   unfolding contentU
@@ -77,10 +102,8 @@ module _ (o : Bool) (r : List ℕ) where
       by-shape : (q : Shape) → AllNear far (innerBy q o front)
       by-shape indexed = tt
       by-shape (row fs x) = tt
-      by-shape pairs =
-          let ws = wordsIn headU o (front .body) in
-          (omega (arith, drop-most (pairUp ws) 0, pairs-few ws, many headU, short e), tt)
-      by-shape words = (here-near, (omega (arith, bad-most wide (wordsIn headC o (front .body)), many headC, short e), (lit≤ tt, tt)))
+      by-shape (uncompressed f) = (here-near, (omega (arith, drop-within f, short e), tt))
+      by-shape (compressed f) = (here-near, (omega (arith, bad-within f, short e), (lit≤ tt, tt)))
       by-shape unlisted = tt
 
   pub own-near : framing o r ≡ Fine → Near far (ownVerdict o front)
@@ -207,6 +230,6 @@ quiet o t q = by-shape (shapeOf (t .kind))
     by-shape : (h : Shape) → Quiet (digestItem (itemBy h o t) .link)
     by-shape indexed = tt
     by-shape (row fs x) = quiet-row (saysOf (t .kind)) q (valuesOf o (rowIn fs x (length (t .body))) (t .body))
-    by-shape pairs = tt
-    by-shape words = tt
+    by-shape (uncompressed f) = tt
+    by-shape (compressed f) = tt
     by-shape unlisted = tt

@@ -16,11 +16,10 @@ use links::SOUNDERS;
 use links::Sounder;
 ghost use mathlib.Core.Path.{_≡_};
 ghost use Prim.Native.Nat.{_+_, _^_, _<_, _≤_};
-ghost use Rattle.layout.specs.Families.{isPing};
 ghost use lib.ListN.{length, drop};
 ghost use mathlib.Core.Bool.{_&&_, _||_};
 ghost use Rattle.layout.specs.Types;
-ghost use Rattle.layout.specs.Types.{inClass};
+ghost use Rattle.layout.specs.Types.{inClass, isPing};
 ghost use Rattle.frame.specs.Frames.{tupAt};
 ghost use Rattle.frame.specs.Files.{limit};
 ghost use Rattle.links.specs.Links.{mostChannels, Steady};
@@ -191,10 +190,27 @@ fn judge_inner(file: &[u8], at: usize, msb: bool, whole: usize, code: u16) -> Ve
 {
     let until = at + whole - frame::TAIL;
     match code {
-        types::PING_U => samples::judge_pairs(&file[at + samples::PAIRS..until], msb),
+        types::PING_U => samples::judge_pairs(&file[at + samples::SAMPLES..until], msb),
         types::PING_C => {
             let count = order::read4(file, at + samples::COUNT, msb);
             samples::judge_words(&file[at + samples::WORDS..until], msb, count)
+        }
+        types::PING_ANGLES => {
+            samples16::angles::judge_wide(&file[at + samples::SAMPLES..until], msb)
+        }
+        types::PING_U16 => {
+            samples16::judge_samples(&file[at + samples::SAMPLES..until], msb, false)
+        }
+        types::PING_U16_ANGLES => {
+            samples16::judge_samples(&file[at + samples::SAMPLES..until], msb, true)
+        }
+        types::PING_C16 => {
+            let count = order::read4(file, at + samples::COUNT, msb);
+            samples16::judge_words(&file[at + samples::WORDS..until], msb, count, false)
+        }
+        types::PING_CE16 => {
+            let count = order::read4(file, at + samples::COUNT, msb);
+            samples16::judge_words(&file[at + samples::WORDS..until], msb, count, true)
         }
         _ => Verdict::Fine,
     }
@@ -233,12 +249,10 @@ fn judge(
         return linked;
     };
     // what judges samples isn't inlined, and so it is called for pings alone
-    match code {
-        types::PING_U | types::PING_C => {
-            links::comparing(judge_inner(file, at, msb, whole, code), compared)
-        }
-        _ => linked,
+    if !is_ping(code) {
+        return linked;
     }
+    links::comparing(judge_inner(file, at, msb, whole, code), compared)
 }
 
 // A tuple's own rules, whatever stands before it: 9 and 8, then those of its samples. A signature that stands first breaks no 7.
@@ -472,10 +486,16 @@ pub fn check(file: &[u8]) -> Answer
 pub fn is_ping(code: u16) -> bool
     ensures { λ r. ⌜ r ≡ isPing code ⌝ }
 {
-    if code == types::PING_U {
-        return true;
+    match code {
+        types::PING_U => true,
+        types::PING_C => true,
+        types::PING_ANGLES => true,
+        types::PING_U16 => true,
+        types::PING_U16_ANGLES => true,
+        types::PING_C16 => true,
+        types::PING_CE16 => true,
+        _ => false,
     }
-    code == types::PING_C
 }
 
 // The parents of the ping where the tally stands in an accepted file, by the declarations before it; 9 where no listed ping is there.

@@ -3,7 +3,7 @@
 use mathlib.Core.Path.{_≡_, refl, sym, ap, subst, _∙_}
 use mathlib.Core.Bool.{Bool, true, false, cond, _&&_, _||_, true≢false}
 use mathlib.Core.List.{List, [], _∷_, map, reverse}
-use Prim.Native.Nat.{ℕ, zero, suc, _+_, _-_, _%_, _<_, _≤_}
+use Prim.Native.Nat.{ℕ, zero, suc, _-_, _%_, _<_, _≤_}
 use native.Mathlib.Omega.{arith}
 use borrow.Author.Tests.{le-leb, lt-leb, leb-true, leb-false, eqb-true, eq-eqb, ne-eqb}
 use lib.Dec.{eqb, leb}
@@ -11,9 +11,9 @@ use lib.ListN.{length, getD, drop}
 use Rattle.rules.proofs.Bools.{both-true, same-arms}
 use Rattle.layout.specs.declared.Says.{Says}
 use Rattle.layout.specs.declared.Says.the-variants.{Nothing, Sounder, Channel, Names, NamesOrAll}
-use Rattle.layout.specs.Fields.{Field, size}
-use Rattle.layout.specs.Types.{Shape, indexed, row, pairs, words, unlisted, classes, inClass, index}
-use Rattle.layout.specs.Types.{Length, free, exactly, upward, fitting, lengthFrom, leastOf, stepOf}
+use Rattle.layout.specs.Fields.{size}
+use Rattle.layout.specs.Types.{Shape, indexed, row, uncompressed, compressed, unlisted, classes, inClass, index}
+use Rattle.layout.specs.Types.{Length, free, fitting, lengthFrom, leastOf, stepOf, moreOf}
 use Rattle.layout.specs.Types.{Listing, Entry, entry, listings, listed, notListed, among, listingOf, shapeOf, lengthsOf, saysOf}
 use Rattle.layout.specs.inner.Codes.{placeAmong, placeIn, fieldsIn, codesIn, rowCodes, fieldOf, fieldsOf}
 use Rattle.layout.specs.inner.Codes.{measuredBy, measures, lengthBy}
@@ -155,22 +155,22 @@ module _ (k : ℕ) (h : placeIn k < listed) where
 abbrev pub Tabled : Shape → ℕ → Type 0
 Tabled indexed i = i ≡ listed
 Tabled (row fs x) i = i < listed
-Tabled pairs i = i < listed
-Tabled words i = i < listed
+Tabled (uncompressed f) i = i < listed
+Tabled (compressed f) i = i < listed
 Tabled unlisted i = i ≡ listed
 
 abbrev isPlaced : Shape → Bool
 isPlaced indexed = false
 isPlaced (row fs x) = true
-isPlaced pairs = true
-isPlaced words = true
+isPlaced (uncompressed f) = true
+isPlaced (compressed f) = true
 isPlaced unlisted = false
 
 placed-shape : (q : Shape) (i : ℕ) → isPlaced q ≡ true → i < listed → Tabled q i
 placed-shape indexed i e h = absurd (true≢false (sym e))
 placed-shape (row fs x) i e h = h
-placed-shape pairs i e h = h
-placed-shape words i e h = h
+placed-shape (uncompressed f) i e h = h
+placed-shape (compressed f) i e h = h
 placed-shape unlisted i e h = absurd (true≢false (sym e))
 
 pub tabled : (k : ℕ) → Tabled (shapeOf k) (placeIn k)
@@ -193,8 +193,8 @@ tabled k = by (leb listed (placeIn k)) refl
 abbrev isIndexed : Shape → Bool
 isIndexed indexed = true
 isIndexed (row fs x) = false
-isIndexed pairs = false
-isIndexed words = false
+isIndexed (uncompressed f) = false
+isIndexed (compressed f) = false
 isIndexed unlisted = false
 
 by-index : (k : ℕ) → isIndexed (shapeOf k) ≡ inClass index k
@@ -207,8 +207,8 @@ by-index = alike (λ k l. isIndexed (l .shape)) (λ k l. inClass index k) (unfol
 is-indexed : (q : Shape) → isIndexed q ≡ true → q ≡ indexed
 is-indexed indexed e = refl
 is-indexed (row fs x) e = absurd (true≢false (sym e))
-is-indexed pairs e = absurd (true≢false (sym e))
-is-indexed words e = absurd (true≢false (sym e))
+is-indexed (uncompressed f) e = absurd (true≢false (sym e))
+is-indexed (compressed f) e = absurd (true≢false (sym e))
 is-indexed unlisted e = absurd (true≢false (sym e))
 
 pub index-shape : (k : ℕ) → inClass index k ≡ true → shapeOf k ≡ indexed
@@ -219,11 +219,11 @@ shape-index k e = sym (by-index k) ∙ ap isIndexed e
 
 -- ---- codes, as a match on them leaves them
 -- k is none of some codes, of which the first was asked for last
-abbrev NoneOf : List ℕ → ℕ → Type 0
+abbrev pub NoneOf : List ℕ → ℕ → Type 0
 NoneOf [] k = Unit {0}
 NoneOf (c ∷ cs) k = NoneOf cs k × (k ≡ c → ⊥)
 
-abbrev hasCode : ℕ → List ℕ → Bool
+abbrev pub hasCode : ℕ → List ℕ → Bool
 hasCode c [] = false
 hasCode c (d ∷ cs) = eqb c d || hasCode c cs
 
@@ -272,7 +272,7 @@ sayersOf (l ∷ ls) cs = sayersOf ls (saying (l .listing .says) (l .code) cs)
 abbrev pub sayers : List ℕ
 sayers = sayersOf listings []
 
-none-has : (k : ℕ) (cs : List ℕ) → NoneOf cs k → hasCode k cs ≡ false
+pub none-has : (k : ℕ) (cs : List ℕ) → NoneOf cs k → hasCode k cs ≡ false
 none-has k cs n = by (hasCode k cs) refl
   where
     by : (b : Bool) → hasCode k cs ≡ b → b ≡ false
@@ -286,20 +286,27 @@ quiet k n =
     (λ j. same-arms (hasCode j sayers) Nothing) (λ j. same-arms (hasCode j sayers) Nothing) k
 
 -- ---- a length by its least and its step, as the code tests it
-pub fixed : (least step n : ℕ) → step ≡ 0 → eqb n least ≡ fitting (lengthBy least step) n
-fixed least step n e = rw e
+pub fixed : (least step more n : ℕ) → step ≡ 0 → eqb n least ≡ fitting (lengthBy least step more) n
+fixed least step more n e = rw e
 
-pub short : (least step n : ℕ) → (step ≡ 0 → ⊥) → n < least → false ≡ fitting (lengthBy least step) n
-short least zero n e h = absurd (e refl)
-short least (suc step) n e h = rw (lt-leb least n h)
+pub short : (least step more n : ℕ) → (step ≡ 0 → ⊥) → n < least → false ≡ fitting (lengthBy least step more) n
+short least zero more n e h = absurd (e refl)
+short least (suc step) zero n e h = rw (lt-leb least n h)
+short least (suc step) (suc more) n e h = rw (lt-leb least n h)
 
-pub long : (least step n : ℕ) → (step ≡ 0 → ⊥) → least ≤ n → eqb ((n - least) % step) 0 ≡ fitting (lengthBy least step) n
-long least zero n e h = absurd (e refl)
-long least (suc step) n e h = rw (le-leb least n h)
+twice : (b : Bool) → (b || b) ≡ b
+twice true = refl
+twice false = refl
+
+pub long : (least step more n : ℕ) → (step ≡ 0 → ⊥) → least ≤ n
+    → (eqb ((n - least) % step) 0 || eqb ((n - least) % step) more) ≡ fitting (lengthBy least step more) n
+long least zero more n e h = absurd (e refl)
+long least (suc step) zero n e h = rw (le-leb least n h) (twice (eqb ((n - least) % suc step) 0))
+long least (suc step) (suc more) n e h = rw (le-leb least n h)
 
 -- the lengths of a listed type are those of its least and its step; a type that is not listed has any
 abbrev ranged : Length → Length
-ranged l = lengthBy (leastOf l) (stepOf l)
+ranged l = lengthBy (leastOf l) (stepOf l) (moreOf l)
 
 pub length-there : (k : ℕ) → placeIn k < listed → ranged (lengthsOf k) ≡ lengthsOf k
 length-there k h = each-there k h free (λ l. ranged (l .length)) (λ l. l .length) (unfold listings in refl)

@@ -10,7 +10,7 @@ ghost use lib.ListN.{getD};
 ghost use Rattle.layout.specs.Answers.{accepting};
 ghost use Rattle.layout.specs.Fields.{known};
 ghost use Rattle.layout.specs.Types.{inClass, listed, lengthsOf, saysOf, fitting, sameMaker};
-ghost use Rattle.layout.specs.inner.Codes.{placeIn, rowCodes, measures, makerNumber, makerOf};
+ghost use Rattle.layout.specs.inner.Codes.{placeIn, rowed, rowCodes, measures, makerNumber, makerOf};
 
 // What an acceptance counts: the tuples of what was handed in, the bytes or samples written, the identifiers compared while linking
 // the tuples of a file.
@@ -67,8 +67,11 @@ const BIOSONICS: u32 = 0;
 
 const SIMRAD: u32 = 1;
 
-// The listed types, and the longest of their rows.
-pub const LISTED: usize = 15;
+// The listed types; those of them that are read and turned by their rows, which come first; and the longest of these rows. The pings
+// behind them have the row of the U-32 ping.
+pub const LISTED: usize = 20;
+
+pub const ROWED: usize = 15;
 
 pub const ROW: usize = 27;
 
@@ -94,7 +97,7 @@ const CLASSES: [[u16; 2]; 5] = [
 
 // The fields of each listed type, behind its type and before its attribute: 2 and 4 a number of as many bytes, s and S a signed
 // one, c thirty characters, z a space of two bytes, i the signature's identifier; a dot ends a row.
-const ROWS: [[u8; ROW]; LISTED] = [
+const ROWS: [[u8; ROW]; ROWED] = [
     *b"i224.......................",
     *b"2422s2s22s22cz.............",
     *b"24222222222S2s4c...........",
@@ -113,29 +116,35 @@ const ROWS: [[u8; ROW]; LISTED] = [
 ];
 
 // How many fields each row has: its codes before the dots.
-pub const FIELDS: [usize; LISTED] = [4, 14, 16, 27, 27, 7, 6, 10, 11, 2, 6, 7, 2, 2, 3];
+pub const FIELDS: [usize; ROWED] = [4, 14, 16, 27, 27, 7, 6, 10, 11, 2, 6, 7, 2, 2, 3];
 
 // What each listed type measures: of its row the numbers, the bytes before its characters, the bytes but for these and all bytes; its
-// least length, and by what step it may be longer: a step of 0 allows the one length alone.
-const MEASURES: [[usize; 6]; LISTED] = [
-    [3, 10, 10, 10, 24, 0],
-    [12, 26, 28, 58, 72, 0],
-    [15, 36, 36, 66, 80, 0],
-    [24, 62, 64, 94, 108, 0],
-    [24, 62, 64, 94, 108, 0],
-    [6, 22, 22, 22, 36, 0],
-    [5, 14, 14, 14, 28, 0],
-    [9, 22, 22, 22, 36, 0],
-    [11, 30, 30, 30, 44, 0],
-    [2, 6, 6, 6, 24, 4],
-    [6, 18, 18, 18, 40, 8],
-    [7, 22, 22, 22, 40, 4],
-    [2, 6, 6, 6, 20, 0],
-    [2, 6, 6, 6, 20, 0],
-    [3, 8, 8, 8, 24, 4],
+// least length, and by what step it may be longer: a step of 0 allows the one length alone; and the bytes more that it may be longer
+// besides, or 0.
+const MEASURES: [[usize; 7]; LISTED] = [
+    [3, 10, 10, 10, 24, 0, 0],
+    [12, 26, 28, 58, 72, 0, 0],
+    [15, 36, 36, 66, 80, 0, 0],
+    [24, 62, 64, 94, 108, 0, 0],
+    [24, 62, 64, 94, 108, 0, 0],
+    [6, 22, 22, 22, 36, 0, 0],
+    [5, 14, 14, 14, 28, 0, 0],
+    [9, 22, 22, 22, 36, 0, 0],
+    [11, 30, 30, 30, 44, 0, 0],
+    [2, 6, 6, 6, 24, 4, 0],
+    [6, 18, 18, 18, 40, 8, 0],
+    [7, 22, 22, 22, 40, 4, 0],
+    [2, 6, 6, 6, 20, 0, 0],
+    [2, 6, 6, 6, 20, 0, 0],
+    [3, 8, 8, 8, 24, 4, 0],
+    [6, 18, 18, 18, 40, 8, 0],
+    [6, 18, 18, 18, 36, 4, 0],
+    [6, 18, 18, 18, 40, 12, 4],
+    [7, 22, 22, 22, 40, 4, 0],
+    [7, 22, 22, 22, 40, 4, 0],
 ];
 
-// The places of these six.
+// The places of these seven.
 pub const NUMBERS: usize = 0;
 
 pub const BEFORE: usize = 1;
@@ -147,6 +156,8 @@ pub const SIZE: usize = 3;
 const LEAST: usize = 4;
 
 const STEP: usize = 5;
+
+const MORE: usize = 6;
 
 // A fault at a tuple's first byte.
 pub fn fault(code: u8) -> Verdict
@@ -222,6 +233,11 @@ pub fn listing_of(code: u16) -> usize
         types::RUN_START => 12,
         types::RUN_END => 13,
         types::FILE_END => 14,
+        types::PING_ANGLES => 15,
+        types::PING_U16 => 16,
+        types::PING_U16_ANGLES => 17,
+        types::PING_C16 => 18,
+        types::PING_CE16 => 19,
         _ => LISTED,
     }
 }
@@ -229,7 +245,7 @@ pub fn listing_of(code: u16) -> usize
 // What the tables say of a listing, by a constant place each: the compiler keeps no table, and ROWS[listing] would build all of it at
 // each call. Its row
 pub fn row(listing: usize) -> [u8; ROW]
-    requires { ⌜ listing < listed ⌝ }
+    requires { ⌜ listing < rowed ⌝ }
     ensures { λ r. ⌜ r ≡ getD rowCodes listing [] ⌝ }
 {
     match listing {
@@ -252,7 +268,7 @@ pub fn row(listing: usize) -> [u8; ROW]
 }
 
 // and what it measures.
-pub fn measure(listing: usize) -> [usize; 6]
+pub fn measure(listing: usize) -> [usize; 7]
     requires { ⌜ listing < listed ⌝ }
     ensures { λ r. ⌜ r ≡ getD measures listing [] ⌝ }
 {
@@ -271,7 +287,12 @@ pub fn measure(listing: usize) -> [usize; 6]
         11 => MEASURES[11],
         12 => MEASURES[12],
         13 => MEASURES[13],
-        _ => MEASURES[14],
+        14 => MEASURES[14],
+        15 => MEASURES[15],
+        16 => MEASURES[16],
+        17 => MEASURES[17],
+        18 => MEASURES[18],
+        _ => MEASURES[19],
     }
 }
 
@@ -288,6 +309,11 @@ pub fn says_of(code: u16) -> Says
         types::THRESHOLD => Says::Names,
         types::PING_U => Says::Names,
         types::PING_C => Says::Names,
+        types::PING_ANGLES => Says::Names,
+        types::PING_U16 => Says::Names,
+        types::PING_U16_ANGLES => Says::Names,
+        types::PING_C16 => Says::Names,
+        types::PING_CE16 => Says::Names,
         _ => Says::Nothing,
     }
 }
@@ -337,5 +363,6 @@ pub fn fits(code: u16, length: usize) -> bool
     if length < least {
         return false;
     }
-    (length - least) % step == 0
+    let over = (length - least) % step;
+    (over == 0) | (over == measure[MORE])
 }

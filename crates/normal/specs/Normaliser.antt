@@ -10,7 +10,7 @@ use Rattle.layout.specs.declared.Counts.{Counts}
 use Rattle.layout.specs.declared.Answer.{Answer}
 use Rattle.layout.specs.declared.Answer.the-variants.{Accepted, Refused}
 use Rattle.layout.specs.Answers.{numbers, Tells, leftBy, counting}
-use Rattle.layout.specs.Types.{Shape, indexed, row, pairs, words, unlisted, shapeOf}
+use Rattle.layout.specs.Types.{Shape, indexed, row, uncompressed, compressed, unlisted, shapeOf}
 use Rattle.frame.specs.Frames.{Tup, lengthOf}
 use Rattle.frame.specs.Files.{limit, isMsb}
 use Rattle.frame.specs.Tuples.{tuplesOf}
@@ -21,8 +21,8 @@ use Rattle.normal.specs.Contents.{normalOf}
 abbrev pub isUnlisted : Shape → Bool
 isUnlisted indexed = false
 isUnlisted (row fs x) = false
-isUnlisted pairs = false
-isUnlisted words = false
+isUnlisted (uncompressed f) = false
+isUnlisted (compressed f) = false
 isUnlisted unlisted = true
 
 -- the place of the first such tuple, the first of them all standing at a place; where none is, that of the end

@@ -1,5 +1,4 @@
 pub mod Handing
+pub mod Parts
 pub mod Reading
-pub mod Storing
-pub mod Pinging
 pub mod Fielding

@@ -1,10 +1,8 @@
 -- What a ping's field reader answers and hands over. Assumes nothing.
 use mathlib.Core.Path.{_≡_, sym, _∙_}
 use Prim.Native.Nat.{ℕ}
-use mathlib.Core.Bool.{cond}
 use mathlib.Core.List.{List, [], _∷_, _++_}
 use mathlib.Core.Option.{Option, some, none}
-use lib.Dec.{eqb}
 use lib.ListN.{length}
 use Rattle.order.specs.Order.{signedOf, patternOf}
 use Rattle.layout.specs.declared.Answer.{Answer}
@@ -14,14 +12,15 @@ use Rattle.layout.specs.Answers.{Numbers, numbers, Tells, accepting}
 use Rattle.turning.specs.Rows.{Value, numbersIn}
 use Rattle.content.specs.Pings.{Ping}
 use Rattle.content.specs.Items.{Item, plain, ping, raw, numberAt}
-use Rattle.layout.specs.Families.{wide, isPing}
+use Rattle.layout.specs.Families.{Family, wide, narrow, encoded, wideAngles, narrowAngles}
+use Rattle.layout.specs.Types.{Shape, indexed, row, uncompressed, compressed, unlisted, shapeOf, isPing}
 use Rattle.tuples.specs.Readers.{tupleThere, readAnswer, readItem}
 use Rattle.pings.specs.Headers.{headOf, toldLength}
 use Rattle.pings.specs.declared.PingLength.{PingLength}
 use Rattle.pings.specs.declared.PingLength.the-variants.{Absent, Samples}
 use Rattle.pings.specs.declared.PingHeader.{PingHeader}
 use Rattle.pings.specs.declared.PingKind.{PingKind}
-use Rattle.pings.specs.declared.PingKind.the-variants.{U32, C32}
+use Rattle.pings.specs.declared.PingKind.the-variants.{U32, C32, U32Angles, U16, U16Angles, C16, CE16}
 use Rattle.pings.specs.declared.PingRead.{PingRead}
 use Rattle.pings.specs.declared.PingRead.the-variants.{Read, Refused}
 
@@ -39,13 +38,35 @@ headerOf vs =
 
 -- the ping there
 abbrev pub pingBy : Option Item → Ping
-pingBy none = record { head = []; samples = []; length = none; attr = 0 }
-pingBy (some (plain k vs)) = record { head = []; samples = []; length = none; attr = 0 }
+pingBy none = record { family = wide; head = []; samples = []; length = none; attr = 0 }
+pingBy (some (plain k vs)) = record { family = wide; head = []; samples = []; length = none; attr = 0 }
 pingBy (some (ping q)) = q
-pingBy (some (raw k d)) = record { head = []; samples = []; length = none; attr = 0 }
+pingBy (some (raw k d)) = record { family = wide; head = []; samples = []; length = none; attr = 0 }
+
+-- its kind, by its type: uncompressed and compressed ones of each family
+abbrev pub kindU : Family → PingKind
+kindU wide = U32
+kindU narrow = U16
+kindU encoded = CE16
+kindU wideAngles = U32Angles
+kindU narrowAngles = U16Angles
+
+abbrev pub kindC : Family → PingKind
+kindC wide = C32
+kindC narrow = C16
+kindC encoded = CE16
+kindC wideAngles = U32Angles
+kindC narrowAngles = U16Angles
+
+abbrev pub kindBy : Shape → PingKind
+kindBy indexed = U32
+kindBy (row fs x) = U32
+kindBy (uncompressed f) = kindU f
+kindBy (compressed f) = kindC f
+kindBy unlisted = U32
 
 abbrev pub kindOfPing : ℕ → PingKind
-kindOfPing k = cond (eqb k (wide .plain)) U32 C32
+kindOfPing k = kindBy (shapeOf k)
 
 -- its fields: header, attribute, kind, number of values and length
 abbrev pub fieldsBy : Ping → ℕ → PingRead
@@ -66,6 +87,11 @@ pingNumbers r = numbers (answerOf r)
 abbrev pub kindNumber : PingKind → ℕ
 kindNumber U32 = 0
 kindNumber C32 = 1
+kindNumber U32Angles = 2
+kindNumber U16 = 3
+kindNumber U16Angles = 4
+kindNumber C16 = 5
+kindNumber CE16 = 6
 
 abbrev pub lengthNumbers : PingLength → List ℕ
 lengthNumbers Absent = 0 ∷ 0 ∷ []

@@ -1,36 +1,43 @@
-// Pings: reading a listed ping's samples at any place of any file, and writing pings into lent memory. What is the own of each of the
-// two types stands in `of_pairs` and `of_words`.
+// Pings: reading a listed ping's fields, samples and angles at any place of any file; `ping_writers` writes pings. What is the own of each
+// type stands in its module.
+pub mod of_c16;
+pub mod of_ce16;
 pub mod of_pairs;
+pub mod of_u16;
+pub mod of_u16_angles;
+pub mod of_u32_16_angles;
 pub mod of_words;
 
 use layout::Answer;
 use layout::SoftwareChannel;
 use layout::codes;
 use layout::types;
-use samples::PAIR;
-use samples::WORD;
 use tuples::Opened;
 ghost use mathlib.Core.Path.{_≡_};
-ghost use mathlib.Core.Bool.{false};
-ghost use Prim.Native.Nat.{_+_, _-_, _%_, _^_, _≤_, _<_, min};
-ghost use lib.ListN.{length, drop};
+ghost use mathlib.Core.Bool.{true};
+ghost use Prim.Native.Nat.{_+_, _-_, _%_, _≤_};
+ghost use lib.ListN.{length, take, drop};
 ghost use lib.Seq.{sets};
-ghost use Rattle.samples.specs.Words.{allWords, pairUp};
-ghost use Rattle.samples.specs.Runs.{radix, decode, pingLength, quiet};
-ghost use Rattle.samples.specs.Judging.{tooShort};
-ghost use Rattle.samples.specs.inner.Lists.{numbered};
-ghost use Rattle.pings.specs.Readers.{samplesAt, SamplesRead};
-ghost use Rattle.pings.specs.inner.Handing.{Handed, SoundPing};
-ghost use Rattle.layout.specs.Types.{pingRow};
+ghost use Rattle.samples.specs.Words.{allWords};
+ghost use Rattle.samples.specs.Lists.{numbersOf, valuesOf, alongshipOf, athwartshipOf};
+ghost use Rattle.samples.specs.Runs.{radix, pingLength};
+ghost use Rattle.samples.specs.inner.Lists.{Room};
+ghost use Rattle.samples.specs.inner.Narrow.{AngleRoom};
+ghost use Rattle.layout.specs.Families.{wide, narrow};
+ghost use Rattle.layout.specs.Types.{pingRow, shapeOf, isPing};
 ghost use Rattle.rows.specs.Places.{placesFrom};
-ghost use Rattle.turning.specs.Rows.{valuesOf, encode};
-ghost use Rattle.frame.specs.inner.Framing.{openingBytes};
-ghost use Rattle.pings.specs.Fields.{headerOf, pingFields, PingAt};
-ghost use Rattle.pings.specs.Writers.{empty};
-ghost use Rattle.pings.specs.Headers.{headOf, handedLength, toldLength, WrittenU, WrittenC};
-ghost use Rattle.pings.specs.inner.Sound.{SoundList, bytesBy};
+ghost use Rattle.turning.specs.Rows;
+ghost use Rattle.tuples.specs.Readers.{isValued, isAngled};
+ghost use Rattle.tuples.specs.inner.Opening.{Readable};
+ghost use Rattle.pings.specs.Headers.{toldLength};
+ghost use Rattle.pings.specs.Readers.{SamplesRead, AnglesRead};
+ghost use Rattle.pings.specs.Fields.{headerOf, kindOfPing, pingFields, PingAt};
+ghost use Rattle.pings.specs.inner.Handing.{partWords, partSamples, partLength, partWidth, SoundPart, Handed, HandedAngles};
 
-// The fields before a ping's samples: TR Tables 6 and 20.
+// Where words stand in what is behind a header: behind the number of samples.
+const FIRST_WORD: usize = samples::WORDS - samples::SAMPLES;
+
+// The fields before a ping's samples: TR Tables 6 and 19 to 24.
 pub struct PingHeader {
     pub time_fraction: u16,
     pub time_cpu: u32,
@@ -69,10 +76,15 @@ impl PingHeader {
     }
 }
 
-// The two ways in which a ping's samples are stored.
+// The ways in which a ping's samples are stored.
 pub enum PingKind {
     U32,
     C32,
+    U32Angles,
+    U16,
+    U16Angles,
+    C16,
+    CE16,
 }
 
 // A ping's length, where it ends in a run: how many samples it has, runs counted. Any other ping has none.
@@ -96,88 +108,187 @@ pub enum PingRead {
     },
 }
 
-// Hands over the samples of a U-32 ping's pairs; 19 where either slice is short.
-fn hand_pairs(part: &[u8], msb: bool, numbers: &mut [u32], values: &mut [i32]) -> Answer
-    ensures { λ r.
-        ⌜ Handed (pairUp (allWords 4 msb (now (part .entry)))) (now (numbers .entry)) (now (values .entry)) r (now (numbers .exit))
-        (now (values .exit)) ⌝ }
+// ---- what stands between a ping's header and its attribute, its part
+// How many of its samples have values, or angles: a compressed ping's number of samples says it, of any other ping its bytes.
+fn count_values(part: &[u8], msb: bool, code: u16) -> usize
+    requires { ⌜ SoundPart code msb (now part) ⌝ }
+    ensures { λ r. ⌜ r ≡ length (partSamples (shapeOf code) msb (now (part .entry))) ⌝ }
 {
-    let n = part.len() / PAIR;
-    if numbers.len() < n {
-        return layout::refuse(codes::NO_ROOM, 0);
+    match code {
+        types::PING_U => part.len() / samples::PAIR,
+        types::PING_ANGLES => part.len() / samples::PAIR,
+        types::PING_U16 => part.len() / samples16::PAIR,
+        types::PING_U16_ANGLES => part.len() / samples16::TRIPLE,
+        // C-32, C-16, CE-16
+        _ => order::read4(part, 0, msb) as usize,
     }
-    if values.len() < n {
-        return layout::refuse(codes::NO_ROOM, 0);
-    }
-    samples::read_pairs(part, msb, numbers, values);
-    layout::accept(1, n)
 }
 
-// Hands over the samples of a C-32 ping's words, as many as the ping counts; 19 where either slice is short.
-fn hand_words(part: &[u8], msb: bool, n: usize, numbers: &mut [u32], values: &mut [i32]) -> Answer
-    requires { ⌜ length (now part) ≤ 262108 ⌝ }
-    requires { ⌜ n ≡ length (decode radix (allWords 4 msb (now part))) ⌝ }
-    ensures { λ r.
-        ⌜ Handed (decode radix (allWords 4 msb (now (part .entry)))) (now (numbers .entry)) (now (values .entry)) r (now (numbers .exit))
-        (now (values .exit)) ⌝ }
+// Where the words of a C-16 or a CE-16 ping end in its part: a space behind them is none.
+fn words_end(part: &[u8], msb: bool) -> usize
+    requires { ⌜ (8 ≤ length (now part)) × (length (now part) % 4 ≡ 0) × (length (now part) ≤ 262112) ⌝ }
+    ensures { λ r. ⌜ allWords 2 msb (take (r - 4) (drop 4 (now (part .entry)))) ≡ partWords narrow msb (now (part .entry)) ⌝ }
+    ensures { λ r. ⌜ (6 ≤ r) × (r ≤ length (now (part .entry))) × (r % 2 ≡ 0) ⌝ }
 {
-    if numbers.len() < n {
-        return layout::refuse(codes::NO_ROOM, 0);
-    }
-    if values.len() < n {
-        return layout::refuse(codes::NO_ROOM, 0);
-    }
-    samples::read_words(part, msb, numbers, values);
-    layout::accept(1, n)
+    let count = order::read4(part, 0, msb);
+    FIRST_WORD + samples16::held(&part[FIRST_WORD..part.len()], msb, count)
 }
 
-// Hands over the samples of a ping that keeps its own rules. A C-32 ping's number of samples is then the number of its values.
-fn hand_over(
-    file: &[u8],
-    place: usize,
+// ---- samples
+// Reads the samples of a part into slices that have room for them.
+fn take_samples(part: &[u8], msb: bool, code: u16, numbers: &mut [u32], values: &mut [i32])
+    requires { ⌜ SoundPart code msb (now part) ⌝ }
+    requires { ⌜ isValued code ≡ true ⌝ }
+    requires { ⌜ Room (partSamples (shapeOf code) msb (now part)) (now numbers) (now values) ⌝ }
+    ensures { λ _.
+        ⌜ now (numbers .exit) ≡ sets (now (numbers .entry)) 0 (numbersOf (partSamples (shapeOf code) msb (now (part .entry)))) ⌝ }
+    ensures { λ _.
+        ⌜ now (values .exit) ≡ sets (now (values .entry)) 0
+        (valuesOf (partWidth (shapeOf code)) (partSamples (shapeOf code) msb (now (part .entry)))) ⌝ }
+{
+    match code {
+        types::PING_U => samples::read_pairs(part, msb, numbers, values),
+        types::PING_C => {
+            samples::read_words(&part[FIRST_WORD..part.len()], msb, numbers, values)
+        }
+        types::PING_U16 => samples16::read_samples(part, msb, numbers, values),
+        types::PING_C16 => {
+            let end = words_end(part, msb);
+            samples16::read_words(&part[FIRST_WORD..end], msb, false, numbers, values)
+        }
+        // CE-16
+        _ => {
+            let end = words_end(part, msb);
+            samples16::read_words(&part[FIRST_WORD..end], msb, true, numbers, values)
+        }
+    }
+}
+
+// Hands over the samples of a part; 19 where either slice is short.
+fn hand_samples(
+    part: &[u8],
     msb: bool,
-    whole: usize,
     code: u16,
     numbers: &mut [u32],
     values: &mut [i32],
 ) -> Answer
-    requires { ⌜ SoundPing (now file) place msb whole code ⌝ }
+    requires { ⌜ SoundPart code msb (now part) ⌝ }
+    requires { ⌜ isValued code ≡ true ⌝ }
     ensures { λ r.
-        ⌜ Handed (samplesAt (now (file .entry)) place) (now (numbers .entry)) (now (values .entry)) r (now (numbers .exit))
-        (now (values .exit)) ⌝ }
+        ⌜ Handed (partWidth (shapeOf code)) (partSamples (shapeOf code) msb (now (part .entry))) (now (numbers .entry))
+        (now (values .entry)) r (now (numbers .exit)) (now (values .exit)) ⌝ }
 {
-    let until = place + whole - frame::TAIL;
-    if code == types::PING_U {
-        return hand_pairs(&file[place + samples::PAIRS..until], msb, numbers, values);
+    let n = count_values(part, msb, code);
+    if numbers.len() < n {
+        return layout::refuse(codes::NO_ROOM, 0);
     }
-    let count = order::read4(file, place + samples::COUNT, msb) as usize;
-    hand_words(
-        &file[place + samples::WORDS..until],
-        msb,
-        count,
-        numbers,
-        values,
-    )
+    if values.len() < n {
+        return layout::refuse(codes::NO_ROOM, 0);
+    }
+    take_samples(part, msb, code, numbers, values);
+    layout::accept(1, n)
 }
 
-// Reads a listed ping's samples into two lent slices: numbers and signed values, one entry a sample.
+// Reads a listed ping's samples into two lent slices: numbers and signed values, one entry a sample; 9 for a ping with angles.
 pub fn read_samples(file: &[u8], place: usize, numbers: &mut [u32], values: &mut [i32]) -> Answer
     ensures { λ r.
         ⌜ SamplesRead (now (file .entry)) place (now (numbers .entry)) (now (values .entry)) r (now (numbers .exit))
         (now (values .exit)) ⌝ }
 {
-    match tuples::open_ping(file, place) {
+    match tuples::open_valued(file, place) {
         Opened::Refused { code, place } => layout::refuse(code, place),
         Opened::Tuple { msb, whole, code } => {
-            hand_over(file, place, msb, whole, code, numbers, values)
+            let part = &file[place + samples::SAMPLES..place + whole - frame::TAIL];
+            hand_samples(part, msb, code, numbers, values)
         }
     }
 }
 
+// ---- angles
+// Reads the angles of a part into slices that have room for them.
+fn take_angles(
+    part: &[u8],
+    msb: bool,
+    code: u16,
+    numbers: &mut [u32],
+    alongship: &mut [i16],
+    athwartship: &mut [i16],
+)
+    requires { ⌜ isAngled code ≡ true ⌝ }
+    requires { ⌜ AngleRoom (partSamples (shapeOf code) msb (now part)) (now numbers) (now alongship) (now athwartship) ⌝ }
+    ensures { λ _.
+        ⌜ now (numbers .exit) ≡ sets (now (numbers .entry)) 0 (numbersOf (partSamples (shapeOf code) msb (now (part .entry)))) ⌝ }
+    ensures { λ _.
+        ⌜ now (alongship .exit) ≡ sets (now (alongship .entry)) 0 (alongshipOf (partSamples (shapeOf code) msb (now (part .entry)))) ⌝ }
+    ensures { λ _.
+        ⌜ now (athwartship .exit) ≡ sets (now (athwartship .entry)) 0
+        (athwartshipOf (partSamples (shapeOf code) msb (now (part .entry)))) ⌝ }
+{
+    match code {
+        types::PING_ANGLES => {
+            samples16::angles::read_wide(part, msb, numbers, alongship, athwartship)
+        }
+        // U-16-angles
+        _ => samples16::angles::read_narrow(part, msb, numbers, alongship, athwartship),
+    }
+}
+
+// Hands over the angles of a part; 19 where one of the slices is short.
+fn hand_angles(
+    part: &[u8],
+    msb: bool,
+    code: u16,
+    numbers: &mut [u32],
+    alongship: &mut [i16],
+    athwartship: &mut [i16],
+) -> Answer
+    requires { ⌜ SoundPart code msb (now part) ⌝ }
+    requires { ⌜ isAngled code ≡ true ⌝ }
+    ensures { λ r.
+        ⌜ HandedAngles (partSamples (shapeOf code) msb (now (part .entry))) (now (numbers .entry)) (now (alongship .entry))
+        (now (athwartship .entry)) r (now (numbers .exit)) (now (alongship .exit)) (now (athwartship .exit)) ⌝ }
+{
+    let n = count_values(part, msb, code);
+    if numbers.len() < n {
+        return layout::refuse(codes::NO_ROOM, 0);
+    }
+    if alongship.len() < n {
+        return layout::refuse(codes::NO_ROOM, 0);
+    }
+    if athwartship.len() < n {
+        return layout::refuse(codes::NO_ROOM, 0);
+    }
+    take_angles(part, msb, code, numbers, alongship, athwartship);
+    layout::accept(1, n)
+}
+
+// Reads the angles of a listed ping that has angles into three lent slices: numbers, and the angles alongship and athwartship, one entry
+// a sample; 9 for a ping with values.
+pub fn read_angles(
+    file: &[u8],
+    place: usize,
+    numbers: &mut [u32],
+    alongship: &mut [i16],
+    athwartship: &mut [i16],
+) -> Answer
+    ensures { λ r.
+        ⌜ AnglesRead (now (file .entry)) place (now (numbers .entry)) (now (alongship .entry)) (now (athwartship .entry)) r
+        (now (numbers .exit)) (now (alongship .exit)) (now (athwartship .exit)) ⌝ }
+{
+    match tuples::open_angled(file, place) {
+        Opened::Refused { code, place } => layout::refuse(code, place),
+        Opened::Tuple { msb, whole, code } => {
+            let part = &file[place + samples::SAMPLES..place + whole - frame::TAIL];
+            hand_angles(part, msb, code, numbers, alongship, athwartship)
+        }
+    }
+}
+
+// ---- fields
 // The header of the ping at a place.
 fn header_at(file: &[u8], place: usize, msb: bool) -> PingHeader
     requires { ⌜ place + 24 ≤ length (now file) ⌝ }
-    ensures { λ r. ⌜ r ≡ headerOf (valuesOf msb pingRow (drop (place + 6) (now (file .entry)))) ⌝ }
+    ensures { λ r. ⌜ r ≡ headerOf (Rows.valuesOf msb pingRow (drop (place + 6) (now (file .entry)))) ⌝ }
 {
     PingHeader {
         time_fraction: order::read2(file, place + PingHeader::TIME_FRACTION, msb),
@@ -197,46 +308,77 @@ fn header_at(file: &[u8], place: usize, msb: bool) -> PingHeader
     }
 }
 
-// The length of a C-32 ping by its words.
-fn length_of(part: &[u8], msb: bool) -> PingLength
-    requires { ⌜ 4 ≤ length (now part) ⌝ }
-    requires { ⌜ length (now part) % 4 ≡ 0 ⌝ }
-    requires { ⌜ length (now part) ≤ 262108 ⌝ }
-    ensures { λ r. ⌜ r ≡ toldLength (pingLength radix (allWords 4 msb (now (part .entry)))) ⌝ }
+// The kind of a listed ping.
+fn kind_of(code: u16) -> PingKind
+    requires { ⌜ isPing code ≡ true ⌝ }
+    ensures { λ r. ⌜ r ≡ kindOfPing code ⌝ }
 {
-    if samples::ends_in_run(part, msb) {
-        return PingLength::Samples(samples::count_samples(part, msb));
+    match code {
+        types::PING_U => PingKind::U32,
+        types::PING_C => PingKind::C32,
+        types::PING_ANGLES => PingKind::U32Angles,
+        types::PING_U16 => PingKind::U16,
+        types::PING_U16_ANGLES => PingKind::U16Angles,
+        types::PING_C16 => PingKind::C16,
+        _ => PingKind::CE16,
+    }
+}
+
+// The length of a C-32 ping by its part.
+fn length_of(part: &[u8], msb: bool) -> PingLength
+    requires { ⌜ (8 ≤ length (now part)) × (length (now part) % 4 ≡ 0) × (length (now part) ≤ 262112) ⌝ }
+    ensures { λ r. ⌜ r ≡ toldLength (pingLength radix (partWords wide msb (now (part .entry)))) ⌝ }
+{
+    let words = &part[FIRST_WORD..part.len()];
+    if samples::ends_in_run(words, msb) {
+        return PingLength::Samples(samples::count_samples(words, msb));
     }
     PingLength::Absent
 }
 
-// The fields of a ping that keeps its own rules. A C-32 ping's number of samples is then the number of its values.
-fn fields_at(file: &[u8], place: usize, msb: bool, whole: usize, code: u16) -> PingRead
-    requires { ⌜ SoundPing (now file) place msb whole code ⌝ }
-    ensures { λ r. ⌜ r ≡ pingFields (now (file .entry)) place ⌝ }
+// The same of a C-16 or a CE-16 ping.
+fn length_of16(part: &[u8], msb: bool) -> PingLength
+    requires { ⌜ (8 ≤ length (now part)) × (length (now part) % 4 ≡ 0) × (length (now part) ≤ 262112) ⌝ }
+    ensures { λ r. ⌜ r ≡ toldLength (pingLength 256 (partWords narrow msb (now (part .entry)))) ⌝ }
 {
-    let header = header_at(file, place, msb);
-    let attribute = tuples::signed4_at(file, place + (whole - frame::TAIL), msb);
-    if code == types::PING_U {
-        return PingRead::Read {
-            header,
-            attribute,
-            kind: PingKind::U32,
-            values: (whole - samples::PAIRS - frame::TAIL) / PAIR,
-            length: PingLength::Absent,
-        };
+    let end = words_end(part, msb);
+    let words = &part[FIRST_WORD..end];
+    if samples16::ends_in_run(words, msb) {
+        return PingLength::Samples(samples16::count_samples(words, msb));
     }
-    let words = &file[place + samples::WORDS..place + whole - frame::TAIL];
-    PingRead::Read {
-        header,
-        attribute,
-        kind: PingKind::C32,
-        values: order::read4(file, place + samples::COUNT, msb) as usize,
-        length: length_of(words, msb),
+    PingLength::Absent
+}
+
+// The length of a ping by its part: an uncompressed one has none.
+fn length_by(part: &[u8], msb: bool, code: u16) -> PingLength
+    requires { ⌜ SoundPart code msb (now part) ⌝ }
+    ensures { λ r. ⌜ r ≡ toldLength (partLength (shapeOf code) msb (now (part .entry))) ⌝ }
+{
+    match code {
+        types::PING_C => length_of(part, msb),
+        types::PING_C16 => length_of16(part, msb),
+        types::PING_CE16 => length_of16(part, msb),
+        _ => PingLength::Absent,
     }
 }
 
-// Reads a listed ping's fields: what its sample reader would refuse is refused here too.
+// The fields of a ping that keeps its own rules.
+fn fields_at(file: &[u8], place: usize, msb: bool, whole: usize, code: u16) -> PingRead
+    requires { ⌜ Readable isPing (now file) place msb whole code ⌝ }
+    ensures { λ r. ⌜ r ≡ pingFields (now (file .entry)) place ⌝ }
+{
+    let end = place + whole - frame::TAIL;
+    let part = &file[place + samples::SAMPLES..end];
+    PingRead::Read {
+        header: header_at(file, place, msb),
+        attribute: tuples::signed4_at(file, end, msb),
+        kind: kind_of(code),
+        values: count_values(part, msb, code),
+        length: length_by(part, msb, code),
+    }
+}
+
+// Reads a listed ping's fields: what the reader of its samples or angles would refuse is refused here too.
 pub fn read_ping(file: &[u8], place: usize) -> PingRead
     ensures { λ r. ⌜ PingAt (now (file .entry)) place r ⌝ }
 {
@@ -244,185 +386,4 @@ pub fn read_ping(file: &[u8], place: usize) -> PingRead
         Opened::Refused { code, place } => PingRead::Refused { code, place },
         Opened::Tuple { msb, whole, code } => fields_at(file, place, msb, whole, code),
     }
-}
-
-// The smaller of two counts.
-fn smaller(a: usize, b: usize) -> usize
-    ensures { λ r. ⌜ r ≡ min a b ⌝ }
-{
-    if a <= b { a } else { b }
-}
-
-// Writes a ping's header.
-fn write_header(out: &mut [u8], msb: bool, header: PingHeader)
-    requires { ⌜ 24 ≤ length (now out) ⌝ }
-    ensures { λ _. ⌜ now (out .exit) ≡ sets (now (out .entry)) 6 (encode msb pingRow (headOf header)) ⌝ }
-{
-    order::store2(out, PingHeader::TIME_FRACTION, msb, header.time_fraction);
-    order::store4(out, PingHeader::TIME_CPU, msb, header.time_cpu);
-    order::store2(
-        out,
-        PingHeader::SOFTWARE_CHANNEL_IDENTIFIER,
-        msb,
-        header.software_channel_identifier.0,
-    );
-    order::store2(
-        out,
-        PingHeader::TRANSMITTER_MODE,
-        msb,
-        header.transmitter_mode,
-    );
-    order::store4(out, PingHeader::PING_NUMBER, msb, header.ping_number);
-    order::store4(
-        out,
-        PingHeader::DETECTED_BOTTOM_RANGE,
-        msb,
-        order::pattern4(header.detected_bottom_range),
-    );
-}
-
-// Writes what stands before a ping's samples: size, type and header.
-fn write_opening(out: &mut [u8], msb: bool, whole: usize, code: u16, header: PingHeader)
-    requires { ⌜ 24 ≤ length (now out) ⌝ }
-    requires { ⌜ (10 ≤ whole) × (whole < 2 ^ 32) ⌝ }
-    ensures { λ _. ⌜ now (out .exit) ≡ sets (now (out .entry)) 0 (openingBytes msb whole code (encode msb pingRow (headOf header))) ⌝ }
-{
-    frame::open_frame(out, 0, msb, whole, code);
-    write_header(out, msb, header);
-}
-
-// Writes a U-32 ping.
-pub fn write_u32(
-    header: PingHeader,
-    attribute: i32,
-    numbers: &[u32],
-    values: &[i32],
-    msb: bool,
-    out: &mut [u8],
-) -> Answer
-    ensures { λ r. ⌜ WrittenU msb header attribute (now (numbers .entry)) (now (values .entry)) (now (out .entry)) r (now (out .exit)) ⌝ }
-{
-    let n = numbers.len();
-    if n != values.len() {
-        return layout::refuse(codes::NOT_RISING, smaller(n, values.len()));
-    }
-    if samples::MOST < n {
-        return layout::refuse(codes::OVERFULL, 0);
-    }
-    if n == 0 {
-        return layout::refuse(codes::NO_SAMPLES, 0);
-    }
-    let first = spelling::write::first_drop(numbers);
-    if first < n {
-        return layout::refuse(codes::NOT_RISING, first);
-    }
-    let whole = samples::PAIRS + PAIR * n + frame::TAIL;
-    if out.len() < whole {
-        return layout::refuse(codes::NO_ROOM, 0);
-    }
-    write_opening(out, msb, whole, types::PING_U, header);
-    spelling::write::write_pairs(numbers, values, msb, out, samples::PAIRS);
-    tuples::put_tail(out, msb, whole, attribute);
-    layout::accept(1, whole)
-}
-
-// Whether there is neither a sample nor a length.
-fn is_empty(numbers: &[u32], length: PingLength) -> bool
-    ensures { λ r. ⌜ r ≡ empty (now (numbers .entry)) (handedLength length) ⌝ }
-{
-    match length {
-        PingLength::Absent => numbers.len() == 0,
-        PingLength::Samples(_) => false,
-    }
-}
-
-// Whether a length ends before a quiet sample behind the last: the sum may pass 32 bits.
-fn is_short(numbers: &[u32], length: PingLength) -> bool
-    ensures { λ r. ⌜ r ≡ tooShort (numbered (now (numbers .entry))) (handedLength length) ⌝ }
-{
-    match length {
-        PingLength::Absent => false,
-        PingLength::Samples(all) => (all as usize) < spelling::write::behind(numbers) + 1,
-    }
-}
-
-// The quiet samples behind the last that a length says.
-fn quiet_behind(numbers: &[u32], length: PingLength) -> usize
-    requires { ⌜ tooShort (numbered (now numbers)) (handedLength length) ≡ false ⌝ }
-    ensures { λ r. ⌜ r ≡ quiet (numbered (now (numbers .entry))) (handedLength length) ⌝ }
-    ensures { λ r. ⌜ r ≤ 2 ^ 32 ⌝ }
-{
-    match length {
-        PingLength::Absent => 0,
-        PingLength::Samples(all) => all as usize - spelling::write::behind(numbers),
-    }
-}
-
-// Writes a C-32 ping, which is known to be sound and to have room, with so many quiet samples behind the last.
-fn put_c32(
-    header: PingHeader,
-    attribute: i32,
-    numbers: &[u32],
-    values: &[i32],
-    quiet: usize,
-    msb: bool,
-    whole: usize,
-    out: &mut [u8],
-)
-    requires { ⌜ SoundList (now numbers) (now values) quiet whole (length (now out)) ⌝ }
-    ensures { λ _.
-        ⌜ now (out .exit) ≡ sets (now (out .entry)) 0
-        (bytesBy msb header attribute (now (numbers .entry)) (now (values .entry)) quiet) ⌝ }
-{
-    write_opening(out, msb, whole, types::PING_C, header);
-    order::store4(out, samples::COUNT, msb, numbers.len() as u32);
-    spelling::write::write_words(numbers, values, quiet, msb, out, samples::WORDS);
-    tuples::put_tail(out, msb, whole, attribute);
-}
-
-// Writes a C-32 ping, its samples and its length in the fewest words.
-pub fn write_c32(
-    header: PingHeader,
-    attribute: i32,
-    numbers: &[u32],
-    values: &[i32],
-    length: PingLength,
-    msb: bool,
-    out: &mut [u8],
-) -> Answer
-    ensures { λ r.
-        ⌜ WrittenC msb header attribute (now (numbers .entry)) (now (values .entry)) (handedLength length) (now (out .entry)) r
-        (now (out .exit)) ⌝ }
-{
-    let n = numbers.len();
-    if n != values.len() {
-        return layout::refuse(codes::NOT_RISING, smaller(n, values.len()));
-    }
-    if samples::MOST < n {
-        return layout::refuse(codes::OVERFULL, 0);
-    }
-    if is_empty(numbers, length) {
-        return layout::refuse(codes::NO_SAMPLES, 0);
-    }
-    let first = spelling::write::first_drop(numbers);
-    if first < n {
-        return layout::refuse(codes::NOT_RISING, first);
-    }
-    let wordless = spelling::write::first_wordless(values);
-    if wordless < n {
-        return layout::refuse(codes::NO_WORD, wordless);
-    }
-    if is_short(numbers, length) {
-        return layout::refuse(codes::SHORT_LENGTH, 0);
-    }
-    let quiet = quiet_behind(numbers, length);
-    let whole = samples::WORDS + WORD * spelling::write::count_words(numbers, quiet) + frame::TAIL;
-    if frame::MOST < whole {
-        return layout::refuse(codes::OVERFULL, 0);
-    }
-    if out.len() < whole {
-        return layout::refuse(codes::NO_ROOM, 0);
-    }
-    put_c32(header, attribute, numbers, values, quiet, msb, whole, out);
-    layout::accept(1, whole)
 }

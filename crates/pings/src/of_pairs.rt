@@ -12,7 +12,7 @@ pub const LEAST: usize = 40;
 pub const STEP: usize = 8;
 
 // The place of its first pair, a sample number and a value of four bytes each.
-pub const PAIRS: usize = samples::PAIRS;
+pub const PAIRS: usize = samples::SAMPLES;
 
 // Its lengths: the least, and the step.
 pub fn lengths() -> [usize; 2]

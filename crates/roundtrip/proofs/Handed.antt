@@ -18,7 +18,7 @@ use Rattle.layout.specs.declared.Answer.{Answer}
 use Rattle.layout.specs.declared.Answer.the-variants.{Accepted}
 use Rattle.layout.specs.Answers.{accepting, leftBy}
 use Rattle.layout.specs.Fields.{Field, num, txt, gap, ident, s, size, many, bareSize}
-use Rattle.layout.specs.Types.{Shape, indexed, row, pairs, words, unlisted, fitting, shapeOf}
+use Rattle.layout.specs.Types.{Shape, indexed, row, uncompressed, compressed, unlisted, fitting, shapeOf}
 use Rattle.layout.specs.Types.{lengthsOf, lengthFrom, listings}
 use Rattle.layout.proofs.Tables.{alike-all}
 use Rattle.frame.specs.Frames.{allowed}
@@ -27,7 +27,7 @@ use Rattle.turning.specs.Rows.{woven, numbersIn, textIn, Fit, fit-end, fit-num,
 use Rattle.turning.specs.inner.Codes.{textFits}
 use Rattle.tuples.specs.Readers.{isRecord, only, readAnswer, readValues, rowBy, rowOf}
 use Rattle.tuples.specs.Writers.{Written, plainBytes}
-use Rattle.tuples.proofs.Fields.{IsRow}
+use Rattle.layout.proofs.Families.{IsRow}
 use Rattle.rows.specs.Readers.{countOf, fieldsBy, lentBy, rowAnswer, rowNumbers, rowText, charactersAt, answered, RowAt}
 use Rattle.rows.specs.Writers.{rowValues, rowLength, RowWritten}
 use Rattle.rows.specs.Integers.{integer, pattern, integers, patterns, rowIntegers, InRange, Typed}
@@ -47,8 +47,8 @@ abbrev byFours : Shape → Bool
 byFours indexed = true
 byFours (row fs none) = eqb ((size fs + 14) % 4) 0 && leb 16 (size fs + 14)
 byFours (row fs (some least)) = eqb ((size fs + 14 + least) % 4) 0 && leb 16 (size fs + 14 + least)
-byFours pairs = true
-byFours words = true
+byFours (uncompressed f) = true
+byFours (compressed f) = true
 byFours unlisted = true
 
 by-fours : (k : ℕ) → byFours (shapeOf k) ≡ true
@@ -129,8 +129,8 @@ text-back : (q : Shape) (ns t : List ℕ) (n : ℕ) → IsRow q → Textual q �
 text-back indexed ns t n z x e l = absurd z
 text-back (row fs none) ns t n z x e l = text-fixed fs ns t n e l (noText fs) refl
 text-back (row fs (some least)) ns t n z x e l = text-last fs (s 4 ∷ []) (0 - (size fs + 4)) ns t x
-text-back pairs ns t n z x e l = absurd z
-text-back words ns t n z x e l = absurd z
+text-back (uncompressed f) ns t n z x e l = absurd z
+text-back (compressed f) ns t n z x e l = absurd z
 text-back unlisted ns t n z x e l = absurd z
 
 -- ---- what the writer takes: a record's type, numbers enough, a length that fits and isn't too long
@@ -177,8 +177,8 @@ module _ {k : ℕ} {ns t : List ℕ} (w : Taken k ns t) (g : RowSound k ns t) wh
         fit = subst (λ (q : Shape). Fit (rowBy q (rowLength k t - 10)) (rowValues k ns t)) e (g .values);
         lettered = lettered-woven (rowOf k 0) ns t (g .characters);
       }
-  fill pairs e z = absurd z
-  fill words e z = absurd z
+  fill (uncompressed f) e z = absurd z
+  fill (compressed f) e z = absurd z
   fill unlisted e z = absurd z
 
   filled-row : Filled k (rowValues k ns t)
@@ -279,8 +279,8 @@ as-wide (row fs none) t n z x e l =
 as-wide (row fs (some least)) t n z x e l =
     let m : length t ≡ n - 10 - (size fs + 4) = omega (arith, l, none-bare fs x) in
     widened-last fs (0 - (size fs + 4)) (length t) x ∙ ap (λ (i : ℕ). fs ++ (txt i ∷ s 4 ∷ [])) m
-as-wide pairs t n z x e l = absurd z
-as-wide words t n z x e l = absurd z
+as-wide (uncompressed f) t n z x e l = absurd z
+as-wide (compressed f) t n z x e l = absurd z
 as-wide unlisted t n z x e l = absurd z
 
 -- the integers are found again from their patterns

@@ -1,24 +1,23 @@
 -- What a reader of records hands over: the numbers in the tuple's bytes, their widths, and where its characters stand. Assumes nothing.
 use mathlib.Core.Path.{_≡_, refl, sym, ap, ap₂, subst, _∙_}
-use mathlib.Core.Bool.{Bool, true, false, _&&_}
-use mathlib.Core.List.{List, [], _∷_, _++_, append-assoc, append-nil}
-use mathlib.Core.Option.{Option, some, none}
+use mathlib.Core.Bool.{Bool, true, _&&_}
+use mathlib.Core.List.{List, [], _∷_, _++_, append-assoc}
+use mathlib.Core.Option.{some, none}
 use Prim.Native.Nat.{ℕ, _+_, _-_, _^_, _<_, _≤_}
 use native.Mathlib.Omega.{arith}
 use borrow.Author.Tests.{eqb-true, le-ltb, lt-ltb}
 use lib.Dec.{eqb, ltb}
-use lib.ListN.{length, take, drop, set, length-append, length-drop}
+use lib.ListN.{length, take, drop, length-drop}
 use lib.Seq.{sets, sets-eq, drop-drop, length-take-le}
 use Rattle.rules.proofs.Bools.{both-true}
 use Rattle.order.specs.Order.{numOf, Bytes}
 use Rattle.order.proofs.Laws.{numOf-bound, bytes-take, bytes-drop}
 use Rattle.order.proofs.Stores.{sets-append}
 use Rattle.layout.specs.declared.Answer.{Answer}
-use Rattle.layout.specs.declared.Answer.the-variants.{Accepted}
 use Rattle.layout.specs.declared.Answer.the-variants as answer
 use Rattle.layout.specs.Answers.{tells, accepting, leftBy}
 use Rattle.layout.specs.Fields.{Field, num, txt, gap, ident, s, widthOf, size, many, bareSize, beforeText}
-use Rattle.layout.specs.Types.{Shape, indexed, row, pairs, words, unlisted, shapeOf, fitting, lengthFrom}
+use Rattle.layout.specs.Types.{Shape, indexed, row, uncompressed, compressed, unlisted, shapeOf, fitting, lengthFrom}
 use Rattle.turning.specs.Rows.{Value, valuesOf, numbersIn, textIn}
 use Rattle.turning.specs.inner.Codes.{fieldNumbers}
 use Rattle.turning.proofs.Taking.{numbers-cons, length-numbers}
@@ -26,11 +25,11 @@ use Rattle.content.proofs.Fine.{row-size}
 use Rattle.tuples.specs.Readers.{isRecord, recordsOf, only, readAnswer, readValues, rowBy, rowOf}
 use Rattle.tuples.specs.inner.Opening.{Readable}
 use Rattle.tuples.specs.declared.Part.{Part}
-use Rattle.tuples.proofs.Fields.{IsRow, fits, in-file, whole-there, values-there}
+use Rattle.layout.proofs.Families.{IsRow}
+use Rattle.tuples.proofs.Fields.{fits, in-file, values-there}
 use Rattle.rows.specs.Readers.{countOf, fieldsBy, lentBy, rowAnswer, rowNumbers, rowText, charactersAt, answered, RowAt}
-use Rattle.rows.specs.declared.RowRead.{RowRead}
 use Rattle.rows.specs.declared.RowRead.the-variants.{Read, Refused}
-use Rattle.rows.proofs.Shapes.{is-row, firstText, Textual, textual, text-behind, none-bare, bare-size, many-append, row-many}
+use Rattle.rows.proofs.Shapes.{is-row, firstText, Textual, textual, text-behind, none-bare, row-many}
 use Rattle.rows.proofs.Shapes.{fixed-length, least-length, long-enough}
 
 -- ---- a row and what stands behind it
@@ -76,8 +75,8 @@ numbers-row o f p n (row fs (some l)) z e =
     numbers-append o fs (txt (n - 10 - (size fs + 4)) ∷ s 4 ∷ []) (drop (p + 6) f)
     ∙ ap (λ (b : List ℕ). numbersIn (valuesOf o fs (drop (p + 6) f)) ++ (numOf o (take 4 b) ∷ []))
     (ap (drop m) (drop-drop (size fs) (p + 6) f) ∙ drop-drop m (p + 6 + size fs) f ∙ ap (λ (i : ℕ). drop i f) at)
-numbers-row o f p n pairs z e = absurd z
-numbers-row o f p n words z e = absurd z
+numbers-row o f p n (uncompressed y) z e = absurd z
+numbers-row o f p n (compressed y) z e = absurd z
 numbers-row o f p n unlisted z e = absurd z
 
 -- ---- each number is below its width
@@ -112,8 +111,8 @@ bare-within : (q : Shape) (m : ℕ) (ns : List ℕ) → Within (rowBy q m) ns �
 bare-within indexed m ns h = tt
 bare-within (row fs none) m ns h = h
 bare-within (row fs (some l)) m ns h = same-within fs (s 4 ∷ []) (m - (size fs + 4)) (0 - (size fs + 4)) ns h
-bare-within pairs m ns h = tt
-bare-within words m ns h = tt
+bare-within (uncompressed f) m ns h = tt
+bare-within (compressed f) m ns h = tt
 bare-within unlisted m ns h = tt
 
 -- ---- the characters
@@ -149,8 +148,8 @@ text-stands : (o : Bool) (n : ℕ) (q : Shape) (bs : List ℕ) → IsRow q
 text-stands o n indexed bs z = absurd z
 text-stands o n (row fs none) bs z = text-fixed o fs bs
 text-stands o n (row fs (some l)) bs z = text-last o (n - (size fs + 4)) fs bs
-text-stands o n pairs bs z = absurd z
-text-stands o n words bs z = absurd z
+text-stands o n (uncompressed f) bs z = absurd z
+text-stands o n (compressed f) bs z = absurd z
 text-stands o n unlisted bs z = absurd z
 
 row-text : (n : ℕ) (q : Shape) → IsRow q → Textual q → fitting (lengthFrom q) n ≡ true
@@ -159,15 +158,15 @@ row-text n indexed z t e = absurd z
 row-text n (row fs none) z t e = omega (arith, fixed-length fs n e, t .0)
 row-text n (row fs (some l)) z t e =
     omega (arith, least-length fs l n e, none-bare fs t, text-behind fs (s 4 ∷ []) (n - 10 - (size fs + 4)) t)
-row-text n pairs z t e = absurd z
-row-text n words z t e = absurd z
+row-text n (uncompressed f) z t e = absurd z
+row-text n (compressed f) z t e = absurd z
 row-text n unlisted z t e = absurd z
 
 whole-row : (n : ℕ) (q : Shape) → IsRow q → fitting (lengthFrom q) (n - 10 + 10) ≡ true → size (rowBy q (n - 10)) ≡ n - 10
 whole-row n indexed z e = absurd z
 whole-row n (row fs x) z e = row-size fs x (n - 10) e
-whole-row n pairs z e = absurd z
-whole-row n words z e = absurd z
+whole-row n (uncompressed f) z e = absurd z
+whole-row n (compressed f) z e = absurd z
 whole-row n unlisted z e = absurd z
 
 -- ---- a record that was opened

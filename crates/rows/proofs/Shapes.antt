@@ -2,7 +2,7 @@
 use mathlib.Core.Path.{_≡_, refl, sym, ap, ap₂, _∙_}
 use mathlib.Core.Bool.{Bool, true, false, _&&_}
 use mathlib.Core.List.{List, [], _∷_, _++_}
-use mathlib.Core.Option.{Option, some, none}
+use mathlib.Core.Option.{some, none}
 use Prim.Native.Nat.{ℕ, _+_, _-_, _<_, _≤_, zero-le}
 use native.Mathlib.Omega.{arith}
 use borrow.Author.Tests.{eqb-true, leb-true}
@@ -10,51 +10,45 @@ use lib.Dec.{eqb, leb}
 use lib.ListN.{length, replicate, getD}
 use Rattle.rules.proofs.Bools.{both-true}
 use Rattle.layout.specs.Fields.{Field, num, txt, gap, ident, s, size, many, bareSize, beforeText}
-use Rattle.layout.specs.Types.{Shape, indexed, row, pairs, words, unlisted, listings, listed, shapeOf}
-use Rattle.layout.specs.Types.{lengthsOf, leastOf, stepOf, fitting, lengthFrom}
+use Rattle.layout.specs.Types.{Shape, indexed, row, uncompressed, compressed, unlisted, listings, listed, shapeOf}
+use Rattle.layout.specs.Types.{lengthsOf, leastOf, stepOf, moreOf, fitting, lengthFrom}
 use Rattle.layout.specs.inner.Codes.{placeIn, fieldsIn, fieldsOf, rowCodes, measures, measured}
-use Rattle.layout.proofs.Tables.{Tabled, tabled, alike-all, fields-there, measure-there, size-there}
+use Rattle.layout.proofs.Tables.{alike-all, fields-there, measure-there, size-there}
 use Rattle.turning.specs.inner.Codes.{textFits}
 use Rattle.tuples.specs.Readers.{isRow, rowBy}
-use Rattle.tuples.proofs.Fields.{IsRow}
+use Rattle.layout.proofs.Families.{IsRow, row-rowed}
 use Rattle.rows.specs.Readers.{fieldsBy}
 
 -- ---- a record's shape
 pub is-row : (q : Shape) → isRow q ≡ true → IsRow q
 is-row indexed e = let z : _≡_ {A = ℕ} 0 1 = cc in absurd (omega arith)
 is-row (row fs x) e = tt
-is-row pairs e = let z : _≡_ {A = ℕ} 0 1 = cc in absurd (omega arith)
-is-row words e = let z : _≡_ {A = ℕ} 0 1 = cc in absurd (omega arith)
+is-row (uncompressed f) e = let z : _≡_ {A = ℕ} 0 1 = cc in absurd (omega arith)
+is-row (compressed f) e = let z : _≡_ {A = ℕ} 0 1 = cc in absurd (omega arith)
 is-row unlisted e = let z : _≡_ {A = ℕ} 0 1 = cc in absurd (omega arith)
 
 -- it is a listed type's, and the code's row is its row
-listed-row : (q : Shape) (i : ℕ) → Tabled q i → IsRow q → i < listed
-listed-row indexed i h z = absurd z
-listed-row (row fs x) i h z = h
-listed-row pairs i h z = absurd z
-listed-row words i h z = absurd z
-listed-row unlisted i h z = absurd z
-
 in-fields : (q : Shape) → IsRow q → fieldsIn q ≡ fieldsBy q
 in-fields indexed z = absurd z
 in-fields (row fs x) z = refl
-in-fields pairs z = absurd z
-in-fields words z = absurd z
+in-fields (uncompressed f) z = absurd z
+in-fields (compressed f) z = absurd z
 in-fields unlisted z = absurd z
 
 module _ (k : ℕ) (z : IsRow (shapeOf k)) where
   pub row-listed : placeIn k < listed
-  row-listed = listed-row (shapeOf k) (placeIn k) (tabled k) z
+  row-listed = omega (arith, row-rowed k z)
 
   pub row-fields : fieldsOf (getD rowCodes (placeIn k) []) ≡ fieldsBy (shapeOf k)
   row-fields = fields-there k row-listed ∙ in-fields (shapeOf k) z
 
   -- and so is what is measured of it
   pub row-measure : getD measures (placeIn k) []
-      ≡ measured (fieldsBy (shapeOf k)) ++ (leastOf (lengthsOf k) ∷ stepOf (lengthsOf k) ∷ [])
+      ≡ measured (fieldsBy (shapeOf k)) ++ (leastOf (lengthsOf k) ∷ stepOf (lengthsOf k) ∷ moreOf (lengthsOf k) ∷ [])
   row-measure =
+      let l = lengthsOf k in
       measure-there k row-listed
-      ∙ ap (λ (fs : List Field). measured fs ++ (leastOf (lengthsOf k) ∷ stepOf (lengthsOf k) ∷ [])) (in-fields (shapeOf k) z)
+      ∙ ap (λ (fs : List Field). measured fs ++ (leastOf l ∷ stepOf l ∷ moreOf l ∷ [])) (in-fields (shapeOf k) z)
 
   -- which is little
   pub row-little : size (fieldsBy (shapeOf k)) ≤ 255
@@ -83,8 +77,8 @@ abbrev pub Textual : Shape → Type 0
 Textual indexed = Unit {0}
 Textual (row fs none) = (firstText (fs ++ (s 4 ∷ [])) + bareSize fs ≡ size fs) × (textFits fs (replicate (size fs - bareSize fs) 0) ≡ true)
 Textual (row fs (some least)) = noText fs ≡ true
-Textual pairs = Unit {0}
-Textual words = Unit {0}
+Textual (uncompressed f) = Unit {0}
+Textual (compressed f) = Unit {0}
 Textual unlisted = Unit {0}
 
 -- as a test, which holds of all types
@@ -93,8 +87,8 @@ isTextual indexed = true
 isTextual (row fs none) =
     eqb (firstText (fs ++ (s 4 ∷ [])) + bareSize fs) (size fs) && textFits fs (replicate (size fs - bareSize fs) 0)
 isTextual (row fs (some least)) = noText fs
-isTextual pairs = true
-isTextual words = true
+isTextual (uncompressed f) = true
+isTextual (compressed f) = true
 isTextual unlisted = true
 
 textual-by : (q : Shape) → isTextual q ≡ true → Textual q
@@ -103,8 +97,8 @@ textual-by indexed e = tt
 textual-by (row fs none) e =
     let b = both-true (eqb (firstText (fs ++ (s 4 ∷ [])) + bareSize fs) (size fs)) _ e in (eqb-true _ (size fs) (b .0), b .1)
 textual-by (row fs (some least)) e = e
-textual-by pairs e = tt
-textual-by words e = tt
+textual-by (uncompressed f) e = tt
+textual-by (compressed f) e = tt
 textual-by unlisted e = tt
 
 pub textual : (k : ℕ) → Textual (shapeOf k)
@@ -165,8 +159,8 @@ pub row-many : (q : Shape) (m : ℕ) → IsRow q → many (rowBy q m) ≡ many (
 row-many indexed m z = absurd z
 row-many (row fs none) m z = many-append fs (s 4 ∷ [])
 row-many (row fs (some least)) m z = many-append fs (txt (m - (size fs + 4)) ∷ s 4 ∷ [])
-row-many pairs m z = absurd z
-row-many words m z = absurd z
+row-many (uncompressed f) m z = absurd z
+row-many (compressed f) m z = absurd z
 row-many unlisted m z = absurd z
 
 -- ---- a length that fits
@@ -180,6 +174,6 @@ pub long-enough : (q : Shape) (n : ℕ) → IsRow q → fitting (lengthFrom q) n
 long-enough indexed n z e = absurd z
 long-enough (row fs none) n z e = omega (arith, fixed-length fs n e)
 long-enough (row fs (some l)) n z e = omega (arith, least-length fs l n e)
-long-enough pairs n z e = absurd z
-long-enough words n z e = absurd z
+long-enough (uncompressed f) n z e = absurd z
+long-enough (compressed f) n z e = absurd z
 long-enough unlisted n z e = absurd z

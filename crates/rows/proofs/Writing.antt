@@ -1,14 +1,14 @@
 -- What a writer of records hands over to the writer of tuples, and its rules. Assumes nothing.
-use mathlib.Core.Path.{_≡_, refl, sym, ap, ap₂, subst, _∙_}
+use mathlib.Core.Path.{_≡_, refl, sym, ap, ap₂, _∙_}
 use mathlib.Core.Bool.{Bool, true, false, not}
 use mathlib.Core.List.{List, [], _∷_, _++_}
-use mathlib.Core.Option.{Option, some, none}
-use Prim.Native.Nat.{ℕ, suc, _+_, _-_, _<_, _≤_}
+use mathlib.Core.Option.{some, none}
+use Prim.Native.Nat.{ℕ, _+_, _-_, _<_, _≤_}
 use native.Mathlib.Omega.{arith}
 use lib.ListN.{length, drop, getD, replicate, length-replicate}
 use lib.Seq.{drop-drop, getD-drop}
 use Rattle.layout.specs.Fields.{Field, num, txt, gap, ident, s, size, takes, many, bareSize}
-use Rattle.layout.specs.Types.{Shape, indexed, row, pairs, words, unlisted, Length, shapeOf, lengthsOf, fitting, lengthFrom}
+use Rattle.layout.specs.Types.{Shape, indexed, row, uncompressed, compressed, unlisted, Length, shapeOf, lengthsOf, fitting, lengthFrom}
 use Rattle.layout.proofs.Tables.{lengths-from}
 use Rattle.turning.specs.Rows.{Value, number, text, woven, wovenField, behindField}
 use borrow.Author.Tests.{lt-ltb, le-ltb}
@@ -16,15 +16,14 @@ use lib.Dec.{ltb}
 use Rattle.rules.specs.Rules.{Rule, _⇒_}
 use Rattle.layout.specs.declared.Answer.{Answer}
 use Rattle.layout.specs.declared.Answer.the-variants.{Refused}
-use Rattle.tuples.specs.Readers.{isRecord, rowBy, rowOf}
+use Rattle.tuples.specs.Readers.{isRecord, rowBy}
 use Rattle.tuples.specs.Writers.{Written, plainBytes}
 use Rattle.tuples.specs.inner.Framing.{handedValues, Handable}
 use Rattle.tuples.proofs.Writing.{refused-first, written-past, as-values}
 use Rattle.rows.specs.Readers.{countOf, fieldsBy}
 use Rattle.rows.specs.Writers.{rowValues, rowLength, RowWritten}
-use Rattle.tuples.proofs.Fields.{IsRow}
+use Rattle.layout.proofs.Families.{IsRow}
 use Rattle.rows.proofs.Shapes.{is-row, row-many, noText, Textual, textual, none-bare, none-fits, bare-size, fits-by, fixed-length}
-use Rattle.rows.proofs.Shapes.{least-length}
 
 -- ---- values woven from numbers
 behind-takes : (f : Field) (ns : List ℕ) → behindField f ns ≡ drop (takes f) ns
@@ -77,8 +76,8 @@ module _ (ns t : List ℕ) (n : ℕ) (is : n ≤ 262144) where
         ap (λ (a : ℕ). woven fs ns t ++ (number a ∷ [])) (attribute fs ns) ∙ sym (woven-append fs (s 4 ∷ []) ns t),
       )
   own (row fs (some least)) z x e l h = absurd (omega (arith, none-bare fs x))
-  own pairs z x e l h = absurd z
-  own words z x e l h = absurd z
+  own (uncompressed f) z x e l h = absurd z
+  own (compressed f) z x e l h = absurd z
   own unlisted z x e l h = absurd z
 
   -- .. or stand behind its fields
@@ -100,8 +99,8 @@ module _ (ns t : List ℕ) (n : ℕ) (is : n ≤ 262144) where
     ap₂ (λ (vs : List Value) (a : ℕ). vs ++ (text t ∷ number a ∷ [])) (no-use fs ns [] t x) (attribute fs ns)
         ∙ sym (woven-append fs (txt (0 - (size fs + 4)) ∷ s 4 ∷ []) ns t),
   )
-  behind pairs z x e l h = absurd z
-  behind words z x e l h = absurd z
+  behind (uncompressed f) z x e l h = absurd z
+  behind (compressed f) z x e l h = absurd z
   behind unlisted z x e l h = absurd z
 
 -- a type code's lengths are its row's

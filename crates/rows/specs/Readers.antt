@@ -10,7 +10,7 @@ use Rattle.layout.specs.declared.Answer.the-variants.{Accepted}
 use Rattle.layout.specs.declared.Answer.the-variants as answer
 use Rattle.layout.specs.Answers.{Numbers, numbers, Tells, accepting, leftBy}
 use Rattle.layout.specs.Fields.{Field, many, beforeText}
-use Rattle.layout.specs.Types.{Shape, indexed, row, pairs, words, unlisted, shapeOf}
+use Rattle.layout.specs.Types.{Shape, indexed, row, uncompressed, compressed, unlisted, shapeOf}
 use Rattle.turning.specs.Rows.{numbersIn, textIn}
 use Rattle.tuples.specs.Readers.{recordsOf, readAnswer, readValues, rowOf}
 use Rattle.tuples.specs.declared.Part.{Part}
@@ -38,8 +38,8 @@ rowNumbers f p = numbersIn (readValues f p)
 abbrev pub fieldsBy : Shape → List Field
 fieldsBy indexed = []
 fieldsBy (row fs x) = fs
-fieldsBy pairs = []
-fieldsBy words = []
+fieldsBy (uncompressed f) = []
+fieldsBy (compressed f) = []
 fieldsBy unlisted = []
 
 -- where its characters stand in the file; of a record without characters none, where its attribute stands

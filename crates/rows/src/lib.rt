@@ -10,7 +10,7 @@ ghost use lib.ListN.{length, drop};
 ghost use lib.Seq.{sets};
 ghost use Rattle.order.specs.Order.{signedOf, patternOf};
 ghost use Rattle.layout.specs.Fields.{size, many};
-ghost use Rattle.layout.specs.Types.{listed};
+ghost use Rattle.layout.specs.inner.Codes.{rowed};
 ghost use Rattle.turning.specs.Rows.{valuesOf, numbersIn};
 ghost use Rattle.tuples.specs.Readers.{recordsOf};
 ghost use Rattle.tuples.specs.inner.Opening.{Readable};
@@ -104,7 +104,7 @@ fn read_ek500_sounder(file: &[u8], at: usize, msb: bool, numbers: &mut [u32])
 // Reads the numbers of a row, by its listing. Each arm names its row by a constant, and how many fields it has before its dots: so that
 // the compiler, which takes `turning::read_row` into each arm for it is short, makes plain loads of the loop over it.
 fn read_listed(file: &[u8], at: usize, msb: bool, listing: usize, numbers: &mut [u32])
-    requires { ⌜ listing < listed ⌝ }
+    requires { ⌜ listing < rowed ⌝ }
     requires { ⌜ at + size (listedFields listing) ≤ length (now file) ⌝ }
     requires { ⌜ many (listedFields listing) ≤ length (now numbers) ⌝ }
     ensures { λ _. ⌜ now (numbers .exit)

@@ -1,16 +1,15 @@
 -- Sample numbers that rise strictly: the rule as a relation, and that the first fault's place agrees with it. Assumes nothing.
-use mathlib.Core.Path.{_≡_, refl, ap, _∙_}
-use mathlib.Core.Bool.{Bool, false}
+use mathlib.Core.Path.{_≡_, refl, _∙_}
+use mathlib.Core.Bool.{false}
 use mathlib.Core.List.{List, [], _∷_}
 use Prim.Native.Nat.{ℕ, _+_, _≤_, _<_}
 use native.Mathlib.Omega.{arith}
-use lib.Dec.{leb, ltb, lit<}
+use lib.Dec.{leb, ltb}
 use lib.ListN.{length}
-use borrow.Author.Tests.{ltb-false, leb-true, leb-false, le-leb}
-use Rattle.samples.specs.Words.{Sample, pairUp}
+use borrow.Author.Tests.{le-ltb, ltb-false, leb-true, le-leb}
+use Rattle.samples.specs.Words.{Sample}
 use Rattle.samples.specs.Runs.{decode}
 use Rattle.samples.specs.Judging.{firstDrop}
-use Rattle.samples.proofs.Words.{wordAt, wordsFrom, from-cons, from-end}
 use Rattle.samples.proofs.Runs.{Fit, by-bool, decode-fit}
 
 -- every number is at least n and above the one before it
@@ -44,31 +43,17 @@ drop-most (x ∷ s) n =
     (λ t. omega (arith, drop-later n x s (leb-true n (x .0) t), drop-most s (x .0 + 1)))
     (λ t. omega (arith, drop-here n x s t))
 
--- the rule of U-32, passed
+-- the rule on numbers, passed
 pub rises : (s : List Sample) → ltb (firstDrop 0 s) (length s) ≡ false → Rising 0 s
 rises s e = all-rising s 0 (omega (arith, drop-most s 0, ltb-false (firstDrop 0 s) (length s) e))
 
--- what C words say rises, so its U form passes
+pub rising-passes : (s : List Sample) → Rising 0 s → ltb (firstDrop 0 s) (length s) ≡ false
+rising-passes s r = le-ltb (firstDrop 0 s) (length s) (omega (arith, rising-all s 0 r))
+
+-- what words say rises, so its uncompressed form passes
 pub fit-rising : (R : ℕ) (s : List Sample) (n : ℕ) → Fit R n s → Rising n s
 fit-rising R [] n f = tt
 fit-rising R (x ∷ s) n f = (f .0, fit-rising R s (x .0 + 1) (f .2))
 
 pub decode-rises : (R : ℕ) → 0 < R → (ws : List ℕ) → firstDrop 0 (decode R ws) ≡ length (decode R ws)
 decode-rises R pos ws = rising-all (decode R ws) 0 (fit-rising R (decode R ws) 0 (decode-fit R pos ws 0))
-
--- ---- a turn over pairs: the pair at p, and those from p + 8 on
-pub pairs-next : (o : Bool) (s : List ℕ) (p : ℕ) → p + 8 ≤ length s
-    → pairUp (wordsFrom 4 o s p) ≡ (wordAt 4 o s p, wordAt 4 o s (p + 4)) ∷ pairUp (wordsFrom 4 o s (p + 8))
-unfolding pairUp
-pairs-next o s p h =
-    ap pairUp (from-cons 4 o s p (lit< tt) (omega arith)
-    ∙ ap (λ (l : List ℕ). wordAt 4 o s p ∷ l) (from-cons 4 o s (p + 4) (lit< tt) (omega arith)))
-    ∙ ap (λ (q : ℕ). pairUp (wordAt 4 o s p ∷ wordAt 4 o s (p + 4) ∷ wordsFrom 4 o s q)) (omega arith)
-
-pub pairs-end : (o : Bool) (s : List ℕ) (p : ℕ) → length s < p + 8 → pairUp (wordsFrom 4 o s p) ≡ []
-unfolding pairUp
-pairs-end o s p h = by-bool (leb (p + 4) (length s))
-    (λ t.
-    let l = leb-true (p + 4) (length s) t in
-    ap pairUp (from-cons 4 o s p (lit< tt) l ∙ ap (λ (r : List ℕ). wordAt 4 o s p ∷ r) (from-end 4 o s (p + 4) (lit< tt) (omega arith))))
-    (λ t. ap pairUp (from-end 4 o s p (lit< tt) (leb-false (p + 4) (length s) t)))

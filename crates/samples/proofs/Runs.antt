@@ -268,6 +268,12 @@ module _ (R : ℕ) (pos : 0 < R) where
   pub quiet-tail : (ws : List ℕ) → quiet (decode R ws) (pingLength R ws) ≡ tailFrom R 0 ws
   quiet-tail ws = rw (length-lasting ws) (quiet-lasting (decode R ws) (tailFrom R 0 ws))
 
+  -- where the last word is a value, none is quiet behind it: all samples end in it
+  pub ends-behind : (ws : List ℕ) → endsFrom R false ws ≡ false → samplesFrom R 0 ws ≡ behind 0 (decode R ws)
+  ends-behind ws e =
+      let quiet = ltb-false 0 (tailFrom R 0 ws) (sym (ends-quiet R pos ws 0) ∙ e) in
+      omega (arith, rw (zero-add 0) at (samples-in-all R pos ws 0 0))
+
   -- what any words say can be said again
   pub length-can : (ws : List ℕ) → Lasting (decode R ws) (pingLength R ws)
   length-can ws = rw (length-lasting ws, quiet-lasting (decode R ws) (tailFrom R 0 ws))

@@ -5,8 +5,8 @@ use mathlib.Core.List.{List, [], _∷_}
 use Prim.Native.Nat.{ℕ, _+_, _*_, _≤_, _<_}
 use native.Mathlib.Omega.{arith}
 use lib.ListN.{length}
-use Rattle.layout.specs.Families.{Family}
-use Rattle.samples.specs.Runs.{isRun, runLength, decodeFrom, isBad, values, firstBad}
+use Rattle.layout.specs.Families.{Family, isBad}
+use Rattle.samples.specs.Runs.{isRun, runLength, decodeFrom, values, firstBad}
 use Rattle.samples.proofs.Words.{Within}
 use Rattle.samples.specs.Words.{Below}
 use Rattle.samples.proofs.Runs.{decode-run, decode-value, run-short, by-bool}
@@ -39,12 +39,12 @@ module _ (R : ℕ) (pos : 0 < R) where
       (λ e. rw (decode-value R pos n w ws e, values-value R w ws e) (omega (arith, length-decode ws (n + 1))))
 
   -- numbers stay below the words times R: 65527 words of 65536 stay below 2 ^ 32
-  pub decode-within : (b : ℕ) (ws : List ℕ) (n : ℕ) → Below b ws → n + R * length ws ≤ b → Within b (decodeFrom R n ws)
-  decode-within b [] n f h = unfold decodeFrom in tt
-  decode-within b (w ∷ ws) n f h =
+  pub decode-within : (m b : ℕ) (ws : List ℕ) (n : ℕ) → Below b ws → n + R * length ws ≤ m → Within m b (decodeFrom R n ws)
+  decode-within m b [] n f h = unfold decodeFrom in tt
+  decode-within m b (w ∷ ws) n f h =
       by-bool (isRun R w)
-      (λ e. rw (decode-run R pos n w ws e) (decode-within b ws (n + runLength R w) (f .1) (omega (arith, run-short R pos w))))
-      (λ e. rw (decode-value R pos n w ws e) (omega arith, f .0, decode-within b ws (n + 1) (f .1) (omega arith)))
+      (λ e. rw (decode-run R pos n w ws e) (decode-within m b ws (n + runLength R w) (f .1) (omega (arith, run-short R pos w))))
+      (λ e. rw (decode-value R pos n w ws e) (omega arith, f .0, decode-within m b ws (n + 1) (f .1) (omega arith)))
 
 -- the first bad word is one of them, or none is bad
 pub bad-most : (f : Family) (ws : List ℕ) → firstBad f ws ≤ length ws

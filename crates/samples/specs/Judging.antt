@@ -1,6 +1,6 @@
 -- The rules on a ping's samples. Assumes nothing.
 use Prim.Native.Nat.{ℕ, _+_, _*_}
-use mathlib.Core.Bool.{Bool, true, false, not, _||_}
+use mathlib.Core.Bool.{Bool, true, false, not}
 use mathlib.Core.List.{List, [], _∷_}
 use mathlib.Core.Option.{Option, some, none}
 use lib.Dec.{eqb, leb, ltb}
@@ -8,9 +8,10 @@ use lib.ListN.{length}
 use Rattle.rules.specs.Rules.{Rule, _⇒_}
 use Rattle.layout.specs.declared.Verdict.{Verdict}
 use Rattle.layout.specs.Answers.{judged, Breach, _byte_}
-use Rattle.layout.specs.Families.{Family, wide}
-use Rattle.samples.specs.Words.{Sample, allWords, pairUp}
-use Rattle.samples.specs.Runs.{radix, isRun, isBad, values, firstBad, behind}
+use Rattle.layout.specs.Families.{Family, valueBytes, sampleBytes, radixOf}
+use Rattle.samples.specs.Words.{Sample, allWords, allSamples}
+use Rattle.samples.specs.Runs.{values, firstBad, behind}
+use Rattle.samples.specs.Values.{wordless, heldWords}
 
 -- a ping holds at most 32,764 values
 abbrev pub most : ℕ
@@ -20,10 +21,6 @@ most = 32764
 unfoldable pub firstDrop : ℕ → List Sample → ℕ
 firstDrop n [] = 0
 firstDrop n (x ∷ s) = elim (leb n (x .0)) [ true ↦ firstDrop (x .0 + 1) s + 1 | false ↦ 0 ]
-
--- a value that has no word: its pattern is a run's, or outside the limits
-abbrev pub wordless : Family → ℕ → Bool
-wordless f w = isRun (f .radix) w || isBad f w
 
 -- the place in the list of the first value that has no word; the list's length where all have one
 unfoldable pub firstWordless : Family → List Sample → ℕ
@@ -39,10 +36,10 @@ tooShort s (some n) = ltb n (behind 0 s + 1)
 abbrev pub dropping : List Sample → Bool
 dropping s = ltb (firstDrop 0 s) (length s)
 
--- ---- where samples stand in a ping, counted from its first byte: a U-32 ping's pairs behind the header; there a C-32 ping's
+-- ---- where samples stand in a ping, counted from its first byte: an uncompressed ping's behind the header; there a compressed ping's
 -- number of samples, and its words behind that
-abbrev pub pairsAt : ℕ
-pairsAt = 24
+abbrev pub firstSample : ℕ
+firstSample = 24
 
 abbrev pub countAt : ℕ
 countAt = 24
@@ -50,22 +47,25 @@ countAt = 24
 abbrev pub wordsAt : ℕ
 wordsAt = 28
 
--- U-32: numbers strictly rise; 23 at the first that is not above the one before it
-abbrev pub pairRules : List Sample → List (Rule Breach)
-pairRules s = (dropping s ⇒ 23 byte (pairsAt + 8 * firstDrop 0 s)) ∷ []
+-- uncompressed: at most 32,764 values, 11 at the tuple; numbers strictly rise, 23 at the first that is not above the one before it
+abbrev pub sampleRules : Family → List Sample → List (Rule Breach)
+sampleRules f s =
+    (ltb most (length s) ⇒ 11 byte 0)
+    ∷ (dropping s ⇒ 23 byte (firstSample + sampleBytes f * firstDrop 0 s))
+    ∷ []
 
--- C-32: at most 32,764 values, 11 at the tuple; each within its limits, 24 at the first word that is not; the number of samples equals
--- the number of value words, 25 at that field
-abbrev pub wordRules : ℕ → List ℕ → List (Rule Breach)
-wordRules count ws =
-    (ltb most (values radix ws) ⇒ 11 byte 0)
-    ∷ (ltb (firstBad wide ws) (length ws) ⇒ 24 byte (wordsAt + 4 * firstBad wide ws))
-    ∷ (not (eqb count (values radix ws)) ⇒ 25 byte countAt)
+-- compressed: at most 32,764 values, 11 at the tuple; each within its limits, 24 at the first word that is not; the number of samples
+-- equals the number of value words, 25 at that field
+abbrev pub wordRules : Family → ℕ → List ℕ → List (Rule Breach)
+wordRules f count ws =
+    (ltb most (values (radixOf f) ws) ⇒ 11 byte 0)
+    ∷ (ltb (firstBad f ws) (length ws) ⇒ 24 byte (wordsAt + valueBytes f * firstBad f ws))
+    ∷ (not (eqb count (values (radixOf f) ws)) ⇒ 25 byte countAt)
     ∷ []
 
 -- ---- the verdict on the part of a file that a ping's samples fill
-unfoldable pub judgedPairs : Bool → List ℕ → Verdict
-judgedPairs o part = judged (pairRules (pairUp (allWords 4 o part)))
+unfoldable pub judgedSamples : Family → Bool → List ℕ → Verdict
+judgedSamples f o part = judged (sampleRules f (allSamples f o part))
 
-unfoldable pub judgedWords : Bool → ℕ → List ℕ → Verdict
-judgedWords o count part = judged (wordRules count (allWords 4 o part))
+unfoldable pub judgedWords : Family → Bool → ℕ → List ℕ → Verdict
+judgedWords f o count part = judged (wordRules f count (heldWords f count (allWords (valueBytes f) o part)))

@@ -1,17 +1,17 @@
--- Runs and values of a compressed ping, over the radix R of a word's halves: 65,536 for C-32. A word is a number below R * R.
--- Assumes nothing.
+-- Runs and values of a compressed ping, over the radix R of a word's halves: 65,536 for C-32, 256 for C-16 and CE-16. A word is a
+-- number below R * R. Assumes nothing.
 use Prim.Native.Nat.{ℕ, zero, suc, _+_, _-_, _*_, _/_, _%_}
-use mathlib.Core.Bool.{Bool, true, false, _&&_}
+use mathlib.Core.Bool.{Bool, true, false}
 use mathlib.Core.List.{List, [], _∷_, _++_}
 use mathlib.Core.Option.{Option, some, none}
-use lib.Dec.{eqb, leb}
+use lib.Dec.{eqb}
 use lib.ListN.{replicate}
-use Rattle.layout.specs.Families.{Family, wide}
+use Rattle.layout.specs.Families.{Family, wide, radixOf, isBad}
 use Rattle.samples.specs.Words.{Sample}
 
 -- the radix of C-32: sixteen leading ones make a word a run
 abbrev pub radix : ℕ
-radix = wide .radix
+radix = radixOf wide
 
 -- a word is a run where its upper half is all ones
 unfoldable pub isRun : ℕ → ℕ → Bool
@@ -54,10 +54,6 @@ unfoldable pub pingLength : ℕ → List ℕ → Option ℕ
 pingLength R ws = elim (endsFrom R false ws) [ true ↦ some (samplesFrom R 0 ws) | false ↦ none ]
 
 -- ---- values
--- a value outside the limits of its family
-unfoldable pub isBad : Family → ℕ → Bool
-isBad f w = leb (f .first) w && leb w (f .last)
-
 -- the number of value words, good or bad
 unfoldable pub values : ℕ → List ℕ → ℕ
 values R [] = 0

@@ -1,3 +1,4 @@
 -- The code's own view of the definitions: what its inner contracts speak of. Nothing here need be believed. Assumes nothing.
 pub mod Lists
+pub mod Narrow
 pub mod Packing

@@ -4,11 +4,11 @@ use samples::RUN_SAMPLES;
 use samples::WORD;
 ghost use mathlib.Core.Path.{_≡_};
 ghost use mathlib.Core.Bool.{false};
-ghost use mathlib.Core.List.{[], _∷_};
 ghost use Prim.Native.Nat.{_+_, _*_, _≤_};
 ghost use lib.ListN.{length};
 ghost use lib.Seq.{sets};
-ghost use Rattle.samples.specs.Words.{allWords, unwords, unpair};
+ghost use Rattle.layout.specs.Families.{wide};
+ghost use Rattle.samples.specs.Words.{allWords, unwords, sampleBack, unsampled};
 ghost use Rattle.samples.specs.Runs.{radix, decode};
 
 // Writes the words of a part in LSB order.
@@ -26,7 +26,7 @@ pub fn turn_words(part: &[u8], msb: bool, out: &mut [u8], to: usize)
 // Writes one pair in LSB order.
 fn put_pair(out: &mut [u8], at: usize, number: u32, value: u32)
     requires { ⌜ at + 8 ≤ length (now out) ⌝ }
-    ensures { λ _. ⌜ now (out .exit) ≡ sets (now (out .entry)) at (unwords 4 false (number ∷ value ∷ [])) ⌝ }
+    ensures { λ _. ⌜ now (out .exit) ≡ sets (now (out .entry)) at (sampleBack wide false (number, value)) ⌝ }
 {
     order::store4(out, at, false, number);
     order::store4(out, at + WORD, false, value);
@@ -36,10 +36,10 @@ fn put_pair(out: &mut [u8], at: usize, number: u32, value: u32)
 // the next sample's.
 pub fn spread_words(part: &[u8], msb: bool, out: &mut [u8], to: usize, end: usize)
     requires { ⌜ length (now part) ≤ 262108 ⌝ }
-    requires { ⌜ end ≡ to + 8 * length (decode radix (allWords 4 msb (now part))) ⌝ }
+    requires { ⌜ end ≡ to + length (decode radix (allWords 4 msb (now part))) * 8 ⌝ }
     requires { ⌜ end ≤ length (now out) ⌝ }
     ensures { λ _.
-        ⌜ now (out .exit) ≡ sets (now (out .entry)) to (unwords 4 false (unpair (decode radix (allWords 4 msb (now (part .entry)))))) ⌝ }
+        ⌜ now (out .exit) ≡ sets (now (out .entry)) to (unsampled wide false (decode radix (allWords 4 msb (now (part .entry))))) ⌝ }
 {
     let mut number: u32 = 0;
     let mut at = to;

@@ -9,7 +9,7 @@ ghost use lib.Dec.{leb, eqb};
 ghost use lib.ListN.{length};
 ghost use Rattle.samples.specs.Words.{allWords};
 ghost use Rattle.samples.specs.Runs.{radix};
-ghost use Rattle.samples.specs.inner.Packing.{packed, PackedAt};
+ghost use Rattle.samples.specs.inner.Packing.{packed, same, PackedAt};
 
 // A run's word is this and its samples.
 const BEFORE_RUNS: u32 = write::SHORTEST_RUN - 1;
@@ -17,7 +17,7 @@ const BEFORE_RUNS: u32 = write::SHORTEST_RUN - 1;
 // How many the fewest words are.
 pub fn count_packed(part: &[u8], msb: bool) -> usize
     requires { ⌜ length (now part) ≤ 262108 ⌝ }
-    ensures { λ r. ⌜ r ≡ length (packed radix (allWords 4 msb (now (part .entry)))) ⌝ }
+    ensures { λ r. ⌜ r ≡ length (packed radix same (allWords 4 msb (now (part .entry)))) ⌝ }
 {
     let mut count: usize = 0;
     let mut quiet: usize = 0;
@@ -45,10 +45,10 @@ fn ends_run(run: bool, quiet: u32, passed: u32) -> bool
 // next.
 pub fn pack_words(part: &[u8], msb: bool, out: &mut [u8], to: usize) -> usize
     requires { ⌜ length (now part) ≤ 262108 ⌝ }
-    requires { ⌜ to + 4 * length (packed radix (allWords 4 msb (now part))) + 8 ≤ length (now out) ⌝ }
-    ensures { λ r. ⌜ r ≡ to + 4 * length (packed radix (allWords 4 msb (now (part .entry)))) ⌝ }
+    requires { ⌜ to + 4 * length (packed radix same (allWords 4 msb (now part))) + 8 ≤ length (now out) ⌝ }
+    ensures { λ r. ⌜ r ≡ to + 4 * length (packed radix same (allWords 4 msb (now (part .entry)))) ⌝ }
     ensures { λ r.
-        ⌜ PackedAt (now (out .entry)) to (packed radix (allWords 4 msb (now (part .entry)))) (now (out .exit)) r ⌝ }
+        ⌜ PackedAt 4 (now (out .entry)) to (packed radix same (allWords 4 msb (now (part .entry)))) (now (out .exit)) r ⌝ }
 {
     let mut at = to;
     let mut quiet: u32 = 0;

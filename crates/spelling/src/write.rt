@@ -8,9 +8,9 @@ ghost use Prim.Native.Nat.{_+_, _*_, _^_, _<_, _≤_};
 ghost use lib.ListN.{length};
 ghost use lib.Seq.{sets};
 ghost use Rattle.layout.specs.Families.{wide};
-ghost use Rattle.samples.specs.Words.{unwords, unpair};
+ghost use Rattle.samples.specs.Words.{unwords, unsampled};
 ghost use Rattle.samples.specs.Lists.{paired};
-ghost use Rattle.samples.specs.inner.Lists.{numbered, valued};
+ghost use Rattle.samples.specs.inner.Lists.{numbered, valued, worded};
 ghost use Rattle.samples.specs.Runs.{radix, gap, encodeFrom};
 ghost use Rattle.samples.specs.Runs.{behind as numberBehind};
 ghost use Rattle.samples.specs.Judging.{firstDrop, firstWordless};
@@ -24,7 +24,7 @@ const FULL_RUN_WORD: u32 = 0xffff_ffff;
 pub const SHORTEST_RUN: u32 = 0xffff_0000;
 
 // A sample number, wide enough for the one that follows it.
-fn wide(number: u32) -> usize
+pub fn wide(number: u32) -> usize
     ensures { λ r. ⌜ (r ≡ number) × (r < 2 ^ 32) ⌝ }
 {
     number as usize
@@ -49,7 +49,7 @@ pub fn first_drop(numbers: &[u32]) -> usize
 
 // The place of the first value that has no C-32 word; as many as there are where all have one.
 pub fn first_wordless(values: &[i32]) -> usize
-    ensures { λ r. ⌜ r ≡ firstWordless wide (valued (now (values .entry))) ⌝ }
+    ensures { λ r. ⌜ r ≡ firstWordless wide (valued 4 (now (values .entry))) ⌝ }
 {
     let mut i: usize = 0;
     while i < values.len() {
@@ -135,11 +135,11 @@ pub fn write_words(
     at: usize,
 )
     requires { ⌜ length (now values) ≡ length (now numbers) ⌝ }
-    requires { ⌜ firstDrop 0 (paired (now numbers) (now values)) ≡ length (now numbers) ⌝ }
-    requires { ⌜ at + 4 * length (encodeFrom radix 0 (paired (now numbers) (now values)) quiet) ≤ length (now out) ⌝ }
+    requires { ⌜ firstDrop 0 (paired 4 (now numbers) (now values)) ≡ length (now numbers) ⌝ }
+    requires { ⌜ at + 4 * length (encodeFrom radix 0 (worded wide (now numbers) (now values)) quiet) ≤ length (now out) ⌝ }
     ensures { λ _.
         ⌜ now (out .exit) ≡ sets (now (out .entry)) at
-        (unwords 4 msb (encodeFrom radix 0 (paired (now (numbers .entry)) (now (values .entry))) quiet)) ⌝ }
+        (unwords 4 msb (encodeFrom radix 0 (worded wide (now (numbers .entry)) (now (values .entry))) quiet)) ⌝ }
 {
     let mut to = at;
     let mut next: usize = 0;
@@ -160,7 +160,7 @@ pub fn write_pairs(numbers: &[u32], values: &[i32], msb: bool, out: &mut [u8], a
     requires { ⌜ length (now values) ≡ length (now numbers) ⌝ }
     requires { ⌜ at + 8 * length (now numbers) ≤ length (now out) ⌝ }
     ensures { λ _.
-        ⌜ now (out .exit) ≡ sets (now (out .entry)) at (unwords 4 msb (unpair (paired (now (numbers .entry)) (now (values .entry))))) ⌝ }
+        ⌜ now (out .exit) ≡ sets (now (out .entry)) at (unsampled wide msb (paired 4 (now (numbers .entry)) (now (values .entry)))) ⌝ }
 {
     let mut to = at;
     let mut i: usize = 0;

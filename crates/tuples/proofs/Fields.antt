@@ -8,9 +8,10 @@ use borrow.Author.Tests.{eqb-true, leb-true}
 use lib.Dec.{eqb, leb}
 use lib.ListN.{length, take, drop, length-drop}
 use lib.Seq.{length-take-le}
-use Rattle.layout.specs.Types.{Shape, indexed, row, pairs, words, unlisted, shapeOf, lengthsOf, Length, exactly, upward, fitting}
-use Rattle.layout.specs.Types.{lengthFrom}
+use Rattle.layout.specs.Types.{Shape, indexed, row, uncompressed, compressed, unlisted, shapeOf, lengthsOf}
+use Rattle.layout.specs.Types.{Length, exactly, upward, fitting, lengthFrom}
 use Rattle.layout.proofs.Tables.{lengths-from}
+use Rattle.layout.proofs.Families.{IsRow}
 use Rattle.layout.proofs.Verdicts.{both-left}
 use Rattle.turning.specs.Rows.{valuesOf}
 use Rattle.turning.proofs.Contents.{valuesAt, values-at}
@@ -25,15 +26,6 @@ use Rattle.intake.proofs.Judges.{head-fits, own-parts}
 use Rattle.tuples.specs.Readers.{tupleThere, only, valuesBy, readValues, rowBy, rowOf}
 use Rattle.tuples.specs.inner.Opening.{Readable}
 use Rattle.tuples.proofs.Reading.{stands, here}
-
--- ---- a row and its lengths
--- the row of a tuple of n bytes fills it but for its frame
-abbrev pub IsRow : Shape → Type 0
-IsRow indexed = ⊥
-IsRow (row fs x) = Unit {0}
-IsRow pairs = ⊥
-IsRow words = ⊥
-IsRow unlisted = ⊥
 
 -- ---- a tuple of the type asked for
 module _ (k : ℕ) {f : List ℕ} {p : ℕ} {o : Bool} {n i : ℕ} (r : Readable (only k) f p o n i) where
@@ -78,8 +70,8 @@ module _ (k : ℕ) {f : List ℕ} {p : ℕ} {o : Bool} {n i : ℕ} (r : Readable
         ap (λ (m : ℕ). valuesOf (isMsb f) (rowIn fs x m) (tupleThere f p .body)) (length-body (isMsb f) f p n whole-there)
         ∙ values-place (isMsb f) f p n whole-there (rowIn fs x (n - 10)) (omega (arith, row-size fs x (n - 10) e, data-long))
         ∙ sym (values-at (isMsb f) (rowIn fs x (n - 10)) f p 6)
-    by-row pairs a e = absurd a
-    by-row words a e = absurd a
+    by-row (uncompressed f) a e = absurd a
+    by-row (compressed f) a e = absurd a
     by-row unlisted a e = absurd a
 
     -- the values are those of the row behind the type

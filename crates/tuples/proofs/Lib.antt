@@ -3,3 +3,4 @@ pub mod Fields
 pub mod Storing
 pub mod Writing
 pub mod Places
+pub mod Codes

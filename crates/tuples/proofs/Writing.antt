@@ -17,9 +17,9 @@ use Rattle.order.proofs.Laws.{length-bytesOf}
 use Rattle.layout.specs.declared.Answer.{Answer}
 use Rattle.layout.specs.declared.Answer.the-variants.{Refused}
 use Rattle.layout.specs.Fields.{Field, num, txt, gap, ident, s, size}
-use Rattle.layout.specs.Types.{Shape, indexed, row, pairs, words, unlisted, shapeOf, listed}
-use Rattle.layout.specs.inner.Codes.{placeIn, fieldsIn, fieldsOf, rowCodes}
-use Rattle.layout.proofs.Tables.{Tabled, tabled, fields-there}
+use Rattle.layout.specs.Types.{Shape, indexed, row, uncompressed, compressed, unlisted, shapeOf}
+use Rattle.layout.specs.inner.Codes.{placeIn, rowed, fieldsIn, fieldsOf, rowCodes}
+use Rattle.layout.proofs.Tables.{fields-there}
 use Rattle.frame.specs.Frames.{frame}
 use Rattle.frame.specs.inner.Framing.{openBytes, closeBytes}
 use Rattle.frame.proofs.Frames.{length-frame}
@@ -30,6 +30,7 @@ use Rattle.turning.proofs.Writes.{length-woven}
 use Rattle.content.specs.Forms.{encodeBy, plainTuple}
 use Rattle.tuples.specs.Writers.{writeAnswer, Written, plainBytes}
 use Rattle.tuples.specs.inner.Framing.{handedValues, Handable}
+use Rattle.layout.proofs.Families.{IsRow, row-rowed}
 use Rattle.tuples.proofs.Storing.{in-four}
 
 -- ---- any writer, by its answer
@@ -93,8 +94,8 @@ module _ (o : Bool) (ns t b : List ℕ) (n a : ℕ) where
   handed-body (row fs (some least)) z =
       encode-behind o fs (txt (0 - (size fs + 4)) ∷ s 4 ∷ []) ns t (text b ∷ number a ∷ [])
       ∙ ap (λ (x : List ℕ). encode o fs (woven fs ns t) ++ (b ++ x)) (append-nil (bytesOf o 4 a))
-  handed-body pairs z = absurd z
-  handed-body words z = absurd z
+  handed-body (uncompressed f) z = absurd z
+  handed-body (compressed f) z = absurd z
   handed-body unlisted z = absurd z
 
   -- its sizes
@@ -103,24 +104,24 @@ module _ (o : Bool) (ns t b : List ℕ) (n a : ℕ) where
   handed-sizes indexed z = absurd z
   handed-sizes (row fs none) z = (z .2, z .3, z .0)
   handed-sizes (row fs (some least)) z = (z .1, z .2, z .0)
-  handed-sizes pairs z = absurd z
-  handed-sizes words z = absurd z
+  handed-sizes (uncompressed f) z = absurd z
+  handed-sizes (compressed f) z = absurd z
   handed-sizes unlisted z = absurd z
 
-  -- it is a listed type's, and the code's row is its row
-  handed-listed : (q : Shape) (i : ℕ) → Tabled q i → Handable q ns t b n → i < listed
-  handed-listed indexed i h z = absurd z
-  handed-listed (row fs x) i h z = h
-  handed-listed pairs i h z = h
-  handed-listed words i h z = h
-  handed-listed unlisted i h z = absurd z
+  -- it is a row's, and the code's row is its row
+  handed-row : (q : Shape) → Handable q ns t b n → IsRow q
+  handed-row indexed z = absurd z
+  handed-row (row fs x) z = tt
+  handed-row (uncompressed f) z = absurd z
+  handed-row (compressed f) z = absurd z
+  handed-row unlisted z = absurd z
 
   module _ (k : ℕ) (z : Handable (shapeOf k) ns t b n) where
-    pub row-listed : placeIn k < listed
-    row-listed = handed-listed (shapeOf k) (placeIn k) (tabled k) z
+    pub handed-rowed : placeIn k < rowed
+    handed-rowed = row-rowed k (handed-row (shapeOf k) z)
 
     pub row-there : fieldsOf (getD rowCodes (placeIn k) []) ≡ fieldsIn (shapeOf k)
-    row-there = fields-there k row-listed
+    row-there = fields-there k (omega (arith, handed-rowed))
 
     pub sizes : (n ≡ size (fieldsIn (shapeOf k)) + length b + 14) × (n ≤ 262144) × (textFits (fieldsIn (shapeOf k)) t ≡ true)
     sizes = handed-sizes (shapeOf k) z

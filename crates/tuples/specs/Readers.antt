@@ -9,7 +9,8 @@ use Rattle.rules.specs.Rules.{Rule, _⇒_, firstOf, saying}
 use Rattle.layout.specs.declared.Answer.{Answer}
 use Rattle.layout.specs.declared.Answer.the-variants.{Refused}
 use Rattle.layout.specs.Fields.{Field}
-use Rattle.layout.specs.Types.{Shape, indexed, row, pairs, words, unlisted, shapeOf}
+use Rattle.layout.specs.Families.{valueCount}
+use Rattle.layout.specs.Types.{Shape, indexed, row, uncompressed, compressed, unlisted, shapeOf}
 use Rattle.layout.specs.Answers.{Breach, _byte_, refusedAt, accepting}
 use Rattle.frame.specs.declared.Step.{Step}
 use Rattle.frame.specs.declared.Step.the-variants.{Tuple, End}
@@ -51,17 +52,30 @@ valuesBy (some (raw k d)) = []
 abbrev pub readValues : List ℕ → ℕ → List Value
 readValues f p = valuesBy (readItem f p)
 
--- a reader asks for one type, or for a listed ping (`isPing`)
+-- a reader asks for one type; for a listed ping (`isPing`); for one whose samples have a value each, or two angles
 abbrev pub only : ℕ → ℕ → Bool
 only k c = eqb c k
+
+abbrev pub holding : ℕ → Shape → Bool
+holding n indexed = false
+holding n (row fs x) = false
+holding n (uncompressed f) = eqb (valueCount f) n
+holding n (compressed f) = eqb (valueCount f) n
+holding n unlisted = false
+
+abbrev pub isValued : ℕ → Bool
+isValued k = holding 1 (shapeOf k)
+
+abbrev pub isAngled : ℕ → Bool
+isAngled k = holding 2 (shapeOf k)
 
 -- ---- records: tuples whose data a row says
 -- the row of a type, in a tuple of n bytes, with its characters and its attribute
 abbrev pub rowBy : Shape → ℕ → List Field
 rowBy indexed m = []
 rowBy (row fs x) m = rowIn fs x m
-rowBy pairs m = []
-rowBy words m = []
+rowBy (uncompressed f) m = []
+rowBy (compressed f) m = []
 rowBy unlisted m = []
 
 abbrev pub rowOf : ℕ → ℕ → List Field
@@ -71,8 +85,8 @@ rowOf k n = rowBy (shapeOf k) (n - 10)
 abbrev pub isRow : Shape → Bool
 isRow indexed = false
 isRow (row fs x) = true
-isRow pairs = false
-isRow words = false
+isRow (uncompressed f) = false
+isRow (compressed f) = false
 isRow unlisted = false
 
 abbrev pub isRecord : ℕ → Bool

@@ -15,8 +15,8 @@ ghost use lib.ListN.{length, take, drop};
 ghost use lib.Seq.{sets};
 ghost use Rattle.order.specs.Order.{numOf, signedOf, patternOf};
 ghost use Rattle.layout.specs.Types.{shapeOf};
-ghost use Rattle.layout.specs.Families.{isPing};
-ghost use Rattle.tuples.specs.Readers.{isRecord, recordsOf};
+ghost use Rattle.layout.specs.Types.{isPing};
+ghost use Rattle.tuples.specs.Readers.{isRecord, recordsOf, isValued, isAngled};
 ghost use Rattle.frame.specs.inner.Framing.{closeBytes};
 ghost use Rattle.tuples.specs.inner.Opening.{FoundTuple, FoundAs, OpenedAs};
 ghost use Rattle.tuples.specs.Writers.{Written, plainBytes};
@@ -82,10 +82,7 @@ fn open_found(file: &[u8], place: usize, msb: bool, whole: usize, code: u16, ask
 pub fn is_record(code: u16) -> bool
     ensures { λ r. ⌜ r ≡ isRecord code ⌝ }
 {
-    if code == types::PING_U {
-        return false;
-    }
-    if code == types::PING_C {
+    if intake::is_ping(code) {
         return false;
     }
     layout::listing_of(code) < layout::LISTED
@@ -113,7 +110,7 @@ pub fn open_record(file: &[u8], place: usize, asked: u16) -> Opened
     }
 }
 
-// Opens the tuple at a place for a reader of listed pings, of either type.
+// Opens the tuple at a place for a reader of listed pings, of any type.
 pub fn open_ping(file: &[u8], place: usize) -> Opened
     ensures { λ r. ⌜ OpenedAs isPing (now (file .entry)) place r ⌝ }
 {
@@ -121,6 +118,55 @@ pub fn open_ping(file: &[u8], place: usize) -> Opened
         Opened::Refused { code, place } => Opened::Refused { code, place },
         Opened::Tuple { msb, whole, code } => {
             open_found(file, place, msb, whole, code, intake::is_ping(code))
+        }
+    }
+}
+
+// Whether a type is that of a listed ping whose samples have a value each.
+fn is_valued(code: u16) -> bool
+    ensures { λ r. ⌜ r ≡ isValued code ⌝ }
+{
+    match code {
+        types::PING_U => true,
+        types::PING_C => true,
+        types::PING_U16 => true,
+        types::PING_C16 => true,
+        types::PING_CE16 => true,
+        _ => false,
+    }
+}
+
+// The same of one whose samples have two angles each.
+fn is_angled(code: u16) -> bool
+    ensures { λ r. ⌜ r ≡ isAngled code ⌝ }
+{
+    match code {
+        types::PING_ANGLES => true,
+        types::PING_U16_ANGLES => true,
+        _ => false,
+    }
+}
+
+// Opens the tuple at a place for a reader of samples.
+pub fn open_valued(file: &[u8], place: usize) -> Opened
+    ensures { λ r. ⌜ OpenedAs isValued (now (file .entry)) place r ⌝ }
+{
+    match find(file, place) {
+        Opened::Refused { code, place } => Opened::Refused { code, place },
+        Opened::Tuple { msb, whole, code } => {
+            open_found(file, place, msb, whole, code, is_valued(code))
+        }
+    }
+}
+
+// Opens the tuple at a place for a reader of angles.
+pub fn open_angled(file: &[u8], place: usize) -> Opened
+    ensures { λ r. ⌜ OpenedAs isAngled (now (file .entry)) place r ⌝ }
+{
+    match find(file, place) {
+        Opened::Refused { code, place } => Opened::Refused { code, place },
+        Opened::Tuple { msb, whole, code } => {
+            open_found(file, place, msb, whole, code, is_angled(code))
         }
     }
 }

@@ -1,4 +1,4 @@
--- E1 to E8 of 01: one table, and a test of each of its lines. Assumes nothing.
+-- E1 to E8 of 01, and examples of the kinds of ping: one table, and a test of each of its lines. Assumes nothing.
 use Prim.Native.Nat.{ℕ}
 use Prim.Native.String.{String}
 use mathlib.Core.Bool.{Bool, true, false, not, _&&_}
@@ -13,6 +13,7 @@ use Rattle.frame.specs.declared.Step.{Step}
 use Rattle.frame.specs.declared.Step.the-variants.{Tuple, End, Refused}
 use Rattle.frame.specs.Steps.{stepForward, stepNumbers}
 use Rattle.samples.specs.Runs.{radix, isRun, runLength}
+use Rattle.samples.specs.Values.{countOf}
 use Rattle.samples.specs.Lists.{numbersOf, valuesOf}
 use Rattle.tuples.specs.Readers.{only, readAnswer}
 use Rattle.rows.specs.Integers.{rowIntegers}
@@ -35,6 +36,7 @@ pub data Example : Type 0 where
   tupleProgram : List String → List String → Example  -- program two does
   run : ℕ → ℕ → Example  -- a word is a run of so many
   value : ℕ → ℤ → Example  -- a word is this value
+  count : ℕ → ℤ → Example  -- a CE-16 word stands for this count
   heading : List String → ℤ → Example  -- the navigation read behind the mark of these lines has this heading
   samples : List String → List ℕ → List ℤ → Example  -- the ping read there has samples of these numbers and these values
   framed : String → Example  -- the tuple behind the mark is found
@@ -89,10 +91,12 @@ holds (fileProgram is os) = same (normalFile (text is)) (text os)
 holds (tupleProgram is os) = same (normalTuple (text is)) (text os)
 holds (run w n) = isRun radix w && eqb (runLength radix w) n
 holds (value w z) = not (isRun radix w) && sameInt (signedOf 4 w) z
+holds (count w z) = not (isRun 256 w) && sameInt (countOf w) z
 holds (heading ls z) = hasHeading z (navigationIn (fileOf ls))
 holds (samples ls ns vs) =
     let f = fileOf ls in
-    isAccepted (sampleAnswer f 4 (length ns) (length vs)) && same (numbersOf (samplesAt f 4)) ns && sameInts (valuesOf (samplesAt f 4)) vs
+    let s = samplesAt f 4 in
+    isAccepted (sampleAnswer f 4 (length ns) (length vs)) && same (numbersOf s) ns && sameInts (valuesOf 4 s) vs
 holds (framed s) = isTuple (stepped s)
 holds (unframed s c) = eqb (stepNumbers (stepped s) .code) c
 
@@ -152,6 +156,48 @@ table =
     ∷ tupleProgram
     ("ac000000" ∷ "220000001a2700003c0000000100000001000000ffffff7f000000000000ffffffffffff000000002c000000" ∷ [])
     ("ac000000" ∷ "220000001a2700003c0000000100000001000000ffffff7f00000000ffffffff0000ffff000000002c000000" ∷ [])
+    -- ---- the other kinds of ping, from docs/PINGS.md
+    -- U-32-16-angles: kept
+    ∷ tupleProgram ("ac000000" ∷ "26000000112700003c0000000100000001000000ffffff7f00000000f1ff080700000100ff7f00800000000030000000" ∷ [])
+    ("ac000000" ∷ "26000000112700003c0000000100000001000000ffffff7f00000000f1ff080700000100ff7f00800000000030000000" ∷ [])
+    -- U-16: kept
+    ∷ tupleProgram ("ac000000" ∷ "1e0000002e2700003c0000000100000001000000ffffff7f0200ffffffff00800000000028000000" ∷ [])
+    ("ac000000" ∷ "1e0000002e2700003c0000000100000001000000ffffff7f0200ffffffff00800000000028000000" ∷ [])
+    -- U-16-angles: a space is 0
+    ∷ tupleProgram ("ac000000" ∷ "1e0000002f2700003c0000000100000001000000ffffff7f07000100020020ff0000000028000000" ∷ [])
+    ("ac000000" ∷ "1e0000002f2700003c0000000100000001000000ffffff7f07000100020000000000000028000000" ∷ [])
+    -- a number that doesn't rise, at its byte
+    ∷ tupleProgram ("ac000000" ∷ "220000002f2700003c0000000100000001000000ffffff7f070001000200070001000200000000002c000000" ∷ [])
+    ("refused 23 34" ∷ [])
+    -- C-16: a space behind the words, which may hold anything; U-16 says the samples
+    ∷ tupleProgram ("ac000000" ∷ "22000000382700003c0000000100000001000000ffffff7f0100000000ff03ff64003412000000002c000000" ∷ [])
+    ("ac000000" ∷ "1a0000002e2700003c0000000100000001000000ffffff7f050064000000000024000000" ∷ [])
+    -- a last word that the number of samples counts
+    ∷ tupleProgram ("ac000000" ∷ "22000000382700003c0000000100000001000000ffffff7f0200000000ff03ff64000000000000002c000000" ∷ [])
+    ("ac000000" ∷ "1e0000002e2700003c0000000100000001000000ffffff7f05006400060000000000000028000000" ∷ [])
+    -- a last run is no space
+    ∷ tupleProgram ("ac000000" ∷ "22000000382700003c0000000100000001000000ffffff7f0100000000ff03ff640020ff000000002c000000" ∷ [])
+    ("ac000000" ∷ "22000000382700003c0000000100000001000000ffffff7f0100000004ff640020ff0000000000002c000000" ∷ [])
+    -- the limits, and -32,512 outside them
+    ∷ tupleProgram ("ac000000" ∷ "1e000000382700003c0000000100000001000000ffffff7f020000000181ff7e0000000028000000" ∷ [])
+    ("ac000000" ∷ "1e0000002e2700003c0000000100000001000000ffffff7f000001810100ff7e0000000028000000" ∷ [])
+    ∷ tupleProgram ("ac000000" ∷ "1e000000382700003c0000000100000001000000ffffff7f01000000008100ff0000000028000000" ∷ [])
+    ("refused 24 32" ∷ [])
+    -- CE-16: the limits, and 7F00 outside them
+    ∷ tupleProgram ("ac000000" ∷ "1e000000422700003c0000000100000001000000ffffff7f02000000ff7efffe0000000028000000" ∷ [])
+    ("ac000000" ∷ "1e000000422700003c0000000100000001000000ffffff7f02000000ff7efffe0000000028000000" ∷ [])
+    ∷ tupleProgram ("ac000000" ∷ "1e000000422700003c0000000100000001000000ffffff7f01000000007f00ff0000000028000000" ∷ [])
+    ("refused 24 32" ∷ [])
+    -- 8000 is 0
+    ∷ tupleProgram ("ac000000" ∷ "1e000000422700003c0000000100000001000000ffffff7f02000000008001800000000028000000" ∷ [])
+    ("ac000000" ∷ "1e000000422700003c0000000100000001000000ffffff7f02000000000001800000000028000000" ∷ [])
+    -- counts of CE-16 words: without an exponent, with one, both limits, and the second spelling of 0
+    ∷ count 0x0fff (pos 4095)
+    ∷ count 0x2001 (pos 8194)
+    ∷ count 0xa001 (negsuc 8193)
+    ∷ count 0x7eff (pos 507840)
+    ∷ count 0xfeff (negsuc 507839)
+    ∷ count 0x8000 (pos 0)
     -- E8: with bytes enough left, length 16 is allowed, 14 and 12 give 5
     ∷ framed "ac00000006000000dcff61626364656610000000"
     ∷ unframed "ac00000004000000dcff616263640e0000000000000000" 5

@@ -1,13 +1,13 @@
-//! Writes the samples into a folder: `cruise DIR`. They are two made-up surveys, a
-//! cruise in four spellings and the next day's split-beam survey in two, each with
-//! its one normal form; each file as lines and as bytes. The same bytes come at
-//! every run.
+//! Writes the samples into a folder: `cruise DIR`. They are three made-up surveys, a
+//! cruise in four spellings, the next day's split-beam survey in two, and the day's
+//! behind it in two, whose recorder used the other encodings of pings, each with its
+//! one normal form; each file as lines and as bytes. The same bytes come at every run.
 
 use second::gen::{frames, render, Body, Draft, Piece, PingStyle, Rng, Style};
 use second::layout::*;
 use second::programs::BYTE_LIMIT;
 use second::walk::{forward, Step};
-use second::{normalise, Order};
+use second::{normalise, Family, Order, PingKind};
 use std::path::Path;
 use std::{env, fs, io, process};
 use Piece::{Chars, Four, Identifier, Space, Two};
@@ -15,8 +15,9 @@ use Piece::{Chars, Four, Identifier, Space, Two};
 /// The cruise's first second, ANSI C time: 14 July 1998, 9 o'clock.
 const START: u32 = 900_406_800;
 
-/// The split-beam survey is so much later.
+/// The split-beam survey is so much later, and the one with the other encodings.
 const NEXT_DAY: u32 = 86_400;
+const THIRD_DAY: u32 = 2 * NEXT_DAY;
 
 /// Document identifiers of the cruise's two sounders, and of the EK-500.
 const HULL: u32 = 1201;
@@ -32,10 +33,11 @@ const ALL_CHANNELS: u16 = 65535;
 const INDEX: u16 = 65406;
 
 /// The stream of chance of each survey's first spelling; from here on, several
-/// pings are U-32 in one spelling and C-32 in another, and pings that end in silence
-/// are cut in more runs in some.
+/// pings are U-32 in one spelling and C-32 in another, or U-16 and C-16, and pings that
+/// end in silence are cut in more runs in some.
 const STREAM: u64 = 25;
 const SPLIT_BEAM_STREAM: u64 = 125;
+const ENCODINGS_STREAM: u64 = 225;
 
 /// A signed field's bits.
 fn signed(number: i16) -> Piece {
@@ -161,22 +163,45 @@ fn index() -> Draft {
 /// The samples of a ping, and its length where silence ends it.
 type Sampled = (Vec<(u32, i32)>, Option<u32>);
 
-/// A ping; one without samples was taken with a passive transmitter.
-fn ping(seconds: u32, channel: u16, number: u32, bottom: u32, sampled: Sampled) -> Draft {
-    let (samples, length) = sampled;
-    let passive = samples.is_empty();
-    let header = vec![
+/// What stands before a ping's samples. Its bottom is the last field.
+fn ping_header(seconds: u32, channel: u16, passive: bool, number: u32, bottom: u32) -> Vec<Piece> {
+    vec![
         Two(1250),
         Four(START + seconds),
         Two(channel),
         Two(u16::from(passive)),
         Four(number),
         Four(bottom),
-    ];
+    ]
+}
+
+/// A ping of 32 bits; one without samples was taken with a passive transmitter.
+fn ping(seconds: u32, channel: u16, number: u32, bottom: u32, sampled: Sampled) -> Draft {
+    let header = ping_header(seconds, channel, sampled.0.is_empty(), number, bottom);
+    ping_of(Family::Bits32, header, sampled)
+}
+
+/// A ping of a family without angles.
+fn ping_of(family: Family, header: Vec<Piece>, (samples, length): Sampled) -> Draft {
     let body = Body::Ping {
+        family,
         header,
         samples,
         length,
+    };
+    draft(PING_U32, body)
+}
+
+/// A ping of angles: of each sample its number, and both angles in tenths of a degree.
+fn angles(kind: PingKind, header: Vec<Piece>, samples: &[(u32, i16, i16)]) -> Draft {
+    let pattern = |angle: i16| u32::from(angle as u16);
+    let samples = samples
+        .iter()
+        .map(|(number, along, athwart)| (*number, [pattern(*along), pattern(*athwart)]));
+    let body = Body::Listed {
+        kind,
+        header,
+        samples: samples.collect(),
     };
     draft(PING_U32, body)
 }
@@ -322,6 +347,108 @@ fn split_beam() -> Vec<Draft> {
     ]
 }
 
+/// Echoes of 16 bits, each a bit under the strongest, in hundredths of a dB.
+fn narrow_layer(rng: &mut Rng, first: u32, count: u32, strongest: i32) -> Vec<(u32, i32)> {
+    (first..first + count)
+        .map(|number| (number, strongest - rng.below(900) as i32))
+        .collect()
+}
+
+/// Eleven pings of the other encodings: of the EK-500's Sv and phase angles, and of the
+/// towed sounder's Sv and volts.
+fn other_encodings(rng: &mut Rng) -> [Draft; 11] {
+    use PingKind::{U16Angles, U32_16Angles};
+    let at = |seconds, channel, number, bottom| {
+        ping_header(THIRD_DAY + seconds, channel, false, number, bottom)
+    };
+    let shoal = [
+        narrow_layer(rng, 0, 2, -900),
+        narrow_layer(rng, 615, 6, -5200),
+    ]
+    .concat();
+    // A stored 0 is a sample. In the fewest words these two have 7 and 8.
+    let odd = [narrow_layer(rng, 0, 1, -7000), vec![(431, 0)]].concat();
+    let even = narrow_layer(rng, 430, 3, -4800);
+    // More samples than U-16 can number before its last.
+    let deep = [
+        narrow_layer(rng, 12, 1, -6100),
+        narrow_layer(rng, 65_535, 2, -1850),
+    ]
+    .concat();
+    // The last value has no word in C-16.
+    let bottom = [narrow_layer(rng, 611, 3, -5500), vec![(1388, -37)]].concat();
+    // Ten-thousandths of a volt, all of which an exponent gives. Two are 0.
+    let volts = [
+        (0, 248_000),
+        (1, 97_600),
+        (2, 0),
+        (840, 7301),
+        (841, 12_346),
+        (842, 0),
+        (843, 512),
+    ];
+    let later = [(845, 60_160), (846, 0), (847, -8190)];
+    let silent = ping_header(THIRD_DAY + 6, 21, true, 2, NO_BOTTOM);
+    [
+        ping_of(Family::Bits16, at(4, 21, 1, 30_860), (shoal, None)),
+        angles(
+            U32_16Angles,
+            at(4, 22, 1, 30_860),
+            &[(615, -15, 7), (616, 312, -1800), (70_400, 3, -4)],
+        ),
+        angles(
+            U16Angles,
+            at(5, 22, 2, 30_860),
+            &[(615, -12, 9), (616, 1800, -305), (65_535, 0, -1)],
+        ),
+        angles(
+            U16Angles,
+            at(6, 22, 3, 30_910),
+            &[(617, 40, -41), (618, -32_768, 32_767)],
+        ),
+        ping_of(Family::Bits16, at(4, 23, 1, 35_970), (odd, Some(982))),
+        ping_of(Family::Bits16, at(5, 23, 2, 36_020), (even, Some(982))),
+        ping_of(Family::Bits16, silent, (Vec::new(), Some(1389))),
+        ping_of(Family::Bits16, at(6, 23, 3, 5_203_000), (deep, None)),
+        ping_of(Family::Bits16, at(7, 21, 3, 30_910), (bottom, None)),
+        ping_of(Family::Ce16, at(7, 24, 1, 70_650), (volts.to_vec(), None)),
+        ping_of(
+            Family::Ce16,
+            at(8, 24, 2, 70_780),
+            (later.to_vec(), Some(1905)),
+        ),
+    ]
+}
+
+/// The third day's survey: an EK-500 with a channel of Sv and one of phase angles, and the
+/// towed sounder with one of Sv and one of volts.
+fn encodings() -> Vec<Draft> {
+    let pings = other_encodings(&mut Rng::new(THIRD_DAY.into()));
+    let at = |seconds| THIRD_DAY + seconds;
+    let mut drafts = vec![
+        signature(),
+        timed(START_OF_RUN, 0, at(0), Vec::new()),
+        position(at(1), 48_711_940, -64_388_150),
+        navigation(at(1), 870),
+        ek500_sounder(2, SPLIT_BEAM, -85, "EK-500, serial 0417"),
+        ek500_channel(21, SPLIT_BEAM, 2, 1, 38_000),
+        ek500_channel(22, SPLIT_BEAM, 0, 1, 38_000),
+        sounder(2, TOWED, "towed body, serial 0033"),
+        channel(23, TOWED, 1, 1, 120_000),
+        channel(24, TOWED, 0, 2, 420_000),
+        attitude(at(2), ALL_CHANNELS, 0, 4, -6),
+        threshold(at(3), 23, 75_000_000),
+        marker(at(3), "16 bits, transect 1 begins"),
+    ];
+    drafts.extend(pings);
+    drafts.extend([
+        marker(at(9), "16 bits, transect 1 ends"),
+        timed(END_OF_RUN, 0, at(10), Vec::new()),
+        end_of_file(at(11)),
+    ]);
+    drafts
+}
+
 /// A survey and the ways to write it down.
 struct Survey {
     name: &'static str,
@@ -339,7 +466,8 @@ struct Spelling {
     index: Option<usize>,
 }
 
-/// Silence in the fewest runs or cut otherwise; the spaces of "lsb" alone are 0.
+/// Silence in the fewest runs or cut otherwise; the spaces of "lsb" alone are 0, and so
+/// are all its zeros of CE-16, which have a second spelling.
 fn spelling(
     name: &'static str,
     order: Order,
@@ -351,6 +479,7 @@ fn spelling(
         name,
         style: Style {
             rubbish: name != "lsb",
+            minus_zero: name != "lsb",
             pings,
             cut,
             ..Style::plain(order)
@@ -360,19 +489,19 @@ fn spelling(
 }
 
 /// The cruise in both byte orders, each with its silence in the fewest runs and cut in
-/// more; the split-beam survey in both, once so and once so.
-fn surveys() -> [Survey; 2] {
-    use PingStyle::{Mixed, C32};
+/// more; the two other surveys in both, once so and once so.
+fn surveys() -> [Survey; 3] {
+    use PingStyle::{Mixed, Packed};
     [
         Survey {
             name: "cruise",
             drafts: cruise(),
             stream: STREAM,
             spellings: vec![
-                spelling("lsb", Order::Lsb, C32, false, Some(24)),
+                spelling("lsb", Order::Lsb, Packed, false, Some(24)),
                 spelling("lsb-cut", Order::Lsb, Mixed, true, Some(9)),
                 spelling("msb", Order::Msb, Mixed, false, Some(24)),
-                spelling("msb-cut", Order::Msb, C32, true, None),
+                spelling("msb-cut", Order::Msb, Packed, true, None),
             ],
         },
         Survey {
@@ -380,7 +509,16 @@ fn surveys() -> [Survey; 2] {
             drafts: split_beam(),
             stream: SPLIT_BEAM_STREAM,
             spellings: vec![
-                spelling("lsb", Order::Lsb, C32, false, Some(26)),
+                spelling("lsb", Order::Lsb, Packed, false, Some(26)),
+                spelling("msb", Order::Msb, Mixed, true, None),
+            ],
+        },
+        Survey {
+            name: "encodings",
+            drafts: encodings(),
+            stream: ENCODINGS_STREAM,
+            spellings: vec![
+                spelling("lsb", Order::Lsb, Packed, false, Some(26)),
                 spelling("msb", Order::Msb, Mixed, true, None),
             ],
         },

@@ -69,7 +69,7 @@ fn main() -> io::Result<()> {
     };
     let dir = Path::new(dir);
     fs::create_dir_all(dir)?;
-    for kind in FAULT_KINDS {
+    for kind in FAULT_KINDS.iter().copied() {
         write_kind(dir, kind)?;
     }
     let unlisted = shortest(sound_case, 18, Some(Order::Msb));

@@ -1,6 +1,7 @@
 //! Drafts of tuples, and their rendering as bytes in a style.
 
 use super::Rng;
+use crate::kinds::{Family, PingKind};
 use crate::order::Order;
 
 /// A field of a draft.
@@ -18,20 +19,26 @@ pub enum Piece {
 #[derive(Clone, PartialEq, Eq, Debug)]
 pub enum Body {
     Fields(Vec<Piece>),
-    /// A sound ping; the style says whether it becomes U-32 or C-32, but one with a
-    /// length, or without samples, is C-32.
+    /// A sound ping; the style says which kind of its family it becomes, but it is in
+    /// words where it has a length, or no samples, or one that the other kind can't
+    /// number.
     Ping {
+        family: Family,
         header: Vec<Piece>,
         samples: Vec<(u32, i32)>,
         length: Option<u32>,
     },
-    /// A U-32 ping as it stands, sound or not.
-    Pairs {
+    /// A ping of a kind that numbers its samples, as it stands, sound or not: each number
+    /// with its value, or with two angles.
+    Listed {
+        kind: PingKind,
         header: Vec<Piece>,
-        pairs: Vec<(u32, u32)>,
+        samples: Vec<(u32, [u32; 2])>,
     },
-    /// A C-32 ping as it stands, sound or not.
+    /// A ping of words as it stands, sound or not, with a space behind them where they
+    /// need one.
     Words {
+        kind: PingKind,
         header: Vec<Piece>,
         count: u32,
         words: Vec<u32>,
@@ -73,18 +80,25 @@ impl Draft {
     pub fn pieces(&mut self) -> &mut [Piece] {
         match &mut self.body {
             Body::Fields(pieces) => pieces,
-            Body::Ping { header, .. } | Body::Pairs { header, .. } | Body::Words { header, .. } => {
-                header
-            }
+            Body::Ping { header, .. }
+            | Body::Listed { header, .. }
+            | Body::Words { header, .. } => header,
             Body::Raw(_) => &mut [],
         }
     }
+
+    /// Whether it is a ping, sound or not, and so names a channel.
+    pub(super) fn is_ping(&self) -> bool {
+        !matches!(self.body, Body::Fields(_) | Body::Raw(_))
+    }
 }
 
+/// The kind of its family that a sound ping becomes, where it may: the one that numbers
+/// samples, the one of words, or either.
 #[derive(Clone, Copy, PartialEq, Eq, Debug)]
 pub enum PingStyle {
-    U32,
-    C32,
+    Listed,
+    Packed,
     Mixed,
 }
 
@@ -99,6 +113,8 @@ pub struct Style {
     pub pings: PingStyle,
     /// Runs cut otherwise than full ones first, and in more pieces than needed.
     pub cut: bool,
+    /// Half of the zeros of CE-16 pings with a sign.
+    pub minus_zero: bool,
     /// Index-class tuples strewn in.
     pub index: bool,
 }
@@ -117,8 +133,9 @@ impl Style {
             order: Order::Lsb,
             printed: rng.chance(40),
             rubbish: rng.chance(60),
-            pings: rng.pick(&[PingStyle::U32, PingStyle::C32, PingStyle::Mixed]),
+            pings: rng.pick(&[PingStyle::Listed, PingStyle::Packed, PingStyle::Mixed]),
             cut: rng.chance(60),
+            minus_zero: rng.chance(50),
             index: rng.chance(40),
         }
     }
@@ -128,8 +145,9 @@ impl Style {
             order,
             printed: false,
             rubbish: false,
-            pings: PingStyle::U32,
+            pings: PingStyle::Listed,
             cut: false,
+            minus_zero: false,
             index: false,
         }
     }
@@ -198,18 +216,54 @@ impl Pen {
         }
     }
 
-    fn pairs(&mut self, pairs: &[(u32, u32)]) {
-        for (number, value) in pairs {
-            self.four(*number);
-            self.four(*value);
+    /// A number of two bytes or of four.
+    fn number(&mut self, width: usize, number: u32) {
+        match width {
+            2 => self.two(number as u16),
+            _ => self.four(number),
         }
     }
 
-    fn words(&mut self, count: u32, words: &[u32]) {
+    /// A space where so many bytes leave one, with rubbish in it if the style asks for
+    /// that: anything below a number.
+    fn space_behind(&mut self, bytes: usize, below: u64, style: &Style, rng: &mut Rng) {
+        if bytes % 4 == 0 {
+            return;
+        }
+        self.two(match rng.below(2) {
+            _ if !style.rubbish => 0,
+            0 => rng.pick(&[1, 0x00FF, 0x7F00, 0x8000, 0xFEFF]),
+            _ => rng.below(below) as u16,
+        });
+    }
+
+    /// Samples with one value or with two, by their kind.
+    fn listed(
+        &mut self,
+        kind: PingKind,
+        samples: &[(u32, [u32; 2])],
+        style: &Style,
+        rng: &mut Rng,
+    ) {
+        let coding = coding(kind);
+        for (number, values) in samples {
+            self.number(coding.number, *number);
+            for value in &values[..coding.values] {
+                self.number(coding.value, *value);
+            }
+        }
+        let bytes = samples.len() * (coding.number + coding.value * coding.values);
+        self.space_behind(bytes, 0x1_0000, style, rng);
+    }
+
+    /// Count and words. The space behind them is never a run, which would be a word.
+    fn words(&mut self, kind: PingKind, count: u32, words: &[u32], style: &Style, rng: &mut Rng) {
+        let width = coding(kind).value;
         self.four(count);
         for word in words {
-            self.four(*word);
+            self.number(width, *word);
         }
+        self.space_behind(words.len() * width, 0xFF00, style, rng);
     }
 
     pub fn tuple(&mut self, draft: &Draft, style: &Style, rng: &mut Rng) {
@@ -219,24 +273,32 @@ impl Pen {
         match &draft.body {
             Body::Fields(pieces) => inner.pieces(pieces, style, rng),
             Body::Ping {
+                family,
                 header,
                 samples,
                 length,
             } => {
                 inner.pieces(header, style, rng);
-                code = inner.ping(samples, *length, style, rng);
+                code = coding(inner.ping(*family, samples, *length, style, rng)).code;
             }
-            Body::Pairs { header, pairs } => {
+            Body::Listed {
+                kind,
+                header,
+                samples,
+            } => {
                 inner.pieces(header, style, rng);
-                inner.pairs(pairs);
+                inner.listed(*kind, samples, style, rng);
+                code = coding(*kind).code;
             }
             Body::Words {
+                kind,
                 header,
                 count,
                 words,
             } => {
                 inner.pieces(header, style, rng);
-                inner.words(*count, words);
+                inner.words(*kind, *count, words, style, rng);
+                code = coding(*kind).code;
             }
             Body::Raw(data) => inner.bytes.extend(data),
         }
@@ -257,34 +319,127 @@ impl Pen {
         });
     }
 
-    /// Writes a sound ping and gives the type that it has become.
+    /// Writes a sound ping and gives the kind that it has become.
     fn ping(
         &mut self,
+        family: Family,
         samples: &[(u32, i32)],
         length: Option<u32>,
         style: &Style,
         rng: &mut Rng,
-    ) -> u16 {
-        let compressed = match style.pings {
-            PingStyle::U32 => false,
-            PingStyle::C32 => true,
+    ) -> PingKind {
+        let packed = match style.pings {
+            PingStyle::Listed => false,
+            PingStyle::Packed => true,
             PingStyle::Mixed => rng.chance(50),
         };
-        if length.is_some() || (compressed && suits_c32(samples, None)) {
-            let words = cut_words(samples, length, style, rng);
-            self.words(samples.len() as u32, &words);
-            return 10010;
+        let (listed, words) = spellings(family);
+        let numbered = listed.filter(|kind| length.is_none() && can_number(*kind, samples));
+        match numbered {
+            Some(kind) if !packed || !suits_words(family, samples, length) => {
+                let samples: Vec<_> = samples.iter().map(|(n, v)| (*n, [*v as u32, 0])).collect();
+                self.listed(kind, &samples, style, rng);
+                kind
+            }
+            _ => {
+                let cut = cut_words(words, samples, length, style, rng);
+                self.words(words, samples.len() as u32, &cut, style, rng);
+                words
+            }
         }
-        for (number, value) in samples {
-            self.four(*number);
-            self.four(*value as u32);
-        }
-        10000
     }
 }
 
-/// The most words a C-32 ping of 262,144 bytes has room for.
-const MOST_WORDS: u64 = (262_144 - 36) / 4;
+/// What the encoder knows of a kind, apart from the library's table: its type code, bytes
+/// of a sample number, if it has any, and of a value or word, and values of a sample.
+pub(super) struct Coding {
+    pub code: u16,
+    pub number: usize,
+    pub value: usize,
+    pub values: usize,
+}
+
+pub(super) fn coding(kind: PingKind) -> Coding {
+    let (code, number, value, values) = match kind {
+        PingKind::U32 => (10000, 4, 4, 1),
+        PingKind::U32_16Angles => (10001, 4, 2, 2),
+        PingKind::C32 => (10010, 0, 4, 1),
+        PingKind::U16 => (10030, 2, 2, 1),
+        PingKind::U16Angles => (10031, 2, 2, 2),
+        PingKind::C16 => (10040, 0, 2, 1),
+        PingKind::Ce16 => (10050, 0, 2, 1),
+    };
+    Coding {
+        code,
+        number,
+        value,
+        values,
+    }
+}
+
+/// The kinds of a family without angles: the one that numbers samples, if there is one,
+/// and the one of words.
+pub(super) fn spellings(family: Family) -> (Option<PingKind>, PingKind) {
+    match family {
+        Family::Bits16 => (Some(PingKind::U16), PingKind::C16),
+        Family::Ce16 => (None, PingKind::Ce16),
+        _ => (Some(PingKind::U32), PingKind::C32),
+    }
+}
+
+/// Whether a kind's numbers have room for those of a list.
+fn can_number(kind: PingKind, samples: &[(u32, i32)]) -> bool {
+    let last = samples.last();
+    last.is_some_and(|(number, _)| coding(kind).number == 4 || *number <= 0xFFFF)
+}
+
+/// The samples of the longest run of a kind: as many as half of a word's bits tell.
+pub(super) fn radix(kind: PingKind) -> u64 {
+    match coding(kind).value {
+        2 => 256,
+        _ => 65_536,
+    }
+}
+
+/// The most words that a ping of 262,144 bytes has room for.
+pub(super) fn most_words(kind: PingKind) -> u64 {
+    (262_144 - 36) / coding(kind).value as u64
+}
+
+/// The words of a kind that are no run, which is the count that a ping has to state.
+pub(super) fn no_runs(kind: PingKind, words: &[u32]) -> u32 {
+    let radix = radix(kind) as u32;
+    let values = words.iter().filter(|word| **word / radix != radix - 1);
+    values.count() as u32
+}
+
+/// The word of a value, if it has one: by the tables, and by trying all exponents.
+pub(super) fn word(kind: PingKind, value: i32) -> Option<u32> {
+    match kind {
+        PingKind::Ce16 => {
+            let counts = value.unsigned_abs();
+            let word = (0..8).find_map(|exponent| match exponent {
+                0 => (counts < 4096).then_some(counts),
+                _ => {
+                    let unit = 1 << (exponent - 1);
+                    let whole = counts % unit == 0 && (4096..8192).contains(&(counts / unit));
+                    whole.then(|| exponent * 4096 + counts / unit - 4096)
+                }
+            });
+            let sign = if value < 0 { 0x8000 } else { 0 };
+            word.filter(|word| *word < 0x7F00).map(|word| word + sign)
+        }
+        PingKind::C16 => {
+            let has_word = (-32_511..=-257).contains(&value) || (0..=32_511).contains(&value);
+            has_word.then_some(value as u32 & 0xFFFF)
+        }
+        _ => {
+            let has_word =
+                (-2_147_418_112..=-65_537).contains(&value) || (0..=2_147_418_111).contains(&value);
+            has_word.then_some(value as u32)
+        }
+    }
+}
 
 /// The gap before each sample, and the one behind the last up to the length.
 fn gaps(samples: &[(u32, i32)], length: Option<u32>) -> (Vec<u64>, u64) {
@@ -299,29 +454,39 @@ fn gaps(samples: &[(u32, i32)], length: Option<u32>) -> (Vec<u64>, u64) {
 }
 
 /// The fewest run words for a gap.
-fn runs_needed(gap: u64) -> u64 {
-    gap / 65_536 + u64::from(gap % 65_536 != 0)
+fn runs_needed(kind: PingKind, gap: u64) -> u64 {
+    gap.div_ceil(radix(kind))
 }
 
-fn words_needed(samples: &[(u32, i32)], length: Option<u32>) -> u64 {
+fn words_needed(kind: PingKind, samples: &[(u32, i32)], length: Option<u32>) -> u64 {
     let (before, behind) = gaps(samples, length);
-    let runs = before.into_iter().chain([behind]).map(runs_needed);
-    samples.len() as u64 + runs.sum::<u64>()
+    let gaps = before.into_iter().chain([behind]);
+    samples.len() as u64 + gaps.map(|gap| runs_needed(kind, gap)).sum::<u64>()
 }
 
-/// Whether every value has a word and all words have room.
-pub(super) fn suits_c32(samples: &[(u32, i32)], length: Option<u32>) -> bool {
-    let has_word = |value: i32| {
-        (-2_147_418_112..=-65_537).contains(&value) || (0..=2_147_418_111).contains(&value)
-    };
+/// Whether every value has a word of the family and all words have room.
+pub(super) fn suits_words(family: Family, samples: &[(u32, i32)], length: Option<u32>) -> bool {
+    let (_, kind) = spellings(family);
     samples.len() <= 32_764
-        && samples.iter().all(|(_, value)| has_word(*value))
-        && words_needed(samples, length) <= MOST_WORDS
+        && samples
+            .iter()
+            .all(|(_, value)| word(kind, *value).is_some())
+        && words_needed(kind, samples, length) <= most_words(kind)
+}
+
+/// Whether a list without a length is sound in some kind of the family.
+pub(super) fn suits(family: Family, samples: &[(u32, i32)]) -> bool {
+    let (listed, _) = spellings(family);
+    let narrow = |(_, value): &(u32, i32)| i16::try_from(*value).is_ok();
+    let fits = |kind: PingKind| coding(kind).value == 4 || samples.iter().all(narrow);
+    listed.is_some_and(|kind| can_number(kind, samples) && fits(kind))
+        || !samples.is_empty() && suits_words(family, samples, None)
 }
 
 /// The word of a run.
-fn run(length: u64) -> u32 {
-    0xFFFF_0000 | (length as u32 - 1)
+pub(super) fn run(kind: PingKind, length: u64) -> u32 {
+    let radix = radix(kind);
+    (radix * (radix - 1) + length - 1) as u32
 }
 
 /// Ways to say one gap in runs.
@@ -345,9 +510,10 @@ impl Cut {
         Cut::Short(40),
     ];
 
-    pub(super) fn runs(self, gap: u64) -> Vec<u32> {
-        let full = |gap: u64| vec![run(65_536); (gap / 65_536) as usize];
-        let rest = |gap: u64| (gap % 65_536 != 0).then(|| run(gap % 65_536));
+    pub(super) fn runs(self, kind: PingKind, gap: u64) -> Vec<u32> {
+        let most = radix(kind);
+        let full = |gap: u64| vec![run(kind, most); (gap / most) as usize];
+        let rest = |gap: u64| (gap % most != 0).then(|| run(kind, gap % most));
         match self {
             Cut::Fewest => full(gap).into_iter().chain(rest(gap)).collect(),
             Cut::RemainderFirst => rest(gap).into_iter().chain(full(gap)).collect(),
@@ -355,13 +521,13 @@ impl Cut {
                 let half = gap / 2;
                 [half, gap - half]
                     .into_iter()
-                    .flat_map(|share| Cut::Fewest.runs(share))
+                    .flat_map(|share| Cut::Fewest.runs(kind, share))
                     .collect()
             }
             Cut::Short(count) => {
-                let length = gap.div_ceil(count).clamp(1, 65_536);
-                let mut runs = vec![run(length); (gap / length) as usize];
-                runs.extend((gap % length != 0).then(|| run(gap % length)));
+                let length = gap.div_ceil(count).clamp(1, most);
+                let mut runs = vec![run(kind, length); (gap / length) as usize];
+                runs.extend((gap % length != 0).then(|| run(kind, gap % length)));
                 runs
             }
         }
@@ -369,55 +535,62 @@ impl Cut {
 }
 
 /// Run words for a gap: the fewest, or cut otherwise while there is slack.
-fn cut_gap(gap: u64, cut: bool, slack: &mut u64, rng: &mut Rng) -> Vec<u32> {
+fn cut_gap(kind: PingKind, gap: u64, cut: bool, slack: &mut u64, rng: &mut Rng) -> Vec<u32> {
     if !cut || gap == 0 {
-        return Cut::Fewest.runs(gap);
+        return Cut::Fewest.runs(kind, gap);
     }
     let runs = match rng.below(6) {
-        0 | 1 => cut_anywhere(gap, rng),
-        _ => rng.pick(&Cut::ALL).runs(gap),
+        0 | 1 => cut_anywhere(kind, gap, rng),
+        _ => rng.pick(&Cut::ALL).runs(kind, gap),
     };
-    let more = runs.len() as u64 - runs_needed(gap);
+    let more = runs.len() as u64 - runs_needed(kind, gap);
     if more > *slack {
-        return Cut::Fewest.runs(gap);
+        return Cut::Fewest.runs(kind, gap);
     }
     *slack -= more;
     runs
 }
 
 /// Up to three runs of any length, then the fewest.
-fn cut_anywhere(mut gap: u64, rng: &mut Rng) -> Vec<u32> {
+fn cut_anywhere(kind: PingKind, mut gap: u64, rng: &mut Rng) -> Vec<u32> {
     let mut runs = Vec::new();
     for _ in 0..rng.below(4) {
         if gap > 1 {
-            let most = (gap - 1).min(65_536);
+            let most = (gap - 1).min(radix(kind));
             let length = match rng.below(3) {
                 0 => 1,
                 1 => most,
                 _ => 1 + rng.below(most),
             };
-            runs.push(run(length));
+            runs.push(run(kind, length));
             gap -= length;
         }
     }
-    runs.extend(Cut::Fewest.runs(gap));
+    runs.extend(Cut::Fewest.runs(kind, gap));
     runs
 }
 
+/// The words of samples that suit them.
 fn cut_words(
+    kind: PingKind,
     samples: &[(u32, i32)],
     length: Option<u32>,
     style: &Style,
     rng: &mut Rng,
 ) -> Vec<u32> {
-    let mut slack = MOST_WORDS - words_needed(samples, length);
+    let mut slack = most_words(kind) - words_needed(kind, samples, length);
     let (before, behind) = gaps(samples, length);
     let mut words = Vec::new();
     for (gap, (_, value)) in before.into_iter().zip(samples) {
-        words.extend(cut_gap(gap, style.cut, &mut slack, rng));
-        words.push(*value as u32);
+        words.extend(cut_gap(kind, gap, style.cut, &mut slack, rng));
+        let second = kind == PingKind::Ce16 && *value == 0 && style.minus_zero && rng.chance(50);
+        words.push(if second {
+            0x8000
+        } else {
+            word(kind, *value).unwrap_or(0)
+        });
     }
-    words.extend(cut_gap(behind, style.cut, &mut slack, rng));
+    words.extend(cut_gap(kind, behind, style.cut, &mut slack, rng));
     words
 }
 

@@ -1,12 +1,15 @@
 //! Damaged files: by rule, with the answer that the rule tells, and at random.
 
-use super::draft::{render, Body, Draft, Patch, Pen, Piece, Rendered, Style};
+use super::draft::{coding, no_runs, render};
+use super::draft::{Body, Draft, Patch, Pen, Piece, Rendered, Style};
 use super::sound::*;
 use super::vessels::{MOST_CHANNELS, MOST_SOUNDERS};
 use super::{Case, Rng};
+use crate::kinds::PingKind;
 use crate::layout::{class, Class, LAYOUTS};
 use crate::links::Maker;
 use crate::order::Order;
+use std::sync::LazyLock;
 
 /// Which sample of a ping is the first that offends: the earliest that can, one
 /// in the middle, or the last.
@@ -33,14 +36,16 @@ pub enum Kind {
     Unfit,
     /// A sounder or channel of the EK-500 of another length.
     UnfitEk500,
-    /// Numbers of a U-32 ping that don't rise.
-    Pairs(Spot),
-    /// Words of a C-32 ping outside the limits.
-    Word(Spot),
-    /// A C-32 ping's number of samples.
-    Count,
-    WordAndCount,
-    TooMany,
+    /// A ping of U-16-angles of another length.
+    UnfitAngles,
+    /// Numbers that don't rise.
+    Pairs(PingKind, Spot),
+    /// Words outside the limits.
+    Word(PingKind, Spot),
+    /// The number of samples.
+    Count(PingKind),
+    WordAndCount(PingKind),
+    TooMany(PingKind),
     TwiceSounder,
     TwiceChannel,
     /// A sounder with the identifier of one of the other maker.
@@ -59,12 +64,38 @@ pub enum Kind {
     WrongCount,
 }
 
+/// The kinds of ping that number their samples, those of words, and those that have room
+/// for too many values.
+const LISTED: [PingKind; 4] = [
+    PingKind::U32,
+    PingKind::U32_16Angles,
+    PingKind::U16,
+    PingKind::U16Angles,
+];
+const PACKED: [PingKind; 3] = [PingKind::C32, PingKind::C16, PingKind::Ce16];
+const ROOMY: [PingKind; 5] = [
+    PingKind::C32,
+    PingKind::U16,
+    PingKind::U16Angles,
+    PingKind::C16,
+    PingKind::Ce16,
+];
+
+const SPOTS: [Spot; 3] = [Spot::First, Spot::Middle, Spot::Last];
+
 impl Kind {
-    /// In small letters, for a file's name.
+    /// In small letters, for a file's name: the kind of ping, too, unless it has 32 bits.
     pub fn name(self) -> String {
+        let of = |what: &str, kind: PingKind| match kind {
+            PingKind::U32 | PingKind::C32 => what.to_string(),
+            kind => format!("{what}-{kind:?}").replace('_', "-"),
+        };
         match self {
-            Kind::Pairs(spot) => format!("pairs-{spot:?}"),
-            Kind::Word(spot) => format!("word-{spot:?}"),
+            Kind::Pairs(kind, spot) => format!("{}-{spot:?}", of("pairs", kind)),
+            Kind::Word(kind, spot) => format!("{}-{spot:?}", of("word", kind)),
+            Kind::Count(kind) => of("count", kind),
+            Kind::WordAndCount(kind) => of("wordandcount", kind),
+            Kind::TooMany(kind) => of("toomany", kind),
             other => format!("{other:?}"),
         }
         .to_lowercase()
@@ -77,61 +108,29 @@ pub const LONG_KIND: Kind = Kind::ManyChannels;
 /// One kind in so many is the long one.
 const LONG_SELDOM: u64 = 400;
 
-/// All kinds but the long one.
-pub const FAULT_KINDS: [Kind; 33] = [
+/// The kinds that no single tuple carries, or the first alone.
+const WHOLE_FILE: [Kind; 9] = [
     Kind::Mark,
     Kind::Truncated,
     Kind::NoEnd,
-    Kind::PassesEnd,
-    Kind::Size,
-    Kind::Backlink,
     Kind::NoSignature,
-    Kind::SecondSignature,
     Kind::Identifier,
     Kind::UnfitSignature,
-    Kind::Unfit,
-    Kind::UnfitEk500,
-    Kind::Pairs(Spot::First),
-    Kind::Pairs(Spot::Middle),
-    Kind::Pairs(Spot::Last),
-    Kind::Word(Spot::First),
-    Kind::Word(Spot::Middle),
-    Kind::Word(Spot::Last),
-    Kind::Count,
-    Kind::WordAndCount,
-    Kind::TooMany,
-    Kind::TwiceSounder,
-    Kind::TwiceChannel,
-    Kind::SounderOfBoth,
-    Kind::ChannelOfBoth,
-    Kind::OrphanPing,
-    Kind::OrphanOther,
-    Kind::OrphanChannel,
-    Kind::OtherMaker,
-    Kind::ManySounders,
     Kind::Behind,
     Kind::NoClass,
     Kind::WrongCount,
 ];
 
-/// Of these, the kinds that one tuple carries, wherever it stands behind the
-/// signature. The long one is such a kind, too.
-const LOCAL: [Kind; 24] = [
+/// Those that one tuple carries, wherever it stands behind the signature, but for those
+/// of a ping's samples. The long one is such a kind, too.
+const OF_A_TUPLE: [Kind; 16] = [
     Kind::PassesEnd,
     Kind::Size,
     Kind::Backlink,
     Kind::SecondSignature,
     Kind::Unfit,
     Kind::UnfitEk500,
-    Kind::Pairs(Spot::First),
-    Kind::Pairs(Spot::Middle),
-    Kind::Pairs(Spot::Last),
-    Kind::Word(Spot::First),
-    Kind::Word(Spot::Middle),
-    Kind::Word(Spot::Last),
-    Kind::Count,
-    Kind::WordAndCount,
-    Kind::TooMany,
+    Kind::UnfitAngles,
     Kind::TwiceSounder,
     Kind::TwiceChannel,
     Kind::SounderOfBoth,
@@ -143,12 +142,38 @@ const LOCAL: [Kind; 24] = [
     Kind::ManySounders,
 ];
 
-/// The kinds in turn, the long one seldom.
+/// Those of a ping's samples, for each kind of ping that can have them.
+fn of_samples() -> Vec<Kind> {
+    let mut kinds = Vec::new();
+    for spot in SPOTS {
+        kinds.extend(LISTED.map(|kind| Kind::Pairs(kind, spot)));
+        kinds.extend(PACKED.map(|kind| Kind::Word(kind, spot)));
+    }
+    kinds.extend(PACKED.map(Kind::Count));
+    kinds.extend(PACKED.map(Kind::WordAndCount));
+    kinds.extend(ROOMY.map(Kind::TooMany));
+    kinds
+}
+
+/// All kinds but the long one, those of samples last.
+pub static FAULT_KINDS: LazyLock<Vec<Kind>> =
+    LazyLock::new(|| [&WHOLE_FILE[..], &OF_A_TUPLE, &of_samples()].concat());
+
+/// How many of them are not of samples.
+const OTHERS: usize = WHOLE_FILE.len() + OF_A_TUPLE.len();
+
+/// The kinds in turn, the long one seldom. One in three is of samples, since these are
+/// many.
 pub(super) fn kind_in_turn(rng: &mut Rng, nth: u64) -> Kind {
     if rng.below(LONG_SELDOM) == 0 {
         return LONG_KIND;
     }
-    FAULT_KINDS[(nth % FAULT_KINDS.len() as u64) as usize]
+    let (others, of_samples) = FAULT_KINDS.split_at(OTHERS);
+    let (turn, place) = ((nth / 3) as usize, (nth % 3) as usize);
+    match place {
+        2 => of_samples[turn % of_samples.len()],
+        _ => others[(2 * turn + place) % others.len()],
+    }
 }
 
 /// Any kind that one tuple carries, the long one seldom.
@@ -156,11 +181,15 @@ fn any_local(rng: &mut Rng) -> Kind {
     if rng.below(LONG_SELDOM) == 0 {
         return LONG_KIND;
     }
-    rng.pick(&LOCAL)
+    if rng.chance(40) {
+        rng.pick(&FAULT_KINDS[OTHERS..])
+    } else {
+        rng.pick(&OF_A_TUPLE)
+    }
 }
 
 fn is_local(kind: Kind) -> bool {
-    kind == LONG_KIND || LOCAL.contains(&kind)
+    !WHOLE_FILE.contains(&kind)
 }
 
 fn number(piece: &Piece) -> u32 {
@@ -248,6 +277,17 @@ fn unfit_ek500(rng: &mut Rng) -> Draft {
     Draft::new(rng, code, Body::Raw(data))
 }
 
+/// A ping of U-16-angles, in a length that an odd number of samples would have without
+/// its space, or in one that is too short for any.
+fn unfit_angles(rng: &mut Rng) -> Draft {
+    let length = match rng.below(5) {
+        0 => rng.pick(&[16, 20, 24, 28, 32]),
+        _ => 32 + 12 * rng.index(12) + 4,
+    };
+    let data = rng.bytes(length - 10);
+    Draft::new(rng, 10031, Body::Raw(data))
+}
+
 /// An identifier that is neither 44201 nor 44204: one beside them, one at an end,
 /// 44201 with its bytes swapped (44204 stays itself), a half of either, or any.
 pub(super) fn third_identifier(rng: &mut Rng) -> u16 {
@@ -315,107 +355,119 @@ fn offenders(rng: &mut Rng, spot: Spot, earliest: usize) -> (usize, Vec<usize>) 
 }
 
 /// Numbers that rise but for the offenders, each of which is like the one before
-/// it, just below it, or 0. Some starts let them pass 2^31, or rise where their
+/// it, just below it, or 0. Some starts let them pass 2^31 or 2^15, or rise where their
 /// bytes turned about don't.
-fn fallen_numbers(rng: &mut Rng, count: usize, offenders: &[usize]) -> Vec<u32> {
-    let mut number: u32 = rng.pick(&[0, 1, 250, 65_500, 0x7FFF_FFF0, 0xFF00_0000]);
+fn fallen_numbers(rng: &mut Rng, kind: PingKind, count: usize, offenders: &[usize]) -> Vec<u32> {
+    let (start, most) = match coding(kind).number {
+        2 => (rng.pick(&[0, 1, 250, 0x7FF0, 0xFE00]), 0xFFFF),
+        _ => (
+            rng.pick(&[0, 1, 250, 65_500, 0x7FFF_FFF0, 0xFF00_0000]),
+            u32::MAX,
+        ),
+    };
+    let mut number = start.min(most - count as u32);
     let mut numbers = vec![number];
     for nth in 1..count {
+        let most_step = (most - number) / (count - nth) as u32;
+        let step: u32 = 1 + rng.pick(&[0, 0, 1, 254]);
         number = if offenders.contains(&nth) {
             rng.pick(&[number, number.saturating_sub(1), 0])
         } else {
-            number + 1 + rng.pick(&[0, 0, 1, 254])
+            number + step.min(most_step)
         };
         numbers.push(number);
     }
     numbers
 }
 
-fn bad_pairs(rng: &mut Rng, channel: u16, spot: Spot) -> (Draft, Told) {
+fn bad_pairs(rng: &mut Rng, channel: u16, kind: PingKind, spot: Spot) -> (Draft, Told) {
     let (count, offenders) = offenders(rng, spot, 1);
-    let numbers = fallen_numbers(rng, count, &offenders);
-    let pairs = numbers.into_iter().map(|n| (n, rng.four())).collect();
-    let header = ping_header(rng, channel);
-    let draft = Draft::new(rng, 10000, Body::Pairs { header, pairs });
-    let within = 24 + 8 * offenders[0];
+    let numbers = fallen_numbers(rng, kind, count, &offenders);
+    let samples = numbers.into_iter().map(|n| (n, [rng.four(), rng.four()]));
+    let samples = samples.collect();
+    let draft = listed_ping(rng, channel, kind, samples);
+    let coding = coding(kind);
+    let within = 24 + (coding.number + coding.value * coding.values) * offenders[0];
     (draft, Told { code: 23, within })
 }
 
-/// Words within the limits, runs among them. Some would be bad ones or runs
-/// with their bytes turned about.
-fn some_words(rng: &mut Rng, count: usize) -> Vec<u32> {
-    const WORDS: [u32; 11] = [
-        0,
-        5,
-        0xFFFF_0000,
-        0xFFFF_FFFF,
-        0xFFFE_FFFF,
-        0x7FFE_FFFF,
-        0x8001_0000,
-        0x0000_FF7F,
-        0xFFFF_0080,
-        0x0000_0080,
-        0x0000_FFFF,
-    ];
-    (0..count).map(|_| rng.pick(&WORDS)).collect()
+/// Words within the limits, runs among them, and words outside. Some would be of the
+/// others with their bytes turned about.
+#[rustfmt::skip]
+fn known_words(kind: PingKind) -> (&'static [u32], &'static [u32]) {
+    match kind {
+        PingKind::C16 => (
+            &[0, 5, 0xFF00, 0xFFFF, 0xFEFF, 0x7EFF, 0x8101, 0x007F, 0xFF80, 0x0080, 0x0081, 0x00FF],
+            &[0x7F00, 0x7FFF, 0x8000, 0x80FF, 0x8100],
+        ),
+        PingKind::Ce16 => (
+            &[0, 5, 0xFF00, 0xFFFF, 0xFEFF, 0x7EFF, 0x8000, 0x8100, 0x007F, 0xFF7F, 0x1000, 0x00FF],
+            &[0x7F00, 0x7FFF, 0x7F80, 0x7F7F],
+        ),
+        _ => (
+            &[0, 5, 0xFFFF_0000, 0xFFFF_FFFF, 0xFFFE_FFFF, 0x7FFE_FFFF, 0x8001_0000, 0x0000_FF7F,
+                0xFFFF_0080, 0x0000_0080, 0x0000_FFFF],
+            &[0x7FFF_0000, 0x8000_FFFF, 0x7FFF_FFFF, 0x8000_0000, 0x7FFF_8000],
+        ),
+    }
 }
 
-/// Words outside the limits.
-const BAD_WORDS: [u32; 5] = [
-    0x7FFF_0000,
-    0x8000_FFFF,
-    0x7FFF_FFFF,
-    0x8000_0000,
-    0x7FFF_8000,
-];
-
-/// Words that are no run, the count that a C-32 ping has to state.
-fn no_runs(words: &[u32]) -> u32 {
-    words.iter().filter(|word| **word >> 16 != 0xFFFF).count() as u32
+fn some_words(rng: &mut Rng, kind: PingKind, count: usize) -> Vec<u32> {
+    let (good, _) = known_words(kind);
+    (0..count).map(|_| rng.pick(good)).collect()
 }
 
-/// A number of samples beside the right one, or equal in its low bytes alone.
-fn wrong_count(rng: &mut Rng, right: u32) -> u32 {
-    rng.pick(&[
-        right + 1,
-        right.wrapping_sub(1),
-        right | 0x8000_0000,
-        right << 16 | 0x10000,
-    ])
+fn bad_word_of(rng: &mut Rng, kind: PingKind) -> u32 {
+    rng.pick(known_words(kind).1)
 }
 
-fn words_draft(rng: &mut Rng, channel: u16, count: u32, words: Vec<u32>) -> Draft {
-    let header = ping_header(rng, channel);
-    let body = Body::Words {
-        header,
-        count,
-        words,
+/// A number of samples beside the right one, or equal in its low bytes alone. One less
+/// would be right where the last word is a value of two bytes, which would then be a
+/// space.
+fn wrong_count(rng: &mut Rng, kind: PingKind, words: &[u32]) -> u32 {
+    let right = no_runs(kind, words);
+    let ends_in_run = words
+        .last()
+        .is_some_and(|word| no_runs(kind, &[*word]) == 0);
+    let less = if coding(kind).value == 4 || ends_in_run {
+        right.wrapping_sub(1)
+    } else {
+        right.wrapping_sub(2)
     };
-    Draft::new(rng, 10010, body)
+    rng.pick(&[right + 1, less, right | 0x8000_0000, right << 16 | 0x10000])
 }
 
 /// A ping with bad words, rightly counted or not: the word is judged before the
 /// count, which stands before it.
-fn bad_word(rng: &mut Rng, channel: u16, spot: Spot, counted: bool) -> (Draft, Told) {
+fn bad_word(
+    rng: &mut Rng,
+    channel: u16,
+    kind: PingKind,
+    spot: Spot,
+    counted: bool,
+) -> (Draft, Told) {
     let (count, offenders) = offenders(rng, spot, 0);
-    let mut words = some_words(rng, count);
+    let mut words = some_words(rng, kind, count);
     for at in &offenders {
-        words[*at] = rng.pick(&BAD_WORDS);
+        words[*at] = bad_word_of(rng, kind);
     }
-    let mut count = no_runs(&words);
-    if !counted {
-        count = wrong_count(rng, count);
-    }
-    let draft = words_draft(rng, channel, count, words);
-    let within = 28 + 4 * offenders[0];
+    let count = if counted {
+        no_runs(kind, &words)
+    } else {
+        wrong_count(rng, kind, &words)
+    };
+    let draft = words_ping(rng, channel, kind, count, words);
+    let within = 28 + coding(kind).value * offenders[0];
     (draft, Told { code: 24, within })
 }
 
-fn bad_count(rng: &mut Rng, channel: u16) -> (Draft, Told) {
+/// A wrong count of words that leave no space: that would be a word, and at times a bad
+/// one.
+fn bad_count(rng: &mut Rng, channel: u16, kind: PingKind) -> (Draft, Told) {
     let length = sample_count(rng, 1);
-    let words = some_words(rng, length);
-    let count = wrong_count(rng, no_runs(&words));
-    let draft = words_draft(rng, channel, count, words);
+    let words = some_words(rng, kind, length.next_multiple_of(2));
+    let count = wrong_count(rng, kind, &words);
+    let draft = words_ping(rng, channel, kind, count, words);
     let told = Told {
         code: 25,
         within: 24,
@@ -424,35 +476,56 @@ fn bad_count(rng: &mut Rng, channel: u16) -> (Draft, Told) {
 }
 
 fn any_spot(rng: &mut Rng) -> Spot {
-    rng.pick(&[Spot::First, Spot::Middle, Spot::Last])
+    rng.pick(&SPOTS)
 }
 
-/// A ping whose samples break a rule, any but that of too many.
+/// A ping of any kind whose samples break a rule, any but that of too many.
 pub(super) fn broken_ping(rng: &mut Rng, channel: u16) -> Draft {
+    let (listed, packed) = (rng.pick(&LISTED), rng.pick(&PACKED));
     let spot = any_spot(rng);
     let (draft, _) = match rng.below(4) {
-        0 => bad_pairs(rng, channel, spot),
-        1 => bad_word(rng, channel, spot, true),
-        2 => bad_word(rng, channel, spot, false),
-        _ => bad_count(rng, channel),
+        0 => bad_pairs(rng, channel, listed, spot),
+        1 => bad_word(rng, channel, packed, spot, true),
+        2 => bad_word(rng, channel, packed, spot, false),
+        _ => bad_count(rng, channel, packed),
     };
     draft
 }
 
-/// Over 32,764 words that are no run, all good, all bad or with one bad among
-/// them, rightly counted or not.
-fn too_many(rng: &mut Rng, channel: u16) -> Draft {
-    let over = 32_765 + rng.below(3) as u32;
-    let mut words = vec![rng.pick(&[0, 7, 0x7FFF_0000]); over as usize];
+/// Over 32,764 samples, or words that are no run.
+fn too_many(rng: &mut Rng, channel: u16, kind: PingKind) -> Draft {
+    if PACKED.contains(&kind) {
+        too_many_words(rng, channel, kind)
+    } else {
+        too_many_samples(rng, channel, kind)
+    }
+}
+
+/// Rising numbers or not.
+fn too_many_samples(rng: &mut Rng, channel: u16, kind: PingKind) -> Draft {
+    let over = 32_765 + rng.below(3) as usize;
+    let offender = rng.pick(&[over, 1, over - 1]);
+    let numbers = fallen_numbers(rng, kind, over, &[offender]);
+    let samples = numbers.into_iter().map(|n| (n, [n, !n])).collect();
+    listed_ping(rng, channel, kind, samples)
+}
+
+/// All good, all bad or with one bad among them, rightly counted or not. There are too
+/// many even where the last is taken for a space.
+fn too_many_words(rng: &mut Rng, channel: u16, kind: PingKind) -> Draft {
+    let over = 32_766 + rng.below(3) as u32;
+    let bad = bad_word_of(rng, kind);
+    let mut words = vec![rng.pick(&[0, 7, bad]); over as usize];
     if rng.chance(50) {
         let at = rng.pick(&[0, 16_000, words.len() - 1]);
-        words[at] = rng.pick(&BAD_WORDS);
+        words[at] = bad_word_of(rng, kind);
     }
+    let run = known_words(kind).0[2];
     for _ in 0..rng.below(3) {
-        words.insert(rng.index(words.len()), 0xFFFF_0003);
+        words.insert(rng.index(words.len()), run + 3);
     }
     let count = rng.pick(&[over, over - 1, 32_764, 0]);
-    words_draft(rng, channel, count, words)
+    words_ping(rng, channel, kind, count, words)
 }
 
 /// Sounders behind those declared, one more than there may be.
@@ -540,14 +613,15 @@ fn spoil(drafts: &mut Vec<Draft>, at: usize, kind: Kind, rng: &mut Rng) -> Optio
         }
         Kind::Unfit => insert((unfit(rng), at_tuple(9))),
         Kind::UnfitEk500 => insert((unfit_ek500(rng), at_tuple(9))),
-        Kind::Pairs(spot) => insert(bad_pairs(rng, channel_known?, spot)),
-        Kind::Word(spot) => insert(bad_word(rng, channel_known?, spot, true)),
-        Kind::Count => insert(bad_count(rng, channel_known?)),
-        Kind::WordAndCount => {
+        Kind::UnfitAngles => insert((unfit_angles(rng), at_tuple(9))),
+        Kind::Pairs(kind, spot) => insert(bad_pairs(rng, channel_known?, kind, spot)),
+        Kind::Word(kind, spot) => insert(bad_word(rng, channel_known?, kind, spot, true)),
+        Kind::Count(kind) => insert(bad_count(rng, channel_known?, kind)),
+        Kind::WordAndCount(kind) => {
             let spot = any_spot(rng);
-            insert(bad_word(rng, channel_known?, spot, false))
+            insert(bad_word(rng, channel_known?, kind, spot, false))
         }
-        Kind::TooMany => insert((too_many(rng, channel_known?), at_tuple(11))),
+        Kind::TooMany(kind) => insert((too_many(rng, channel_known?, kind), at_tuple(11))),
         Kind::TwiceSounder | Kind::SounderOfBoth if documents.is_empty() => None,
         Kind::TwiceSounder => {
             let (id, maker) = rng.pick(&documents);
@@ -645,9 +719,9 @@ fn local_case(name: String, rendered: Rendered, offender: (usize, Told), kind: K
 /// Takes away all tuples of a class, and those that link to them.
 fn drop_class(drafts: &mut Vec<Draft>, absent: Class) {
     let names_channel = |draft: &mut Draft| match draft.code {
-        10000 | 10010 | 10100 => true,
+        10100 => true,
         40 => draft.pieces()[2] != Piece::Two(65535),
-        _ => false,
+        _ => draft.is_ping(),
     };
     drafts.retain_mut(|draft| {
         let gone = class(draft.code) == Some(absent);

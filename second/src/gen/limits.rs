@@ -1,9 +1,11 @@
 //! Limit cases, each with the answer that its limit tells.
 
-use super::draft::{render, Body, Cut, Draft, Patch, Piece, PingStyle, Style};
+use super::draft::{coding, most_words, no_runs, radix, render, run};
+use super::draft::{Body, Cut, Draft, Patch, Piece, PingStyle, Style};
 use super::sound::*;
 use super::vessels::{self, MOST_CHANNELS, MOST_SOUNDERS};
 use super::{Case, Rng};
+use crate::kinds::{Family, PingKind};
 use crate::order::Order;
 
 /// The smallest sound file's drafts, with one sounder and one channel, both
@@ -114,38 +116,47 @@ fn identifier_case(nth: usize, style: &Style) -> Case {
     case(format!("identifier-{number}"), &drafts, style, 0, code)
 }
 
-/// A C-32 ping of given words, rightly counted.
-fn words_ping(rng: &mut Rng, words: Vec<u32>) -> Draft {
-    let count = words.iter().filter(|word| **word >> 16 != 0xFFFF).count() as u32;
-    let header = ping_header(rng, 1);
-    let body = Body::Words {
-        header,
-        count,
-        words,
-    };
-    Draft::new(rng, 10010, body)
+/// The name of a case of a kind of ping; one of 32 bits isn't named.
+fn named(kind: PingKind, name: &str) -> String {
+    match kind {
+        PingKind::U32 | PingKind::C32 => name.to_string(),
+        kind => format!("{kind:?}-{name}").replace('_', "-").to_lowercase(),
+    }
+}
+
+/// A ping of given words, rightly counted.
+fn counted(rng: &mut Rng, kind: PingKind, words: Vec<u32>) -> Draft {
+    let count = no_runs(kind, &words);
+    words_ping(rng, 1, kind, count, words)
 }
 
 /// The same in a sound file.
-fn with_words(words: Vec<u32>) -> Vec<Draft> {
+fn with_words(kind: PingKind, words: Vec<u32>) -> Vec<Draft> {
     let mut rng = Rng::new(11);
-    let more = vec![words_ping(&mut rng, words)];
+    let more = vec![counted(&mut rng, kind, words)];
     with(&mut rng, more)
 }
 
 /// A ping of given words; `offender` is the first one outside the limits.
-fn words_case(name: &str, words: &[u32], offender: Option<usize>, style: &Style) -> Case {
-    let drafts = with_words(words.to_vec());
-    let name = format!("words-{name}");
+fn words_case(kind: PingKind, word: &Limit, style: &Style) -> Case {
+    let (name, words, offender) = word;
+    let drafts = with_words(kind, words.to_vec());
+    let name = named(kind, &format!("words-{name}"));
     match offender {
-        Some(nth) => case_within(name, &drafts, style, (MORE, 28 + 4 * nth), 24),
+        Some(nth) => {
+            let within = 28 + coding(kind).value * nth;
+            case_within(name, &drafts, style, (MORE, within), 24)
+        }
         None => case(name, &drafts, style, MORE, 0),
     }
 }
 
+/// A name, words, and which is the first one outside the limits.
+type Limit = (&'static str, &'static [u32], Option<usize>);
+
 /// Values at the edges of C-32, runs at theirs.
 #[rustfmt::skip]
-const WORDS: [(&str, &[u32], Option<usize>); 18] = [
+const WORDS: [Limit; 18] = [
     ("most", &[0x7FFE_FFFF], None),
     ("least", &[0x8001_0000], None),
     ("over-most", &[0x7FFF_0000], Some(0)),
@@ -166,27 +177,138 @@ const WORDS: [(&str, &[u32], Option<usize>); 18] = [
     ("zero-behind-run", &[0xFFFF_0000, 0, 0xFFFF_0001], None),
 ];
 
-/// Silences about the longest run, and about several of them.
-const SILENCES: [u64; 10] = [
-    1, 2, 65_535, 65_536, 65_537, 131_072, 131_073, 262_143, 262_144, 262_145,
+/// The same of C-16 and CE-16: words outside the limits.
+#[rustfmt::skip]
+const BAD_WORDS: [(PingKind, Limit); 6] = [
+    (PingKind::C16, ("over-most", &[5, 0x7F00], Some(1))),
+    (PingKind::C16, ("under-least", &[0x8100], Some(0))),
+    (PingKind::C16, ("smallest", &[5, 0x8101, 0x8000], Some(2))),
+    (PingKind::C16, ("beside-smallest", &[0xFF00, 0x80FF, 5], Some(1))),
+    (PingKind::Ce16, ("over-most", &[0x7F00], Some(0))),
+    (PingKind::Ce16, ("greatest", &[0x7EFF, 0xFF00, 0x8000, 0x7FFF], Some(3))),
 ];
 
-/// Pings of one kind in all these silences, each cut in every way.
-fn silences_case(name: &str, ping_words: fn(Vec<u32>) -> Vec<u32>, style: &Style) -> Case {
-    let mut rng = Rng::new(14);
-    let runs = SILENCES
+/// Words within the limits, odd and even in number, of C-16 and of CE-16, each list a
+/// ping; and of CE-16 alone.
+#[rustfmt::skip]
+const GOOD_WORDS: [&[u32]; 16] = [
+    &[0x7EFF], &[0x8101], &[0xFEFF], &[0x7EFF, 0x8101], &[0xFF00, 5], &[0xFFFF, 5], &[0xFFFE, 5],
+    &[0xFFFF, 0xFF00, 5], &[0xFF00, 0xFFFF, 5], &[0xFF7F, 0xFF7F, 5], &[5, 0xFFFF], &[0xFFFF],
+    &[0xFF00, 0xFF12, 0xFFFF], &[0], &[0, 0], &[0xFF00, 0, 0xFF01],
+];
+#[rustfmt::skip]
+const GOOD_COUNTS: [&[u32]; 8] = [
+    &[0x8000], &[0, 0x8000], &[0x8000, 0xFF00], &[0x8000, 0x8000, 0x8000], &[0x80FF], &[0x8100],
+    &[0x0FFF, 0x1000, 0x1FFF, 0x2000, 0x2001], &[0x7000, 0xF000, 0x8FFF, 0x9000],
+];
+
+/// A sound file of pings of these words.
+fn good_words_case(kind: PingKind, style: &Style) -> Case {
+    let mut rng = Rng::new(15);
+    let mut lists = GOOD_WORDS.to_vec();
+    if kind == PingKind::Ce16 {
+        lists.extend(GOOD_COUNTS);
+    }
+    let pings = lists
         .iter()
-        .flat_map(|gap| Cut::ALL.map(|cut| cut.runs(*gap)));
-    let pings = runs.map(|runs| words_ping(&mut rng, ping_words(runs)));
+        .map(|words| counted(&mut rng, kind, words.to_vec()));
     let pings = pings.collect();
+    let drafts = with(&mut rng, pings);
+    case(named(kind, "words"), &drafts, style, MORE, 0)
+}
+
+/// Counts and pairs of bytes before the attribute that are a word by the count, or a
+/// space, whatever they hold; a run is a word always.
+#[rustfmt::skip]
+const SPACES: [(u32, &[u32]); 14] = [
+    (1, &[5, 0]), (2, &[5, 0]), (1, &[5, 7]), (2, &[5, 7]), (1, &[5, 0xFF00]), (1, &[5, 0xFFFF]),
+    (0, &[0xFF00, 0]), (1, &[0xFF00, 0]), (0, &[0xFF00, 0xFF03]), (0, &[0xFF00, 0x7F00]),
+    (1, &[5, 0x7FFF]), (3, &[5, 6, 7, 0x7F01]), (1, &[0xFFFF, 0xFFFF, 9, 0xFEFF]),
+    (2, &[9, 0xFF09, 0, 0]),
+];
+
+fn spaces_case(kind: PingKind, style: &Style) -> Case {
+    let mut rng = Rng::new(16);
+    let pings = SPACES
+        .iter()
+        .map(|(count, words)| words_ping(&mut rng, 1, kind, *count, words.to_vec()));
+    let pings = pings.collect();
+    let drafts = with(&mut rng, pings);
+    case(named(kind, "spaces"), &drafts, style, MORE, 0)
+}
+
+/// The same, but that the last is no space, for the count is right with it or wrong
+/// either way.
+#[rustfmt::skip]
+const NO_SPACES: [(&str, u32, [u32; 2], (u32, usize)); 4] = [
+    ("counted", 2, [5, 0x7F00], (24, 30)),
+    ("miscounted", 3, [5, 0x7F00], (24, 30)),
+    ("one-over", 3, [5, 7], (25, 24)),
+    ("two-under", 0, [5, 7], (25, 24)),
+];
+
+fn no_space_case(kind: PingKind, nth: usize, style: &Style) -> Case {
+    let (name, count, words, (code, within)) = NO_SPACES[nth];
+    let mut rng = Rng::new(17);
+    let more = vec![words_ping(&mut rng, 1, kind, count, words.to_vec())];
+    let drafts = with(&mut rng, more);
+    let name = named(kind, &format!("no-space-{name}"));
+    case_within(name, &drafts, style, (MORE, within), code)
+}
+
+/// Silences about the longest run, and about several of them: so many runs, and so many
+/// samples more.
+const SILENCES: [(u64, i64); 10] = [
+    (0, 1),
+    (0, 2),
+    (1, -1),
+    (1, 0),
+    (1, 1),
+    (2, 0),
+    (2, 1),
+    (4, -1),
+    (4, 0),
+    (4, 1),
+];
+
+/// Pings of one shape in all these silences, each cut in every way.
+fn silent_pings(rng: &mut Rng, kind: PingKind, ping_words: Shape) -> Vec<Draft> {
+    let mut pings = Vec::new();
+    for (runs, more) in SILENCES {
+        let gap = (runs * radix(kind)).saturating_add_signed(more);
+        for cut in Cut::ALL {
+            let words = ping_words(cut.runs(kind, gap));
+            pings.push(counted(rng, kind, words));
+        }
+    }
+    pings
+}
+
+fn silences_case(name: &str, ping_words: Shape, style: &Style) -> Case {
+    let mut rng = Rng::new(14);
+    let pings = silent_pings(&mut rng, PingKind::C32, ping_words);
     let drafts = with(&mut rng, pings);
     case(format!("silence-{name}"), &drafts, style, MORE, 0)
 }
 
+/// The same of a kind of two bytes, all shapes in one file.
+fn narrow_silences_case(kind: PingKind, style: &Style) -> Case {
+    let mut rng = Rng::new(14);
+    let mut pings = Vec::new();
+    for (_, shape) in SILENT {
+        pings.extend(silent_pings(&mut rng, kind, shape));
+    }
+    let drafts = with(&mut rng, pings);
+    case(named(kind, "silence"), &drafts, style, MORE, 0)
+}
+
+/// The words of a ping that has some runs.
+type Shape = fn(Vec<u32>) -> Vec<u32>;
+
 /// What a ping has beside its silence: nothing, a value before it, one behind it, or one
 /// between two silences.
 #[rustfmt::skip]
-const SILENT: [(&str, fn(Vec<u32>) -> Vec<u32>); 4] = [
+const SILENT: [(&str, Shape); 4] = [
     ("alone", |runs| runs),
     ("behind", |runs| [vec![5], runs].concat()),
     ("before", |runs| [runs, vec![5]].concat()),
@@ -194,17 +316,19 @@ const SILENT: [(&str, fn(Vec<u32>) -> Vec<u32>); 4] = [
 ];
 
 /// The most words of a tuple, all runs: the greatest length that a ping can have, and
-/// as many runs of 1, which are one word in the normal form.
-fn longest_silence_case(name: &str, run: u32, style: &Style) -> Case {
-    let drafts = with_words(vec![run; 65_527]);
-    case(format!("silence-{name}"), &drafts, style, MORE, 0)
+/// as many runs of 1, which are few words in the normal form.
+fn longest_silence_case(kind: PingKind, name: &str, samples: u64, style: &Style) -> Case {
+    let words = vec![run(kind, samples); most_words(kind) as usize];
+    let name = named(kind, &format!("silence-{name}"));
+    case(name, &with_words(kind, words), style, MORE, 0)
 }
 
 /// The most values, and one quiet sample behind them.
-fn full_and_silent_case(style: &Style) -> Case {
-    let words = (0..32_764).chain([0xFFFF_0000]).collect();
-    let drafts = with_words(words);
-    case("silence-behind-32764".to_string(), &drafts, style, MORE, 0)
+fn full_and_silent_case(kind: PingKind, style: &Style) -> Case {
+    let words = (0..32_764u32).map(|n| n % 32_512);
+    let words = words.chain([run(kind, 1)]).collect();
+    let name = named(kind, "silence-behind-32764");
+    case(name, &with_words(kind, words), style, MORE, 0)
 }
 
 /// Pings of many words: how many values, runs, and the code. A run comes before a value,
@@ -220,33 +344,119 @@ const MANY: [(usize, usize, u32); 8] = [
     (65_527, 0, 11),
 ];
 
-fn many_case(nth: usize, style: &Style) -> Case {
-    let (values, runs, code) = MANY[nth];
+/// The same of words of two bytes: most leave a space.
+const MANY_NARROW: [(usize, usize, u32); 3] =
+    [(32_764, 32_763, 0), (32_765, 0, 11), (65_527, 65_527, 11)];
+
+fn many_case(kind: PingKind, (values, runs, code): (usize, usize, u32), style: &Style) -> Case {
     let mut words = Vec::new();
     for n in 0..values.max(runs) {
         if n < runs {
-            words.push(0xFFFF_FFFF - n as u32 % 7);
+            words.push(run(kind, radix(kind)) - n as u32 % 7);
         }
         if n < values {
-            words.push(n as u32);
+            words.push(n as u32 % 32_512);
         }
     }
-    let name = format!("words-{values}-values-{runs}-runs");
-    case(name, &with_words(words), style, MORE, code)
+    let name = named(kind, &format!("words-{values}-values-{runs}-runs"));
+    case(name, &with_words(kind, words), style, MORE, code)
 }
 
-/// A U-32 ping with as many pairs as a tuple holds.
-fn pairs_case(count: u32, style: &Style) -> Case {
-    let mut rng = Rng::new(5);
-    let samples = (0..count).map(|n| (n * 3, n as i32 - 9)).collect();
-    let more = vec![ping(&mut rng, 1, samples)];
+/// 32,764 values and two bytes more, which by the count are a space, or a value too many.
+fn last_value_case(kind: PingKind, count: u32, code: u32, style: &Style) -> Case {
+    let mut rng = Rng::new(18);
+    let words = [vec![run(kind, 1)], vec![5; 32_764], vec![6]].concat();
+    let more = vec![words_ping(&mut rng, 1, kind, count, words)];
     let drafts = with(&mut rng, more);
+    let name = named(kind, &format!("words-32764-and-more-{count}"));
+    case(name, &drafts, style, MORE, code)
+}
+
+/// Values about sample 65,535, the last that U-16 can number, behind silence cut in every
+/// way or behind others; and the same with a length.
+fn reach_case(family: Family, style: &Style) -> Case {
+    let mut rng = Rng::new(19);
     let style = Style {
-        pings: PingStyle::U32,
+        pings: PingStyle::Packed,
+        cut: true,
         ..style.clone()
     };
-    let code = if count > 32_764 { 5 } else { 0 };
-    case(format!("pairs-{count}"), &drafts, &style, MORE, code)
+    let mut pings = Vec::new();
+    for last in 65_533..=65_538u32 {
+        let dense: Vec<_> = (last - 99..=last).map(|n| (n, 7)).collect();
+        for samples in [vec![(last, 7)], vec![(0, 5), (last, 7)], dense] {
+            for length in [None, Some(last + 2), Some(last + 258)] {
+                pings.push(family_ping(&mut rng, 1, family, samples.clone(), length));
+            }
+        }
+    }
+    let drafts = with(&mut rng, pings);
+    let name = format!("reach-{family:?}").to_lowercase();
+    case(name, &drafts, &style, MORE, 0)
+}
+
+/// So many samples as they are stored, three apart while that has room.
+fn samples_of(kind: PingKind, count: u32) -> Vec<(u32, [u32; 2])> {
+    let apart = if coding(kind).number == 4 { 3 } else { 1 };
+    (0..count)
+        .map(|n| (n * apart, [n.wrapping_sub(9), n ^ 0x5555]))
+        .collect()
+}
+
+/// A ping that numbers its samples, with as many as it may have, or as a tuple holds, and
+/// with more.
+fn listed_case(kind: PingKind, count: u32, code: u32, style: &Style) -> Case {
+    let mut rng = Rng::new(5);
+    let more = vec![listed_ping(&mut rng, 1, kind, samples_of(kind, count))];
+    let drafts = with(&mut rng, more);
+    let name = named(kind, &format!("pairs-{count}"));
+    case(name, &drafts, style, MORE, code)
+}
+
+/// Kinds, numbers of samples, and the code.
+const LISTED: [(PingKind, u32, u32); 10] = [
+    (PingKind::U32, 1, 0),
+    (PingKind::U32, 32_764, 0),
+    (PingKind::U32, 32_765, 5),
+    (PingKind::U32_16Angles, 32_764, 0),
+    (PingKind::U32_16Angles, 32_765, 5),
+    (PingKind::U16, 32_764, 0),
+    (PingKind::U16, 32_765, 11),
+    (PingKind::U16, 65_528, 11),
+    (PingKind::U16Angles, 32_764, 0),
+    (PingKind::U16Angles, 32_765, 11),
+];
+
+/// Few samples of every kind that numbers them, odd and even in number, the last at the
+/// end of the numbers.
+fn few_case(style: &Style) -> Case {
+    let mut rng = Rng::new(20);
+    let mut pings = Vec::new();
+    for (kind, most) in [
+        (PingKind::U32, u32::MAX),
+        (PingKind::U32_16Angles, u32::MAX),
+        (PingKind::U16, 0xFFFF),
+        (PingKind::U16Angles, 0xFFFF),
+    ] {
+        for count in 1..=6 {
+            let mut samples = samples_of(kind, count);
+            pings.push(listed_ping(&mut rng, 1, kind, samples.clone()));
+            samples[count as usize - 1].0 = most;
+            pings.push(listed_ping(&mut rng, 1, kind, samples));
+        }
+    }
+    let drafts = with(&mut rng, pings);
+    case("pairs-few".to_string(), &drafts, style, MORE, 0)
+}
+
+/// U-16-angles of a length that no number of samples has.
+fn angles_length_case(length: usize, style: &Style) -> Case {
+    let mut rng = Rng::new(21);
+    let data = rng.bytes(length - 10);
+    let more = vec![Draft::new(&mut rng, 10031, Body::Raw(data))];
+    let drafts = with(&mut rng, more);
+    let name = format!("u16angles-length-{length}");
+    case(name, &drafts, style, MORE, 9)
 }
 
 /// A text, or the end of file's data, as long as a tuple holds, and longer.
@@ -306,6 +516,42 @@ fn other_maker_case(style: &Style) -> Case {
 
 type Making = Box<dyn Fn(&Style) -> Case>;
 
+/// Those of words of two bytes.
+fn narrow_makings() -> Vec<Making> {
+    let mut makings: Vec<Making> = Vec::new();
+    for (kind, limit) in BAD_WORDS {
+        makings.push(Box::new(move |style| words_case(kind, &limit, style)));
+    }
+    for kind in [PingKind::C16, PingKind::Ce16] {
+        makings.push(Box::new(move |style| good_words_case(kind, style)));
+        makings.push(Box::new(move |style| spaces_case(kind, style)));
+        makings.push(Box::new(move |style| no_space_case(kind, 0, style)));
+        makings.push(Box::new(move |style| narrow_silences_case(kind, style)));
+        makings.push(Box::new(move |style| {
+            last_value_case(kind, 32_764, 0, style)
+        }));
+        makings.push(Box::new(move |style| {
+            last_value_case(kind, 32_765, 11, style)
+        }));
+    }
+    for nth in 1..NO_SPACES.len() {
+        makings.push(Box::new(move |style| {
+            no_space_case(PingKind::C16, nth, style)
+        }));
+    }
+    for many in MANY_NARROW {
+        makings.push(Box::new(move |style| many_case(PingKind::C16, many, style)));
+    }
+    let [_, too_many, _] = MANY_NARROW;
+    makings.push(Box::new(move |style| {
+        many_case(PingKind::Ce16, too_many, style)
+    }));
+    for family in [Family::Bits16, Family::Ce16] {
+        makings.push(Box::new(move |style| reach_case(family, style)));
+    }
+    makings
+}
+
 fn makings() -> Vec<Making> {
     let mut makings: Vec<Making> = Vec::new();
     for nth in 0..LENGTHS.len() {
@@ -323,9 +569,9 @@ fn makings() -> Vec<Making> {
     for nth in 0..IDENTIFIERS.len() {
         makings.push(Box::new(move |style| identifier_case(nth, style)));
     }
-    for (name, words, offender) in WORDS {
+    for limit in WORDS {
         makings.push(Box::new(move |style| {
-            words_case(name, words, offender, style)
+            words_case(PingKind::C32, &limit, style)
         }));
     }
     for (name, ping_words) in SILENT {
@@ -333,17 +579,27 @@ fn makings() -> Vec<Making> {
             silences_case(name, ping_words, style)
         }));
     }
-    for (name, run) in [("longest", 0xFFFF_FFFF), ("most-runs", 0xFFFF_0000)] {
+    for many in MANY {
+        makings.push(Box::new(move |style| many_case(PingKind::C32, many, style)));
+    }
+    for kind in [PingKind::C32, PingKind::C16, PingKind::Ce16] {
         makings.push(Box::new(move |style| {
-            longest_silence_case(name, run, style)
+            longest_silence_case(kind, "longest", radix(kind), style)
+        }));
+        makings.push(Box::new(move |style| full_and_silent_case(kind, style)));
+    }
+    for kind in [PingKind::C32, PingKind::C16] {
+        makings.push(Box::new(move |style| {
+            longest_silence_case(kind, "most-runs", 1, style)
         }));
     }
-    makings.push(Box::new(full_and_silent_case));
-    for nth in 0..MANY.len() {
-        makings.push(Box::new(move |style| many_case(nth, style)));
+    makings.extend(narrow_makings());
+    for (kind, count, code) in LISTED {
+        makings.push(Box::new(move |style| listed_case(kind, count, code, style)));
     }
-    for count in [1, 32_764, 32_765] {
-        makings.push(Box::new(move |style| pairs_case(count, style)));
+    makings.push(Box::new(few_case));
+    for length in [36, 48] {
+        makings.push(Box::new(move |style| angles_length_case(length, style)));
     }
     for text in [0, 4, 262_124, 262_128] {
         makings.push(Box::new(move |style| text_case(text, style)));
@@ -449,7 +705,7 @@ fn dense(order: Order, length: usize) -> Vec<u8> {
     let mut drafts = with(&mut rng, pings);
     fill(&mut rng, &mut drafts, length);
     let style = Style {
-        pings: PingStyle::C32,
+        pings: PingStyle::Packed,
         ..Style::plain(order)
     };
     render(&drafts, &style, &mut rng).bytes

@@ -5,6 +5,7 @@ use super::faults::{broken_ping, fault, random_damage, third_identifier, FAULT_K
 use super::sound::*;
 use super::vessels::short_vessel;
 use super::Rng;
+use crate::kinds::Family;
 use crate::layout::LAYOUTS;
 use crate::order::Order;
 
@@ -124,15 +125,21 @@ fn damaged_tuple_file(rng: &mut Rng) -> Vec<u8> {
     bytes
 }
 
-/// A C-32 ping whose U-32 form has mark and tuple just within the limit of
-/// 65,536 bytes, or just past it; at times with a length, so that it has none.
+/// A C-32 ping whose U-32 form has mark and tuple just within the limit of 65,536 bytes,
+/// or just past it, or a C-16 ping of twice as many values; at times with a length, so
+/// that it has no such form.
 fn dense_file(rng: &mut Rng, values: u32) -> Vec<u8> {
+    let family = rng.pick(&[Family::Bits32, Family::Bits16]);
+    let values = match family {
+        Family::Bits16 => 2 * values - rng.below(2) as u32,
+        _ => values,
+    };
     let samples: Vec<(u32, i32)> = (0..values).map(|n| (n, n as i32)).collect();
     let silence = rng.pick(&[0, 0, 1, 65_537]);
-    let length = length_with(&samples, silence);
-    let draft = ping_of_length(rng, 3, samples, length);
+    let length = length_with(family, &samples, silence);
+    let draft = family_ping(rng, 3, family, samples, length);
     let style = Style {
-        pings: PingStyle::C32,
+        pings: PingStyle::Packed,
         ..Style::plain(rng.pick(&Order::BOTH))
     };
     render(&[draft], &style, rng).bytes
@@ -164,7 +171,7 @@ fn expanding_file(rng: &mut Rng) -> Vec<u8> {
     drafts.push(position(rng));
     drafts.push(end_of_file(rng, 2));
     let style = Style {
-        pings: PingStyle::C32,
+        pings: PingStyle::Packed,
         ..Style::any(rng)
     };
     render(&drafts, &style, rng).bytes

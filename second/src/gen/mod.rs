@@ -17,7 +17,7 @@ pub use faults::{fault, noise, random_damage, two_faults, Kind, Spot, FAULT_KIND
 pub use limits::{big_limit, big_limit_count, limit, limit_count};
 pub use lines::{frames, hex, line_case, LineCase};
 pub use pairs::{equal_pair, unequal_pair};
-pub use sound::{any_length, sample_list, sound_drafts, Wish};
+pub use sound::{angle_list, any_length, sample_list, sound_drafts, Wish, FAMILIES};
 
 use faults::kind_in_turn;
 

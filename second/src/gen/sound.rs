@@ -1,8 +1,9 @@
 //! Drafts of sound files.
 
-use super::draft::{suits_c32, Body, Draft, Piece};
+use super::draft::{coding, radix, spellings, suits, suits_words, word, Body, Draft, Piece};
 use super::vessels::{MOST_CHANNELS, MOST_SOUNDERS};
 use super::Rng;
+use crate::kinds::{Family, PingKind};
 use crate::layout::{class, is_listed, Class};
 use crate::links::Maker;
 use Piece::{Chars, Four, Identifier, Space, Two};
@@ -12,8 +13,8 @@ use Piece::{Chars, Four, Identifier, Space, Two};
 pub struct Wish {
     /// Unlisted types outside the index class.
     pub unlisted: bool,
-    /// Values in -65536..-1 or past the C-32 limits, and numbers too far out:
-    /// such pings can only be U-32.
+    /// Values that have no word of their family, and numbers too far out for words: such
+    /// pings can only be of the family's other kind.
     pub wild: bool,
     /// Tuples between signature and end of file, about.
     pub size: u64,
@@ -193,37 +194,94 @@ pub(super) fn ping_header(rng: &mut Rng, channel: u16) -> Vec<Piece> {
     ]
 }
 
-/// A ping of samples and without a length.
+/// A 32-bit ping of samples and without a length.
 pub(super) fn ping(rng: &mut Rng, channel: u16, samples: Vec<(u32, i32)>) -> Draft {
-    ping_of_length(rng, channel, samples, None)
+    family_ping(rng, channel, Family::Bits32, samples, None)
 }
 
-/// A ping without samples, of some length.
+/// A 32-bit ping without samples, of some length.
 pub(super) fn silent_ping(rng: &mut Rng, channel: u16, length: u32) -> Draft {
-    ping_of_length(rng, channel, Vec::new(), Some(length))
+    family_ping(rng, channel, Family::Bits32, Vec::new(), Some(length))
 }
 
-/// A ping of samples, or of a length, or of both, which then have to suit C-32.
-pub(super) fn ping_of_length(
+/// A ping of a family without angles: of samples, or of a length, or of both, which then
+/// have to suit words.
+pub(super) fn family_ping(
     rng: &mut Rng,
     channel: u16,
+    family: Family,
     samples: Vec<(u32, i32)>,
     length: Option<u32>,
 ) -> Draft {
     let header = ping_header(rng, channel);
     let body = Body::Ping {
+        family,
         header,
         samples,
         length,
     };
-    Draft::new(rng, 10000, body)
+    let (listed, words) = spellings(family);
+    let code = coding(listed.unwrap_or(words)).code;
+    Draft::new(rng, code, body)
 }
 
-/// A sound ping of any samples.
+/// A ping of a kind that numbers its samples, as they are.
+pub(super) fn listed_ping(
+    rng: &mut Rng,
+    channel: u16,
+    kind: PingKind,
+    samples: Vec<(u32, [u32; 2])>,
+) -> Draft {
+    let header = ping_header(rng, channel);
+    let body = Body::Listed {
+        kind,
+        header,
+        samples,
+    };
+    Draft::new(rng, coding(kind).code, body)
+}
+
+/// A ping of words, as they are.
+pub(super) fn words_ping(
+    rng: &mut Rng,
+    channel: u16,
+    kind: PingKind,
+    count: u32,
+    words: Vec<u32>,
+) -> Draft {
+    let header = ping_header(rng, channel);
+    let body = Body::Words {
+        kind,
+        header,
+        count,
+        words,
+    };
+    Draft::new(rng, coding(kind).code, body)
+}
+
+/// The families without angles.
+pub const FAMILIES: [Family; 3] = [Family::Bits32, Family::Bits16, Family::Ce16];
+
+/// The kinds with angles.
+pub(super) const ANGLES: [PingKind; 2] = [PingKind::U32_16Angles, PingKind::U16Angles];
+
+/// A sound ping of any family and samples.
 pub(super) fn any_ping(rng: &mut Rng, channel: u16, wild: bool) -> Draft {
-    let samples = sample_list(rng, wild);
-    let length = any_length(rng, &samples);
-    ping_of_length(rng, channel, samples, length)
+    let family = match rng.below(10) {
+        0..=3 => Family::Bits32,
+        4..=6 => Family::Bits16,
+        7 | 8 => Family::Ce16,
+        _ => {
+            let kind = rng.pick(&ANGLES);
+            let samples = angle_list(rng, kind);
+            let bits = |angle: i16| u32::from(angle as u16);
+            let samples = samples.into_iter().map(|(n, angles)| (n, angles.map(bits)));
+            return listed_ping(rng, channel, kind, samples.collect());
+        }
+    };
+    let samples = sample_list(rng, family, wild);
+    let length = any_length(rng, family, &samples);
+    family_ping(rng, channel, family, samples, length)
 }
 
 /// An unlisted tuple of some code with anything in it.
@@ -238,10 +296,10 @@ pub(super) fn unlisted(rng: &mut Rng, code: u16) -> Draft {
 
 /// Codes inside the classes, beside them, private ones and any others.
 pub(super) fn unlisted_code(rng: &mut Rng) -> u16 {
-    const CODES: [u16; 34] = [
-        0, 10, 19, 21, 29, 31, 41, 99, 101, 201, 999, 1001, 2001, 9999, 10001, 10011, 10030, 10040,
-        10050, 10099, 10101, 10109, 10111, 11000, 12000, 65396, 65400, 65405, 65518, 65525, 65526,
-        65533, 300, 3000,
+    const CODES: [u16; 36] = [
+        0, 10, 19, 21, 29, 31, 41, 99, 101, 201, 999, 1001, 2001, 9999, 10002, 10011, 10020, 10029,
+        10032, 10041, 10051, 10099, 10101, 10109, 10111, 11000, 12000, 65396, 65400, 65405, 65518,
+        65525, 65526, 65533, 300, 3000,
     ];
     loop {
         let code = if rng.chance(80) {
@@ -283,7 +341,16 @@ fn new_channel(rng: &mut Rng, taken: &[u16]) -> u16 {
     }
 }
 
-fn value(rng: &mut Rng, wild: bool) -> i32 {
+/// A value of a family, in a wild list one that may have no word of it.
+fn value(rng: &mut Rng, family: Family, wild: bool) -> i32 {
+    match family {
+        Family::Bits16 => value_16(rng, wild),
+        Family::Ce16 => counts(rng),
+        _ => value_32(rng, wild),
+    }
+}
+
+fn value_32(rng: &mut Rng, wild: bool) -> i32 {
     const WILD: [i32; 7] = [
         -1,
         -65_536,
@@ -313,73 +380,153 @@ fn value(rng: &mut Rng, wild: bool) -> i32 {
     }
 }
 
-fn gap(rng: &mut Rng) -> u64 {
-    const GAPS: [u64; 9] = [
-        1, 65_534, 65_535, 65_536, 65_537, 131_071, 131_072, 131_073, 200_000,
+fn value_16(rng: &mut Rng, wild: bool) -> i32 {
+    const WILD: [i32; 7] = [-1, -256, -255, -32_768, 32_767, 32_512, -32_512];
+    const TAME: [i32; 9] = [0, 0, 1, -257, 32_511, -32_511, 255, 256, 127];
+    if wild && rng.chance(30) {
+        return rng.pick(&WILD);
+    }
+    match rng.below(3) {
+        0 => rng.pick(&TAME),
+        1 => rng.below(32_512) as i32,
+        _ => -257 - rng.below(32_511 - 257 + 1) as i32,
+    }
+}
+
+/// Counts that CE-16 has a word for: twelve bits, or thirteen by an exponent; often 0,
+/// which has two.
+fn counts(rng: &mut Rng) -> i32 {
+    const EDGES: [i32; 11] = [
+        1, 255, 256, 4095, 4096, 8191, 8192, 8194, 16_384, 262_144, 507_840,
     ];
+    let counts = match rng.below(4) {
+        0 => 0,
+        1 => rng.pick(&EDGES),
+        2 => rng.below(4096) as i32,
+        _ => ((4096 + rng.below(4096)) << rng.below(7)).min(507_840) as i32,
+    };
+    if rng.chance(50) {
+        -counts
+    } else {
+        counts
+    }
+}
+
+fn gap(rng: &mut Rng, family: Family) -> u64 {
+    let most = radix(spellings(family).1);
     match rng.below(20) {
-        0 => rng.pick(&GAPS),
-        1 => rng.below(400_000),
+        0 => about_runs(rng, most),
+        1 => rng.below(6 * most),
         2..=5 => 1 + rng.below(40),
         _ => 0,
     }
 }
 
+/// A number about that of one full run, of two, of three or of four.
+fn about_runs(rng: &mut Rng, most: u64) -> u64 {
+    most * (1 + rng.below(4)) + rng.below(3) - 1
+}
+
 /// Silence behind the last value, by number of samples.
-fn silence(rng: &mut Rng) -> u64 {
-    const SILENCES: [u64; 10] = [
-        1, 2, 65_535, 65_536, 65_537, 131_072, 131_073, 262_144, 262_145, 400_000,
-    ];
-    match rng.below(3) {
-        0 => rng.pick(&SILENCES),
-        1 => 1 + rng.below(400_000),
+fn silence(rng: &mut Rng, family: Family) -> u64 {
+    let most = radix(spellings(family).1);
+    match rng.below(4) {
+        0 => about_runs(rng, most),
+        1 => 1 + rng.below(6 * most),
+        2 => rng.pick(&[1, 2]),
         _ => 1 + rng.below(40),
     }
 }
 
 /// The length of a ping that ends in so much silence; none without silence, or where
 /// such a ping can't be.
-pub(super) fn length_with(samples: &[(u32, i32)], silence: u64) -> Option<u32> {
+pub(super) fn length_with(family: Family, samples: &[(u32, i32)], silence: u64) -> Option<u32> {
     let values_end = samples.last().map_or(0, |(n, _)| u64::from(*n) + 1);
     let length = u32::try_from(values_end + silence).ok();
-    length.filter(|length| silence > 0 && suits_c32(samples, Some(*length)))
+    length.filter(|length| silence > 0 && suits_words(family, samples, Some(*length)))
 }
 
 /// A length for a sound list, which half of those with samples have.
-pub fn any_length(rng: &mut Rng, samples: &[(u32, i32)]) -> Option<u32> {
+pub fn any_length(rng: &mut Rng, family: Family, samples: &[(u32, i32)]) -> Option<u32> {
     if !samples.is_empty() && rng.chance(50) {
         return None;
     }
-    length_with(samples, silence(rng))
+    let silence = silence(rng, family);
+    length_with(family, samples, silence)
 }
 
-/// A sound list of samples; a wild one may suit U-32 alone.
-pub fn sample_list(rng: &mut Rng, wild: bool) -> Vec<(u32, i32)> {
-    let count = match rng.below(20) {
-        0..=2 => 0,
-        3 => rng.below(600),
+/// How many samples a list has.
+fn list_length(rng: &mut Rng, least: u64) -> u64 {
+    match rng.below(20) {
+        0..=2 => least,
+        3 => least + rng.below(600),
         4 => 1,
         _ => 1 + rng.below(12),
-    };
+    }
+}
+
+/// The first number that a list may have: mostly 0. A far one is near the end of the
+/// numbers; one of two bytes is at times about that end even where it isn't far, so that
+/// words go on past it.
+fn list_start(rng: &mut Rng, family: Family, far: bool) -> u64 {
+    match family {
+        Family::Bits32 if far && rng.chance(20) => rng.below(1 << 32),
+        Family::Bits32 if far => (1 << 32) - 1 - rng.below(500_000),
+        Family::Bits16 | Family::Ce16 if rng.chance(10) => 65_536 - rng.below(8),
+        Family::Bits16 | Family::Ce16 if far => rng.below(200_000),
+        _ => 0,
+    }
+}
+
+/// A list of samples that is sound in its family; a wild one may suit one kind alone.
+pub fn sample_list(rng: &mut Rng, family: Family, wild: bool) -> Vec<(u32, i32)> {
+    let count = list_length(rng, 0);
     let wild = wild && rng.chance(20);
     let far = wild && rng.chance(30);
     let mut samples = Vec::new();
-    // Mostly too far out for C-32: a gap there takes 65,535 words or so.
-    let mut next = match rng.below(5) {
-        _ if !far => 0,
-        0 => rng.below(1 << 32),
-        _ => (1 << 32) - 1 - rng.below(500_000),
-    };
+    let mut next = list_start(rng, family, far);
     for _ in 0..count {
-        next += gap(rng);
-        if far && rng.chance(10) {
+        next += gap(rng, family);
+        if far && family == Family::Bits32 && rng.chance(10) {
             next = next.max(u64::from(u32::MAX) - rng.below(3));
         }
         let Ok(number) = u32::try_from(next) else {
             break;
         };
-        samples.push((number, value(rng, wild)));
+        samples.push((number, value(rng, family, wild)));
         next += 1;
+    }
+    let words = spellings(family).1;
+    if !samples.is_empty() && !suits(family, &samples) {
+        // too far out for the kind with numbers: what has no word leaves
+        samples.retain(|(_, value)| word(words, *value).is_some());
+    }
+    samples
+}
+
+/// A sound list of angles. Numbers of two bytes end at 65,535.
+pub fn angle_list(rng: &mut Rng, kind: PingKind) -> Vec<(u32, [i16; 2])> {
+    let most: u64 = match coding(kind).number {
+        2 => 0xFFFF,
+        _ => 0xFFFF_FFFF,
+    };
+    let count = list_length(rng, 1);
+    let mut next = match rng.below(5) {
+        0 => most - rng.below(20),
+        1 => rng.below(most),
+        _ => 0,
+    };
+    let mut samples = Vec::new();
+    for _ in 0..count {
+        next += gap(rng, Family::Ce16);
+        if next > most {
+            break;
+        }
+        samples.push((next as u32, [rng.two() as i16, rng.two() as i16]));
+        next += 1;
+    }
+    if samples.is_empty() {
+        samples.push((most as u32, [-1, 1]));
     }
     samples
 }
@@ -457,7 +604,7 @@ impl Plan {
             (Class::Position, 21),
             (Class::Sounder, 300),
             (Class::Channel, 3000),
-            (Class::Ping, 10030),
+            (Class::Ping, 10020),
         ] {
             if has(self, wanted) {
                 continue;

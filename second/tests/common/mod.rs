@@ -4,7 +4,7 @@
 pub mod said;
 
 use second::gen::{limit, limit_count, Case};
-use second::records::PingHeader;
+use second::pings::PingHeader;
 use second::walk::{forward, Step, Tuple};
 use second::{Order, SoftwareChannel};
 use std::collections::BTreeMap;
@@ -176,38 +176,108 @@ impl File<'_> {
 /// Codes with their places.
 pub type Faults = BTreeMap<&'static str, usize>;
 
-/// All faults of the samples of a ping at a place, by the pairs and words
-/// themselves: request c of 02. Its length has to fit.
+/// The types of the seven kinds of ping.
+pub const PINGS: [u64; 7] = [10000, 10001, 10010, 10030, 10031, 10040, 10050];
+
+/// All faults of the samples of a ping at a place, by the samples and words
+/// themselves: requests c and f of 02. Its length has to fit.
 pub fn sample_faults(file: &File, at: usize) -> Faults {
     let end = at + file.number(at, 4) as usize + 10 - 8;
     match file.number(at + 4, 2) {
-        10000 => pair_faults(file, at, end),
-        10010 => word_faults(file, at, end),
+        10000 | 10001 => number_faults(file, at, end, (8, 4)),
+        10030 => number_faults(file, at, end, (4, 2)),
+        10031 => number_faults(file, at, end, (6, 2)),
+        code @ (10010 | 10040 | 10050) => word_faults(file, at, end, code),
         _ => Faults::new(),
     }
 }
 
-fn pair_faults(file: &File, at: usize, end: usize) -> Faults {
-    let not_above = |place: &usize| file.number(*place, 4) <= file.number(*place - 8, 4);
-    let first = (at + 32..end).step_by(8).find(not_above);
-    first.map(|place| ("23", place)).into_iter().collect()
+/// Samples of so many bytes, of which so many are the number.
+fn number_faults(file: &File, at: usize, end: usize, (bytes, number): (usize, usize)) -> Faults {
+    let mut faults = Faults::new();
+    let count = (end - at - 24) / bytes;
+    if count > 32_764 {
+        faults.insert("11", at);
+    }
+    let nth = |n: usize| file.number(at + 24 + bytes * n, number);
+    if let Some(n) = (1..count).find(|n| nth(*n) <= nth(n - 1)) {
+        faults.insert("23", at + 24 + bytes * n);
+    }
+    faults
 }
 
-fn word_faults(file: &File, at: usize, end: usize) -> Faults {
+/// A number of some bits as a signed one.
+fn two_complement(number: u64, bits: u32) -> i64 {
+    if number < 1 << (bits - 1) {
+        number as i64
+    } else {
+        number as i64 - (1 << bits)
+    }
+}
+
+/// The value of a word that is no run, and the limits of its kind: Tables 20, 23 and 24.
+pub fn word_value(code: u64, word: u64) -> (i64, std::ops::RangeInclusive<i64>) {
+    match code {
+        10010 => (two_complement(word, 32), -2_147_418_112..=2_147_418_111),
+        10040 => (two_complement(word, 16), -32_511..=32_511),
+        _ => {
+            let (sign, exponent, mantissa) = (word / 32_768, word / 4096 % 8, (word % 4096) as i64);
+            let counts = match exponent {
+                0 => mantissa,
+                _ => (4096 + mantissa) * (1 << (exponent - 1)),
+            };
+            let value = if sign == 1 { -counts } else { counts };
+            (value, -507_840..=507_840)
+        }
+    }
+}
+
+/// Bytes of a word.
+pub fn word_width(code: u64) -> usize {
+    if code == 10010 {
+        4
+    } else {
+        2
+    }
+}
+
+/// Whether a word is a run: its upper half is all ones.
+pub fn is_run(code: u64, word: u64) -> bool {
+    match code {
+        10010 => word / 65_536 == 65_535,
+        _ => word / 256 == 255,
+    }
+}
+
+/// Where the words of a ping stand, from its count up to its attribute: all, but for the
+/// last two bytes where these are a space.
+pub fn word_places(file: &File, at: usize, end: usize, code: u64) -> Vec<usize> {
+    let width = word_width(code);
+    let mut all: Vec<usize> = (at + 28..end).step_by(width).collect();
+    if width == 4 {
+        return all;
+    }
+    let values = |places: &[usize]| {
+        let words = places.iter().map(|place| file.number(*place, width));
+        words.filter(|word| !is_run(code, *word)).count() as u64
+    };
+    let stated = file.number(at + 24, 4);
+    let (with, without) = (values(&all), values(&all[..all.len() - 1]));
+    let word = stated == with || (stated != with && stated != without);
+    if !word {
+        all.pop();
+    }
+    all
+}
+
+fn word_faults(file: &File, at: usize, end: usize, code: u64) -> Faults {
     let mut faults = Faults::new();
-    let is_run = |place: &usize| file.number(*place, 4) / 65_536 == 65_535;
-    let values: Vec<usize> = (at + 28..end)
-        .step_by(4)
-        .filter(|place| !is_run(place))
-        .collect();
+    let word = |place: &usize| file.number(*place, word_width(code));
+    let mut values = word_places(file, at, end, code);
+    values.retain(|place| !is_run(code, word(place)));
     let outside = |place: &&usize| {
-        let word = file.number(**place, 4) as i64;
-        let value = if word < 1 << 31 {
-            word
-        } else {
-            word - (1 << 32)
-        };
-        !(-2_147_418_112..=2_147_418_111).contains(&value)
+        let (value, limits) = word_value(code, word(place));
+        !limits.contains(&value)
     };
     if values.len() > 32_764 {
         faults.insert("11", at);

@@ -3,8 +3,8 @@ use Prim.Native.Nat.{_+_, _≤_}
 use native.Mathlib.Omega.{arith}
 use borrow.Author.Needs.{needs}
 use lib.ListN.{length}
-use Rattle.forms.proofs.Placed.{most}
-use Rattle.forms.proofs.Written.{raw-written}
+use Rattle.ping_forms.proofs.Placed.{most}
+use Rattle.ping_forms.proofs.Written.{raw-written}
 use Rattle.forms.proofs.write_raw.Statement.{statement}
 use Rattle.forms.proofs.write_raw.Tie as tie
 

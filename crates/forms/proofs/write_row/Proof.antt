@@ -7,9 +7,9 @@ use borrow.Author.Needs.{needs}
 use lib.ListN.{length}
 use Rattle.layout.specs.Fields.{Field, size}
 use Rattle.forms.specs.inner.Parts.{listedFields}
-use Rattle.forms.proofs.Placed.{most, fits-here}
+use Rattle.ping_forms.proofs.Placed.{most, fits-here}
 use Rattle.forms.proofs.Texts.{row-listed, row-fields}
-use Rattle.forms.proofs.Written.{row-written}
+use Rattle.ping_forms.proofs.Written.{row-written}
 use Rattle.forms.proofs.write_row.Statement.{statement}
 use Rattle.forms.proofs.write_row.Tie as tie
 

@@ -4,7 +4,7 @@ use mathlib.Core.Bool.{true}
 use Prim.Native.Nat.{_<_}
 use borrow.Author.Needs.{needs}
 use borrow.Author.Tests.{not-true, not-false}
-use Rattle.layout.specs.Families.{isPing}
+use Rattle.layout.specs.Types.{isPing}
 use lib.ListN.{length}
 use Rattle.intake.specs.inner.Tallies.{Tables, tables, pingAt}
 use Rattle.intake.proofs.Rows.{ask-other, channel-below, sounder-below, ask-ping}

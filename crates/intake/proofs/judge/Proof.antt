@@ -1,11 +1,11 @@
 -- `intake::judge` meets its contract: the verdicts of the parts, one behind the other. Assumes nothing.
 use mathlib.Core.Path.{_≡_, refl, sym, ap, _∙_}
-use mathlib.Core.Logic.{inl, inr}
 use mathlib.Core.Bool.{Bool}
 use mathlib.Core.List.{List}
 use Prim.Native.Nat.{ℕ}
 use native.Mathlib.Omega.{arith}
 use borrow.Author.Needs.{needs}
+use borrow.Author.Tests.{not-true}
 use lib.Dec.{eqb}
 use lib.ListN.{drop}
 use Rattle.layout.specs.declared.Verdict.{Verdict}
@@ -99,25 +99,31 @@ returns-4 c =
     (c .enum-told5 .given .1)
 
 -- the tuple, once it is linked
-judge-inner-requires : tie.Need-judge-inner-requires
-judge-inner-requires c κs = let g = c .before .before .before .before .before in (here (g .before .before .before .before), fits g)
+abbrev linked : tie.After-is-ping → tie.After-linked
+linked c = c .before .before
 
+-- no ping: nothing is said of its samples;
 returns-5 : tie.Need-returns-5
 returns-5 c =
-    let m = c .before .before .before .before in
+    let m = linked (c .before) in
+    let l = m .before .before in
+    let other = sym (c .before .is-ping .ensures) ∙ not-true _ (c .if2 .taken) in
+    let none = no-inner (here (l .before .before .before .before .before)) other in
+    told-alone _ _ _ (held (start (l .before .before .before))) (l .judge-links .ensures) (past-head (l .before)) (m .linked .given .1) none
+
+-- or a ping
+judge-inner-requires : tie.Need-judge-inner-requires
+judge-inner-requires c κs =
+    let g = linked (c .before) .before .before .before in
+    (here (g .before .before .before .before), fits g)
+
+returns-6 : tie.Need-returns-6
+returns-6 c =
+    let m = linked (c .before .before .before) in
     let l = m .before .before in
     rw (c .comparing4 .ensures, c .before .judge-inner .ensures)
     (told-linked _ _ _ (held (start (l .before .before .before))) (l .judge-links .ensures) (past-head (l .before))
     (m .linked .given .1))
-
--- no ping: nothing is said of its samples
-returns-6 : tie.Need-returns-6
-returns-6 c =
-    let m = c .before .before in
-    let l = m .before .before in
-    let none =
-    no-inner (here (l .before .before .before .before .before)) (λ e. c .match4 .rest .1 (inl e)) (λ e. c .match4 .rest .1 (inr e)) in
-    told-alone _ _ _ (held (start (l .before .before .before))) (l .judge-links .ensures) (past-head (l .before)) (m .linked .given .1) none
 
 pub judge-spec : {M : Type 1} → statement M
 judge-spec =
@@ -142,7 +148,8 @@ judge-spec =
     (λ c. search needs)
     (λ c. search needs)
     returns-4
-    judge-inner-requires
     (λ c κs. search needs)
     returns-5
+    judge-inner-requires
+    (λ c κs. search needs)
     returns-6)

@@ -6,7 +6,7 @@ use mathlib.Core.List.{List, [], _∷_, _++_}
 use mathlib.Core.Option.{some}
 use mathlib.Core.Option
 use lib.Dec.{eqb}
-use Rattle.layout.specs.Families.{isPing}
+use Rattle.layout.specs.Types.{isPing}
 use lib.ListN.{length, take, drop, set}
 use Rattle.order.specs.Order.{numOf}
 use Rattle.rules.specs.Rules.{_⇒_}

@@ -9,12 +9,12 @@ use Rattle.layout.proofs.Arms.{arm, at-least}
 use Rattle.layout.proofs.measure.Statement.{statement}
 use Rattle.layout.proofs.measure.Tie as tie
 
--- behind the fourteen arms one listing is left
-returns-15 : tie.Need-returns-15
+-- behind the nineteen arms one listing is left
+returns-20 : tie.Need-returns-20
 unfolding measures listings
-returns-15 c =
+returns-20 c =
     let s = c .before .before in
-    let e : s .args .listing ≡ 14 = omega (arith, s .pre, at-least 14 (s .args .listing) (c .before .match .rest)) in
+    let e : s .args .listing ≡ 19 = omega (arith, s .pre, at-least 19 (s .args .listing) (c .before .match .rest)) in
     arm measures [] e refl
 
 pub measure-spec : {M : Type 1} → statement M
@@ -22,6 +22,11 @@ unfolding measures listings
 measure-spec =
     tie.close
     (tie.spec
+    (λ c. search needs)
+    (λ c. search needs)
+    (λ c. search needs)
+    (λ c. search needs)
+    (λ c. search needs)
     (λ c. search needs)
     (λ c. search needs)
     (λ c. search needs)
@@ -51,4 +56,9 @@ measure-spec =
     (λ c. arm measures [] (c .before .match .keys12) refl)
     (λ c. arm measures [] (c .before .match .keys13) refl)
     (λ c. arm measures [] (c .before .match .keys14) refl)
-    returns-15)
+    (λ c. arm measures [] (c .before .match .keys15) refl)
+    (λ c. arm measures [] (c .before .match .keys16) refl)
+    (λ c. arm measures [] (c .before .match .keys17) refl)
+    (λ c. arm measures [] (c .before .match .keys18) refl)
+    (λ c. arm measures [] (c .before .match .keys19) refl)
+    returns-20)

@@ -1,6 +1,6 @@
 -- The code's tables: what each listed type measures, and its row as codes; in the order of `listings`. Assumes nothing.
 use Prim.Native.Nat.{ℕ, zero, suc, _-_}
-use mathlib.Core.Bool.{Bool, cond}
+use mathlib.Core.Bool.{Bool, true, false, cond}
 use mathlib.Core.List.{List, [], _∷_, _++_, map}
 use mathlib.Core.Option.{Option, some, none}
 use lib.Dec.{eqb}
@@ -9,8 +9,10 @@ use Rattle.rules.specs.Rules.{_⇒_, firstOf}
 use Rattle.layout.specs.declared.Maker.{Maker}
 use Rattle.layout.specs.declared.Maker.the-variants.{Biosonics, Simrad}
 use Rattle.layout.specs.Fields.{Field, num, txt, gap, ident, u, s, c, z, many, beforeText, bareSize, size}
-use Rattle.layout.specs.Types.{Shape, indexed, row, pairs, words, unlisted, pingRow, Length, exactly, upward, leastOf, stepOf}
-use Rattle.layout.specs.Types.{Listing, Entry, listings}
+use Rattle.layout.specs.Types.{Shape, indexed, row, uncompressed, compressed, unlisted, pingRow, Length, exactly, upward, upwardOr}
+use Rattle.layout.specs.Types.{leastOf, stepOf, moreOf}
+use Rattle.layout.specs.Types.{Listing, Entry, listings, shapeOf}
+use Rattle.layout.specs.Families.{Family, wide}
 
 -- ---- places
 -- the place of a type code among some types: their number where none has it
@@ -26,9 +28,28 @@ placeIn k = placeAmong k listings
 abbrev pub fieldsIn : Shape → List Field
 fieldsIn indexed = []
 fieldsIn (row fs x) = fs
-fieldsIn pairs = pingRow
-fieldsIn words = pingRow ++ (u 4 ∷ [])
+fieldsIn (uncompressed f) = pingRow
+fieldsIn (compressed f) = pingRow ++ (u 4 ∷ [])
 fieldsIn unlisted = []
+
+-- the family of a type that has samples
+abbrev pub familyIn : Shape → Family
+familyIn indexed = wide
+familyIn (row fs x) = wide
+familyIn (uncompressed f) = f
+familyIn (compressed f) = f
+familyIn unlisted = wide
+
+abbrev pub familyOf : ℕ → Family
+familyOf k = familyIn (shapeOf k)
+
+-- a type whose samples are words
+abbrev pub hasWords : Shape → Bool
+hasWords indexed = false
+hasWords (row fs x) = false
+hasWords (uncompressed f) = false
+hasWords (compressed f) = true
+hasWords unlisted = false
 
 -- the code of a field: 2, 4, s, S, c, z, i
 abbrev pub codeOf : Field → ℕ
@@ -46,6 +67,10 @@ dotted ks = ks ++ replicate (longestRow - length ks) 46
 
 abbrev pub codesIn : Listing → List ℕ
 codesIn l = dotted (map codeOf (fieldsIn (l .shape)))
+
+-- those before the other pings are read and turned by their rows; the other pings have the row of the U-32 ping
+abbrev pub rowed : ℕ
+rowed = 15
 
 unfoldable pub rowCodes : List (List ℕ)
 rowCodes = map (λ l. codesIn (l .listing)) listings
@@ -78,17 +103,18 @@ fieldsOf (k ∷ ks) = fieldsFrom (fieldOf k) (fieldsOf ks)
 abbrev pub measured : List Field → List ℕ
 measured fs = many fs ∷ beforeText fs ∷ bareSize fs ∷ size fs ∷ []
 
--- a type's: its row's; its least length and its step
+-- a type's: its row's; its least length, its step and the bytes more
 abbrev pub measuredBy : Listing → List ℕ
-measuredBy l = measured (fieldsIn (l .shape)) ++ (leastOf (l .length) ∷ stepOf (l .length) ∷ [])
+measuredBy l = measured (fieldsIn (l .shape)) ++ (leastOf (l .length) ∷ stepOf (l .length) ∷ moreOf (l .length) ∷ [])
 
 unfoldable pub measures : List (List ℕ)
 measures = map (λ l. measuredBy (l .listing)) listings
 
--- the lengths that a least length and a step say
-abbrev pub lengthBy : ℕ → ℕ → Length
-lengthBy least zero = exactly least
-lengthBy least (suc step) = upward least (suc step)
+-- the lengths that a least length, a step and the bytes more say
+abbrev pub lengthBy : ℕ → ℕ → ℕ → Length
+lengthBy least zero more = exactly least
+lengthBy least (suc step) zero = upward least (suc step)
+lengthBy least (suc step) (suc more) = upwardOr least (suc step) (suc more)
 
 -- ---- a maker as the number that a table keeps
 abbrev pub makerNumber : Maker → ℕ

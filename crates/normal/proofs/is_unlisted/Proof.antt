@@ -6,7 +6,7 @@ use native.Mathlib.Omega.{arith}
 use borrow.Author.Needs.{needs}
 use borrow.Author.Tests.{eq-eqb, ne-eqb}
 use lib.Dec.{eqb}
-use Rattle.layout.specs.Types.{Shape, indexed, row, pairs, words, unlisted, inClass, index, shapeOf, listed}
+use Rattle.layout.specs.Types.{Shape, indexed, row, uncompressed, compressed, unlisted, inClass, index, shapeOf, listed}
 use Rattle.layout.specs.inner.Codes.{placeIn}
 use Rattle.layout.proofs.Tables.{Tabled, tabled, index-shape, shape-index}
 use Rattle.normal.specs.Normaliser.{isUnlisted}
@@ -16,8 +16,8 @@ use Rattle.normal.proofs.is_unlisted.Tie as tie
 by-place : (k : ℕ) → inClass index k ≡ false → (q : Shape) → shapeOf k ≡ q → Tabled q (placeIn k) → eqb (placeIn k) listed ≡ isUnlisted q
 by-place k e indexed s l = absurd (true≢false (sym (shape-index k s) ∙ e))
 by-place k e (row fs x) s l = ne-eqb (placeIn k) listed (λ z. omega arith)
-by-place k e pairs s l = ne-eqb (placeIn k) listed (λ z. omega arith)
-by-place k e words s l = ne-eqb (placeIn k) listed (λ z. omega arith)
+by-place k e (uncompressed f) s l = ne-eqb (placeIn k) listed (λ z. omega arith)
+by-place k e (compressed f) s l = ne-eqb (placeIn k) listed (λ z. omega arith)
 by-place k e unlisted s l = eq-eqb (placeIn k) listed l
 
 returns : tie.Need-returns

@@ -8,10 +8,11 @@ use borrow.Author.Needs.{needs}
 use lib.ListN.{length, getD, drop}
 use lib.Seq.{sets}
 use Rattle.layout.specs.Fields.{Field, size, many, beforeText, bareSize}
-use Rattle.layout.specs.Types.{shapeOf, lengthsOf, leastOf, stepOf}
+use Rattle.layout.specs.Types.{shapeOf, lengthsOf, leastOf, stepOf, moreOf}
 use Rattle.layout.specs.Types as types
-use Rattle.layout.specs.inner.Codes.{placeIn, measures, measured}
+use Rattle.layout.specs.inner.Codes.{placeIn, rowed, measures, measured}
 use Rattle.turning.specs.Rows.{valuesOf, numbersIn}
+use Rattle.layout.proofs.Families.{row-rowed}
 use Rattle.rows.specs.inner.Listed.{listedFields}
 use Rattle.rows.specs.Readers.{fieldsBy}
 use Rattle.rows.proofs.Shapes.{row-listed, row-fields, row-measure, bare-size, before-size}
@@ -37,7 +38,7 @@ fields l = fieldsBy (shapeOf (start l .args .code))
 abbrev measuredFor : tie.After-listing-of → List ℕ
 measuredFor l =
     let n = lengthsOf (start l .args .code) in
-    measured (fields l) ++ (leastOf n ∷ stepOf n ∷ [])
+    measured (fields l) ++ (leastOf n ∷ stepOf n ∷ moreOf n ∷ [])
 
 -- ---- the listing is that of the type asked for
 at-listing : (l : tie.After-listing-of) → l .listing-of .result ≡ placeIn (start l .args .code)
@@ -45,6 +46,9 @@ at-listing l = l .listing-of .ensures
 
 listed : (l : tie.After-listing-of) → l .listing-of .result < types.listed
 listed l = let d = start l in rw (at-listing l) (row-listed (d .args .code) (opened-row (d .pre)))
+
+early : (l : tie.After-listing-of) → l .listing-of .result < rowed
+early l = let d = start l in rw (at-listing l) (row-rowed (d .args .code) (opened-row (d .pre)))
 
 -- what the tables say of it
 told : (m : tie.After-measure) → m .measure .result ≡ measuredFor (m .before)
@@ -61,8 +65,8 @@ before-told m = ap (λ (l : List ℕ). getD l 1 0) (told m)
 bare-told : (m : tie.After-measure) → getD (m .measure .result) 2 0 ≡ bareSize (fields (m .before))
 bare-told m = ap (λ (l : List ℕ). getD l 2 0) (told m)
 
-rowed : (l : tie.After-listing-of) → listedFields (l .listing-of .result) ≡ fields l
-rowed l = let d = start l in ap listedFields (at-listing l) ∙ row-fields (d .args .code) (opened-row (d .pre))
+in-row : (l : tie.After-listing-of) → listedFields (l .listing-of .result) ≡ fields l
+in-row l = let d = start l in ap listedFields (at-listing l) ∙ row-fields (d .args .code) (opened-row (d .pre))
 
 -- ---- the places of the tuple are the file's
 inside : (d : tie.Start)
@@ -79,10 +83,9 @@ read-listed-requires : tie.Need-read-listed-requires
 read-listed-requires c κs =
     let e = c .before in
     let m = e .before in
-    let d = start (m .before) in (
-      listed (m .before),
-      (rw (rowed (m .before)) (omega (arith, inside d .0, inside d .1)), rw (rowed (m .before)) (omega (arith, many-told m, e .if1 .left))),
-    )
+    let d = start (m .before) in
+    let it = in-row (m .before) in
+    (early (m .before), (rw it (omega (arith, inside d .0, inside d .1)), rw it (omega (arith, many-told m, e .if1 .left))))
 
 returns-2 : tie.Need-returns-2
 returns-2 c =
@@ -99,7 +102,7 @@ returns-2 c =
     (λ i. sets
     ((q .read-listed .ensures
     ∙ ap (λ (fs : List Field). sets (a .numbers .now) 0 (numbersIn (valuesOf (a .msb) fs (drop (a .place + 6) (a .file .now)))))
-    (rowed (m .before)))
+    (in-row (m .before)))
     i)
     (getD (m .measure .result) 0 0)
     (c .read4 .ensures i ∷ []))

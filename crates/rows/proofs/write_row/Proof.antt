@@ -13,7 +13,7 @@ use lib.ListN.{length, getD}
 use Rattle.order.specs.Order.{patternOf}
 use Rattle.order.proofs.Signed.{pattern-signed}
 use Rattle.layout.specs.Fields.{Field, size, many, bareSize}
-use Rattle.layout.specs.Types.{shapeOf, lengthsOf, leastOf, stepOf, fitting}
+use Rattle.layout.specs.Types.{shapeOf, lengthsOf, leastOf, stepOf, moreOf, fitting}
 use Rattle.layout.specs.inner.Codes.{placeIn, measures, measured}
 use Rattle.tuples.specs.Readers.{isRecord}
 use Rattle.rows.specs.Readers.{fieldsBy}
@@ -44,7 +44,7 @@ typed-at m = m .before .before .before
 abbrev measuredFor : tie.After-is-record → List ℕ
 measuredFor r =
     let n = lengthsOf (start r .args .code) in
-    measured (fields r) ++ (leastOf n ∷ stepOf n ∷ [])
+    measured (fields r) ++ (leastOf n ∷ stepOf n ∷ moreOf n ∷ [])
 
 -- ---- whether it is a record's type
 recorded : (r : tie.After-is-record) → r .is-record .result ≡ isRecord (start r .args .code)

@@ -29,7 +29,7 @@ loop-holds : tie.Need-loop-holds Inv-loop μ-loop
 loop-holds c = let a = c .before .args in (omega arith, omega arith, ap (samplesFrom radix 0) (from-all 4 (a .msb) (a .part .now)))
 
 few : (c : tie.After-is-run Inv-loop μ-loop) → boolByte (c .is-run .result) * (c .before .read4 .result % 65536) < 65536
-few c = passes-few (c .is-run .result) (c .before .read4 .result)
+few c = passes-few 65536 (lit< tt) (c .is-run .result) (c .before .read4 .result)
 
 loop-again : tie.Need-loop-again Inv-loop μ-loop
 loop-again c =
@@ -37,10 +37,10 @@ loop-again c =
     let test = read .before in
     let l = test .before .loop in
     let a = test .before .before .before .args in
-    let step = next (a .msb) (a .part .now) (l .p) (read .read4 .result) (test .loop-test .taken) (read .read4 .ensures) in (
+    let step = next 4 (lit< tt) (a .msb) (a .part .now) (l .p) (read .read4 .result) (test .loop-test .taken) (read .read4 .ensures) in (
       omega arith,
       omega (arith, few c, l .inv .1),
-      samples-turn (l .count) (read .read4 .result) (wordsFrom 4 (a .msb) (a .part .now) (l .p + 4)) (c .is-run .result)
+      samples-turn radix (lit< tt) (l .count) (read .read4 .result) (wordsFrom 4 (a .msb) (a .part .now) (l .p + 4)) (c .is-run .result)
           (c .is-run .ensures)
           ∙ ap (samplesFrom radix (l .count)) (sym step)
           ∙ l .inv .2,

@@ -1,7 +1,10 @@
 -- `samples::ends_in_run` meets its contract: the last word stands four bytes before the end. Assumes nothing.
 use mathlib.Core.Path.{_∙_, ap}
 use borrow.Author.Needs.{needs}
-use Prim.Native.Nat.{ℕ}
+use Prim.Native.Nat.{ℕ, _-_, _/_}
+use native.Mathlib.Omega.{arith}
+use lib.Dec.{lit<}
+use lib.ListN.{length}
 use Rattle.samples.specs.Runs.{radix, isRun}
 use Rattle.samples.proofs.Lengths.{ends-last}
 use Rattle.samples.proofs.ends_in_run.Statement.{statement}
@@ -14,7 +17,7 @@ returns c =
     let a = start .args in
     c .is-run .ensures
     ∙ ap (λ (w : ℕ). isRun radix w) (read .read4 .ensures)
-    ∙ ends-last (a .msb) (a .part .now) (start .pre .0) (start .pre .1)
+    ∙ ends-last radix 4 (length (a .part .now) / 4 - 1) (lit< tt) (a .msb) (a .part .now) (omega (arith, start .pre))
 
 pub ends-in-run-spec : {M : Type 1} → statement M
 ends-in-run-spec = tie.close (tie.spec (λ c. search needs) (λ c κs. search needs) (λ c κs. search needs) returns)

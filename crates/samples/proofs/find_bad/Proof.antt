@@ -4,6 +4,7 @@ use mathlib.Core.Path.{_≡_, sym, ap, _∙_}
 use Prim.Native.Nat.{_≤_, _+_, _-_, _*_}
 use native.Mathlib.Omega.{arith}
 use borrow.Author.Needs.{needs}
+use lib.Dec.{lit<}
 use lib.ListN.{length}
 use Rattle.layout.specs.Families.{wide}
 use Rattle.samples.specs.Words.{allWords}
@@ -31,8 +32,8 @@ returns c =
     let a = head .before .before .args in
     let l = head .loop in
     let here =
-    bad-there (a .msb) (a .part .now) (l .at) (read .read4 .result) (read .before .loop-test .taken) (read .read4 .ensures)
-    (sym (bad .is-bad .ensures) ∙ c .if1 .taken) in
+    bad-there 4 (lit< tt) (a .msb) (a .part .now) (l .at) (read .read4 .result) (read .before .loop-test .taken) (read .read4 .ensures)
+    wide (sym (bad .is-bad .ensures) ∙ c .if1 .taken) in
     (omega (arith, here, l .inv .1), omega (arith, l .inv .0))
 
 loop-again : tie.Need-loop-again Inv-loop μ-loop
@@ -43,15 +44,15 @@ loop-again c =
     let a = head .before .before .args in
     let l = head .loop in
     let later =
-    bad-behind (a .msb) (a .part .now) (l .at) (read .read4 .result) (read .before .loop-test .taken) (read .read4 .ensures)
-    (sym (bad .is-bad .ensures) ∙ c .if1 .left) in
+    bad-behind 4 (lit< tt) (a .msb) (a .part .now) (l .at) (read .read4 .result) (read .before .loop-test .taken) (read .read4 .ensures)
+    wide (sym (bad .is-bad .ensures) ∙ c .if1 .left) in
     (search needs, omega (arith, later, l .inv .1))
 
 returns-2 : tie.Need-returns-2 Inv-loop μ-loop
 returns-2 c =
     let a = c .before .before .before .args in
     let l = c .before .loop in
-    let none = bad-none (a .msb) (a .part .now) (l .at) (c .loop-test .left) in
+    let none = bad-none 4 (lit< tt) (a .msb) (a .part .now) (l .at) (c .loop-test .left) wide in
     (omega (arith, none, l .inv .1), omega (arith, l .inv .0))
 
 pub find-bad-spec : {M : Type 1} → statement M

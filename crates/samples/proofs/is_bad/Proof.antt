@@ -1,6 +1,6 @@
 -- `samples::is_bad` meets its contract. Assumes nothing.
 use mathlib.Core.Path.{refl}
-use Rattle.samples.specs.Runs.{isBad}
+use Rattle.layout.specs.Families.{isBad}
 use Rattle.samples.proofs.is_bad.Statement.{statement}
 use Rattle.samples.proofs.is_bad.Tie as tie
 

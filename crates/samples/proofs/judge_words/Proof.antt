@@ -7,7 +7,7 @@ use Prim.Native.Nat.{ℕ, _≤_, _+_, _-_, _*_}
 use native.Mathlib.Omega.{arith}
 use borrow.Author.Needs.{needs}
 use borrow.Author.Tests.{lt-ltb, le-ltb, eq-eqb, ne-eqb}
-use lib.Dec.{ltb, eqb}
+use lib.Dec.{ltb, eqb, lit<}
 use lib.ListN.{length}
 use Rattle.rules.specs.Rules.{_⇒_}
 use Rattle.layout.specs.declared.Verdict.the-variants.{Fault}
@@ -15,6 +15,7 @@ use Rattle.layout.specs.Answers.{judged, _byte_}
 use Rattle.layout.specs.Families.{wide}
 use Rattle.samples.specs.Words.{allWords}
 use Rattle.samples.specs.Runs.{radix, values, firstBad}
+use Rattle.samples.specs.Values.{hasSpace, heldWords}
 use Rattle.samples.specs.Judging.{most, countAt, wordsAt, judgedWords}
 use Rattle.samples.proofs.Words.{wordsFrom, from-all}
 use Rattle.samples.proofs.Judging.{anyBad, counts-one, values-turn, bad-turn, values-end, bad-end}
@@ -45,8 +46,8 @@ loop-again c =
     let l = read .before .before .loop in (
       search needs,
       omega (arith, counts-one (not (run .is-run .result))),
-      values-turn _ _ _ _ t e (l .found) (run .is-run .result) (run .is-run .ensures) ∙ l .inv .2,
-      bad-turn _ _ _ _ t e (l .bad) (c .is-bad .result) (c .is-bad .ensures) ∙ l .inv .3,
+      values-turn 4 (lit< tt) _ _ _ _ t e radix (run .is-run .result) (run .is-run .ensures) (l .found) ∙ l .inv .2,
+      bad-turn 4 (lit< tt) _ _ _ _ t e wide (l .bad) (c .is-bad .result) (c .is-bad .ensures) ∙ l .inv .3,
     )
 
 -- what the rules say, by the number and the mark that the loop ends with
@@ -58,13 +59,13 @@ said : (c : tie.After-loop Inv-loop μ-loop) →
     ∷ (l .bad ⇒ 24 byte (wordsAt + 4 * firstBad wide (allWords 4 (a .msb) (a .part .now))))
     ∷ (not (eqb (a .count) (l .found)) ⇒ 25 byte countAt)
     ∷ [])
-    ≡ judgedWords (a .msb) (a .count) (a .part .now)
-unfolding judgedWords
+    ≡ judgedWords wide (a .msb) (a .count) (a .part .now)
+unfolding judgedWords heldWords hasSpace
 said c =
     let t = c .loop-test .left in
     let l = c .before .loop in
-    let v = sym (values-end _ _ _ t (l .found)) ∙ l .inv .2 in
-    let b = sym (bad-end _ _ _ t (l .bad)) ∙ l .inv .3 in
+    let v = sym (values-end 4 (lit< tt) _ _ _ t radix (l .found)) ∙ l .inv .2 in
+    let b = sym (bad-end 4 (lit< tt) _ _ _ t wide (l .bad)) ∙ l .inv .3 in
     rw (v, b)
 
 returns : tie.Need-returns Inv-loop μ-loop

@@ -23,7 +23,8 @@ use Rattle.samples.proofs.read_words.Tie as tie
 abbrev Inv-loop : tie.InvT-loop
 Inv-loop part msb numbers₀ values₀ number₀ entry₀ p₀ numbers values number entry p =
     (p ≤ length part) × (4 * entry ≤ p) × (4 * number ≤ 65536 * p)
-    × Handing (decode radix (allWords 4 msb part)) (decodeFrom radix number (wordsFrom 4 msb part p)) numbers₀ values₀ numbers values entry
+    × Handing 4 (decode radix (allWords 4 msb part)) (decodeFrom radix number (wordsFrom 4 msb part p)) numbers₀ values₀ numbers values
+    entry
 
 abbrev μ-loop : tie.MeasureT-loop
 μ-loop part msb numbers₀ values₀ number₀ entry₀ p₀ numbers values number entry p = length part - p
@@ -43,14 +44,14 @@ value : (c : tie.Else1 Inv-loop μ-loop) →
     let head = read .before .before in
     let a = head .before .before .before .args in
     let l = head .loop in
-    Handing (decode radix (allWords 4 (a .msb) (a .part .now)))
+    Handing 4 (decode radix (allWords 4 (a .msb) (a .part .now)))
     ((l .number, read .read4 .result) ∷ decodeFrom radix (l .number + 1) (wordsFrom 4 (a .msb) (a .part .now) (l .p + 4)))
     (a .numbers .now) (a .values .now) (l .numbers) (l .values) (l .entry)
 value c =
     let run = c .before in
     let read = run .before in
     let head = read .before .before in
-    let step = next _ _ _ _ (read .before .loop-test .taken) (read .read4 .ensures) in
+    let step = next 4 (lit< tt) _ _ _ _ (read .before .loop-test .taken) (read .read4 .ensures) in
     handing-as (ap (decodeFrom radix (head .loop .number)) step
     ∙ decode-value radix (lit< tt) _ _ _ (sym (run .is-run .ensures) ∙ c .if1 .left))
     (head .loop .inv .3)
@@ -70,7 +71,7 @@ loop-again c =
     let read = run .before in
     let l = read .before .before .loop in
     let word = read .read4 .result in
-    let step = next _ _ _ _ (read .before .loop-test .taken) (read .read4 .ensures) in
+    let step = next 4 (lit< tt) _ _ _ _ (read .before .loop-test .taken) (read .read4 .ensures) in
     ⊎-elim
     (λ w.
     let d = ap (decodeFrom radix (l .number)) step ∙ decode-run radix (lit< tt) _ word _ (sym (run .is-run .ensures) ∙ w .0 .taken) in (

@@ -1,7 +1,7 @@
 -- `tuples::open_ping` meets its contract: the tuple that was found is opened. Assumes nothing.
 use mathlib.Core.Path.{sym}
 use borrow.Author.Needs.{needs}
-use Rattle.layout.specs.Families.{isPing}
+use Rattle.layout.specs.Types.{isPing}
 use Rattle.tuples.proofs.open_ping.Statement.{statement}
 use Rattle.tuples.proofs.open_ping.Tie as tie
 

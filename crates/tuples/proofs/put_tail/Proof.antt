@@ -1,5 +1,6 @@
 -- `tuples::put_tail` meets its contract: the attribute's pattern, and the backlink. Assumes nothing.
 use borrow.Author.Needs.{needs}
+use mir.Syntax.{w32}
 use Rattle.samples.proofs.Apart.{pattern-read}
 use Rattle.tuples.proofs.put_tail.Statement.{statement}
 use Rattle.tuples.proofs.put_tail.Tie as tie
@@ -9,7 +10,8 @@ returns c =
     let tail = c .before .before in
     let pattern = tail .before in
     let start = pattern .before .before .before in
-    rw (tail .close-frame .ensures, pattern-read (start .args .attribute) _ (start .fits .attribute .sfits) (pattern .pattern4 .ensures))
+    let read = pattern-read w32 4 (start .args .attribute) _ (start .fits .attribute .sfits) (pattern .pattern4 .ensures) in
+    rw (tail .close-frame .ensures, read)
 
 pub put-tail-spec : {M : Type 1} → statement M
 put-tail-spec =

@@ -14,7 +14,7 @@ use Rattle.layout.specs.Fields.{size}
 use Rattle.layout.specs.Types.{shapeOf}
 use Rattle.layout.specs.inner.Codes.{fieldsIn, fieldsOf, rowCodes}
 use Rattle.turning.specs.inner.Codes.{textFits}
-use Rattle.tuples.proofs.Writing.{row-listed, row-there, sizes, put}
+use Rattle.tuples.proofs.Writing.{handed-rowed, row-there, sizes, put}
 use Rattle.tuples.proofs.put_tuple.Statement.{statement}
 use Rattle.tuples.proofs.put_tuple.Tie as tie
 
@@ -56,7 +56,7 @@ row-requires c κs =
     let d = start c in
     let a = d .args in
     rw (c .listing-of .ensures)
-    (row-listed (a .msb) (a .numbers .now) (a .remark .now) (a .behind .now) (a .whole) (patternOf 4 (a .attribute)) (a .code)
+    (handed-rowed (a .msb) (a .numbers .now) (a .remark .now) (a .behind .now) (a .whole) (patternOf 4 (a .attribute)) (a .code)
     (d .pre .0))
 
 open-frame-requires : tie.Need-open-frame-requires

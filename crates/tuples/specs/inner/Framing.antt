@@ -6,7 +6,7 @@ use mathlib.Core.List.{List, [], _∷_, _++_}
 use mathlib.Core.Option.{some, none}
 use lib.ListN.{length}
 use Rattle.layout.specs.Fields.{size}
-use Rattle.layout.specs.Types.{Shape, indexed, row, pairs, words, unlisted}
+use Rattle.layout.specs.Types.{Shape, indexed, row, uncompressed, compressed, unlisted}
 use Rattle.turning.specs.Rows.{Value, number, text, woven}
 use Rattle.turning.specs.inner.Codes.{textFits}
 
@@ -15,8 +15,8 @@ abbrev pub handedValues : Shape → List ℕ → List ℕ → List ℕ → ℕ �
 handedValues indexed ns t b a = []
 handedValues (row fs none) ns t b a = woven fs ns t ++ (number a ∷ [])
 handedValues (row fs (some least)) ns t b a = woven fs ns t ++ (text b ∷ number a ∷ [])
-handedValues pairs ns t b a = []
-handedValues words ns t b a = []
+handedValues (uncompressed f) ns t b a = []
+handedValues (compressed f) ns t b a = []
 handedValues unlisted ns t b a = []
 
 -- they fill the row and make a tuple of n bytes
@@ -24,6 +24,6 @@ abbrev pub Handable : Shape → List ℕ → List ℕ → List ℕ → ℕ → T
 Handable indexed ns t b n = ⊥
 Handable (row fs none) ns t b n = (textFits fs t ≡ true) × (b ≡ []) × (n ≡ size fs + length b + 14) × (n ≤ 262144)
 Handable (row fs (some least)) ns t b n = (textFits fs t ≡ true) × (n ≡ size fs + length b + 14) × (n ≤ 262144)
-Handable pairs ns t b n = ⊥
-Handable words ns t b n = ⊥
+Handable (uncompressed f) ns t b n = ⊥
+Handable (compressed f) ns t b n = ⊥
 Handable unlisted ns t b n = ⊥

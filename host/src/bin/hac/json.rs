@@ -14,6 +14,7 @@ pub trait Number: Display {}
 
 impl Number for u8 {}
 impl Number for u16 {}
+impl Number for i16 {}
 impl Number for u32 {}
 impl Number for i32 {}
 impl Number for usize {}

@@ -38,7 +38,8 @@ HAC fisheries recordings: checked, walked and brought to their normal form.
   hac parents FILE PLACE    the channel and the sounder of the ping at a place, with
                             the channel's sampling rate and type of data sample,
                             and who made both
-  hac samples FILE PLACE    the samples of the ping at a place: number, value; behind
+  hac samples FILE PLACE    the samples of the ping at a place: number, value, or of a
+                            ping of angles number, alongship, athwartship; behind
                             them the ping's length, runs counted, where it ends in
                             silence
 

@@ -78,6 +78,7 @@ fn with_sample(object: Object, wrong: &WrongSample) -> Object {
             word,
             number,
             pattern,
+            bytes: _,
         } => object
             .number("word", word)
             .number("number", number)

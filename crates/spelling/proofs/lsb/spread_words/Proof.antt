@@ -6,7 +6,9 @@ use Prim.Native.Nat.{_+_, _-_, _*_, _%_, _≤_, _<_}
 use native.Mathlib.Omega.{arith}
 use borrow.Author.Needs.{needs}
 use mir.Val.{boolByte}
+use lib.Dec.{lit<}
 use lib.ListN.{length}
+use Rattle.layout.specs.Families.{wide}
 use Rattle.samples.specs.Words.{allWords}
 use Rattle.samples.specs.Runs.{radix, decodeFrom, decode}
 use Rattle.samples.proofs.Words.{wordsFrom, from-all}
@@ -19,7 +21,7 @@ use Rattle.spelling.proofs.lsb.spread_words.Tie as tie
 abbrev Inv-loop : tie.InvT-loop
 Inv-loop part msb out₀ to end number₀ at₀ p₀ out number at p =
     (p ≤ length part) × (4 * number ≤ 65536 * p)
-    × Spreading false (decode radix (allWords 4 msb part)) (decodeFrom radix number (wordsFrom 4 msb part p)) out₀ to end out at
+    × Spreading wide false (decode radix (allWords 4 msb part)) (decodeFrom radix number (wordsFrom 4 msb part p)) out₀ to end out at
 
 abbrev μ-loop : tie.MeasureT-loop
 μ-loop part msb out₀ to end number₀ at₀ p₀ out number at p = length part - p
@@ -53,7 +55,7 @@ left c =
     let s = c .before .before .before .before in
     let l = c .before .loop in
     let h = l .inv .2 in (
-      word-left (s .args .msb) (s .args .part .now) (l .p) (l .number) (omega (arith, c .loop-test .taken, h .ends)),
+      word-left 4 radix (lit< tt) (s .args .msb) (s .args .part .now) (l .p) (l .number) (omega (arith, c .loop-test .taken, h .ends)),
       omega (arith, c .loop-test .taken, h .ends),
       omega (arith, s .pre .1 .1, h .long),
     )
@@ -62,7 +64,8 @@ left c =
 few : (c : tie.After-slice-known2 Inv-loop μ-loop)
     → boolByte (c .before .before .before .before .is-run .result) * (c .before .before .before .before .before .read4 .result % 65536)
     < 65536
-few c = passes-few (c .before .before .before .before .is-run .result) (c .before .before .before .before .before .read4 .result)
+few c = passes-few 65536 (lit< tt) (c .before .before .before .before .is-run .result)
+    (c .before .before .before .before .before .read4 .result)
 
 add-at : tie.Need-add-at Inv-loop μ-loop
 add-at c =
@@ -94,9 +97,10 @@ loop-again c =
     let w = read .read4 .result in (
       omega (arith, h .0),
       omega (arith, few c, l .inv .1),
-      spreading-word (l .number) w (put .put-pair .ensures) (put .put-pair .kept .0) _ (run .is-run .result) (run .is-run .ensures)
+      spreading-word (l .number) w (put .put-pair .ensures) (put .put-pair .kept .0) radix (lit< tt) _ (run .is-run .result)
+          (run .is-run .ensures)
           (test .loop-test .taken)
-          (spreading-as (ap (decodeFrom radix (l .number)) (next _ _ _ _ (h .0) (read .read4 .ensures))) (l .inv .2)),
+          (spreading-as (ap (decodeFrom radix (l .number)) (next 4 (lit< tt) _ _ _ _ (h .0) (read .read4 .ensures))) (l .inv .2)),
     )
 
 pub spread-words-spec : {M : Type 1} → statement M

@@ -4,13 +4,14 @@ use mathlib.Core.Bool.{false}
 use Prim.Native.Nat.{_-_, _≤_}
 use native.Mathlib.Omega.{arith}
 use borrow.Author.Needs.{needs}
+use lib.Dec.{lit<}
 use lib.ListN.{length}
 use Rattle.samples.proofs.Turning.{Turning, turning-begin, turning-one, turning-end}
 use Rattle.spelling.proofs.lsb.turn_words.Statement.{statement}
 use Rattle.spelling.proofs.lsb.turn_words.Tie as tie
 
 abbrev Inv-loop : tie.InvT-loop
-Inv-loop part msb out₀ to p₀ out p = (p ≤ length part) × (length out ≡ length out₀) × Turning msb false part out₀ to out p
+Inv-loop part msb out₀ to p₀ out p = (p ≤ length part) × (length out ≡ length out₀) × Turning 4 (lit< tt) msb false part out₀ to out p
 
 abbrev μ-loop : tie.MeasureT-loop
 μ-loop part msb out₀ to p₀ out p = length part - p
@@ -23,7 +24,12 @@ abbrev start : tie.After-slice-known2 Inv-loop μ-loop → tie.Start Inv-loop μ
 start c = c .before .before .before .before .before .before .before .before .before
 
 loop-holds : tie.Need-loop-holds Inv-loop μ-loop
-loop-holds c = let a = c .before .before .args in (omega arith, refl, turning-begin (a .msb) false (a .part .now) (a .out .now) (a .to))
+loop-holds c = let a = c .before .before .args in (
+  omega arith,
+  refl,
+  turning-begin 4 (lit< tt) (a .msb) false (a .part .now)
+      (a .out .now) (a .to),
+)
 
 loop-again : tie.Need-loop-again Inv-loop μ-loop
 loop-again c =
@@ -33,7 +39,7 @@ loop-again c =
     let a = start c .args in (
       omega arith,
       put .store4 .kept .0 ∙ l .inv .1,
-      turning-one (a .msb) false (a .part .now) (a .out .now) (a .to) (l .out) _ (l .p) _ (omega arith) (read .read4 .ensures)
+      turning-one 4 (lit< tt) (a .msb) false (a .part .now) (a .out .now) (a .to) (l .out) _ (l .p) _ (omega arith) (read .read4 .ensures)
           (put .store4 .ensures) (l .inv .2),
     )
 
@@ -41,7 +47,7 @@ returns : tie.Need-returns Inv-loop μ-loop
 returns c =
     let l = c .before .loop in
     let a = c .before .before .before .before .args in
-    turning-end (a .msb) false (a .part .now) (a .out .now) (a .to) (l .out) (l .p) (c .loop-test .left) (l .inv .2)
+    turning-end 4 (lit< tt) (a .msb) false (a .part .now) (a .out .now) (a .to) (l .out) (l .p) (c .loop-test .left) (l .inv .2)
 
 pub turn-words-spec : {M : Type 1} → statement M
 turn-words-spec =

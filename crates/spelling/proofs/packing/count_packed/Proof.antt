@@ -10,7 +10,7 @@ use lib.Dec.{lit<}
 use lib.ListN.{length}
 use Rattle.samples.specs.Words.{allWords}
 use Rattle.samples.specs.Runs.{radix}
-use Rattle.samples.specs.inner.Packing.{packFrom, packed}
+use Rattle.samples.specs.inner.Packing.{packFrom, packed, same}
 use Rattle.samples.proofs.Words.{wordsFrom, from-all, from-end}
 use Rattle.samples.proofs.Runs.{run-short}
 use Rattle.samples.proofs.Judging.{next}
@@ -23,22 +23,22 @@ use Rattle.spelling.proofs.packing.count_packed.Tie as tie
 abbrev Inv-loop : tie.InvT-loop
 Inv-loop part msb count₀ quiet₀ p₀ count quiet p =
     (p ≤ length part) × (4 * quiet ≤ 65536 * p)
-    × (count + length (packFrom radix quiet (wordsFrom 4 msb part p)) ≡ length (packed radix (allWords 4 msb part)))
+    × (count + length (packFrom radix same quiet (wordsFrom 4 msb part p)) ≡ length (packed radix same (allWords 4 msb part)))
 
 abbrev μ-loop : tie.MeasureT-loop
 μ-loop part msb count₀ quiet₀ p₀ count quiet p = length part - p
 
 -- packed words are no more than there were
-few : (s : tie.Start Inv-loop μ-loop) → let a = s .args in length (packed radix (allWords 4 (a .msb) (a .part .now))) ≤ 262108
+few : (s : tie.Start Inv-loop μ-loop) → let a = s .args in length (packed radix same (allWords 4 (a .msb) (a .part .now))) ≤ 262108
 few s =
     let a = s .args in
     let ws = allWords 4 (a .msb) (a .part .now) in
-    omega (arith, packed-few radix (lit< tt) ws, length-all 4 (a .msb) (a .part .now), s .pre)
+    omega (arith, packed-few radix (lit< tt) same ws, length-all 4 (a .msb) (a .part .now), s .pre)
 
 loop-holds : tie.Need-loop-holds Inv-loop μ-loop
 loop-holds c =
     let a = c .before .args in
-    (omega arith, omega arith, omega (arith, ap (λ (ws : List ℕ). length (packFrom radix 0 ws)) (from-all 4 (a .msb) (a .part .now))))
+    (omega arith, omega arith, omega (arith, ap (λ (ws : List ℕ). length (packFrom radix same 0 ws)) (from-all 4 (a .msb) (a .part .now))))
 
 -- in a turn: the quiet samples are few, the words counted are, and so is what a run passes
 quiet-few : (c : tie.In-loop Inv-loop μ-loop) → c .before .loop .quiet ≤ 4294377472
@@ -60,7 +60,7 @@ loop-again c =
     let a = test .before .before .before .args in
     let w = read .read4 .result in
     let rest = wordsFrom 4 (a .msb) (a .part .now) (l .p + 4) in
-    let step = next (a .msb) (a .part .now) (l .p) w (test .loop-test .taken) (read .read4 .ensures) in (
+    let step = next 4 (lit< tt) (a .msb) (a .part .now) (l .p) w (test .loop-test .taken) (read .read4 .ensures) in (
       omega arith,
       omega (
         arith,
@@ -69,9 +69,10 @@ loop-again c =
         run-short radix (lit< tt) w,
         l .inv .1,
       ),
-      pack-count radix (lit< tt) (l .quiet) w (runs .runs .result) (c .run-length .result) rest (run .is-run .result) (run .is-run .ensures)
+      pack-count radix (lit< tt) same (l .quiet) w (runs .runs .result) (c .run-length .result) rest (run .is-run .result)
+          (run .is-run .ensures)
           (runs .runs .ensures .0) (c .run-length .ensures) (l .count)
-          ∙ ap (λ (ws : List ℕ). l .count + length (packFrom radix (l .quiet) ws)) (sym step)
+          ∙ ap (λ (ws : List ℕ). l .count + length (packFrom radix same (l .quiet) ws)) (sym step)
           ∙ l .inv .2,
     )
 
@@ -82,7 +83,7 @@ returns c =
     let l = after .before .loop in
     let a = after .before .before .before .args in
     let e = from-end 4 (a .msb) (a .part .now) (l .p) (lit< tt) (omega (arith, after .loop-test .left)) in
-    omega (arith, c .runs2 .ensures .0, ap (λ (ws : List ℕ). length (packFrom radix (l .quiet) ws)) e, l .inv .2)
+    omega (arith, c .runs2 .ensures .0, ap (λ (ws : List ℕ). length (packFrom radix same (l .quiet) ws)) e, l .inv .2)
 
 pub count-packed-spec : {M : Type 1} → statement M
 count-packed-spec =

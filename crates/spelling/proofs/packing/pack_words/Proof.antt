@@ -7,13 +7,13 @@ use Prim.Native.Nat.{ℕ, _+_, _-_, _*_, _%_, _≤_, _<_}
 use native.Mathlib.Omega.{arith}
 use borrow.Author.Needs.{needs}
 use mir.Val.{boolByte}
-use lib.Dec.{lit<}
+use lib.Dec.{lit<, lit≤}
 use lib.ListN.{length, length-append}
 use lib.Seq.{sets}
 use Rattle.order.proofs.Stores.{stored-behind}
 use Rattle.samples.specs.Words.{allWords, unwords}
 use Rattle.samples.specs.Runs.{radix, gap}
-use Rattle.samples.specs.inner.Packing.{packFrom, packed}
+use Rattle.samples.specs.inner.Packing.{packFrom, packed, same}
 use Rattle.samples.proofs.Words.{wordsFrom, from-all, from-end, length-unwords}
 use Rattle.samples.proofs.Runs.{run-short}
 use Rattle.samples.proofs.Judging.{counts-one, next}
@@ -25,7 +25,7 @@ use Rattle.spelling.proofs.packing.pack_words.Tie as tie
 abbrev Inv-loop : tie.InvT-loop
 Inv-loop part msb out₀ to at₀ quiet₀ p₀ out at quiet p =
     (p ≤ length part) × (quiet < 65536)
-    × Packing (packed radix (allWords 4 msb part)) (packFrom radix quiet (wordsFrom 4 msb part p)) out₀ to out at
+    × Packing 4 (packed radix same (allWords 4 msb part)) (packFrom radix same quiet (wordsFrom 4 msb part p)) out₀ to out at
 
 abbrev μ-loop : tie.MeasureT-loop
 μ-loop part msb out₀ to at₀ quiet₀ p₀ out at quiet p = length part - p
@@ -35,7 +35,7 @@ loop-holds c =
     let a = c .before .before .args in (
       omega arith,
       omega arith,
-      packing-as (ap (packFrom radix 0) (sym (from-all 4 (a .msb) (a .part .now))))
+      packing-as (ap (packFrom radix same 0) (sym (from-all 4 (a .msb) (a .part .now))))
           (record { long = refl; ends = refl; bytes = λ t n. refl }),
     )
 
@@ -59,10 +59,10 @@ ahead : (c : tie.After-ends-run Inv-loop μ-loop) →
     let read = run .before in
     let l = looping c .loop in
     let a = start (looping c) .args in
-    Packing (packed radix (allWords 4 (a .msb) (a .part .now)))
+    Packing 4 (packed radix same (allWords 4 (a .msb) (a .part .now)))
     (given (c .ends-run .result) (4294901759 + (boolByte (run .is-run .result) * 65536 + boolByte (not (run .is-run .result)) * l .quiet))
     ++ (given (not (run .is-run .result)) (read .read4 .result)
-    ++ packFrom radix (boolByte (run .is-run .result) * ((l .quiet + length .run-length .result) % 65536))
+    ++ packFrom radix same (boolByte (run .is-run .result) * ((l .quiet + length .run-length .result) % 65536))
     (wordsFrom 4 (a .msb) (a .part .now) (l .p + 4))))
     (a .out .now) (a .to) (l .out) (l .at)
 ahead c =
@@ -70,11 +70,12 @@ ahead c =
     let run = length .before in
     let read = run .before in
     let l = looping c .loop in
-    let step = next _ _ _ _ (read .before .loop-test .taken) (read .read4 .ensures) in
+    let step = next 4 (lit< tt) _ _ _ _ (read .before .loop-test .taken) (read .read4 .ensures) in
     packing-as
-    (ap (packFrom radix (l .quiet)) step
-    ∙ pack-words-step (l .quiet) (read .read4 .result) (length .run-length .result) _ _ (l .inv .1) (run .is-run .result)
-    (c .ends-run .result) (run .is-run .ensures) (length .run-length .ensures) (c .ends-run .ensures) refl)
+    (ap (packFrom radix same (l .quiet)) step
+    ∙ pack-words-step radix (lit< tt) same (l .quiet) (read .read4 .result) (length .run-length .result) _ _ (l .inv .1)
+    (run .is-run .result)
+    (c .ends-run .result) (run .is-run .ensures) (length .run-length .ensures) (c .ends-run .ensures) (omega arith))
     (l .inv .2)
 
 -- there is room for both
@@ -88,7 +89,7 @@ room c =
     let w = run .before .read4 .result in
     let first = 4294901759 + (boolByte (run .is-run .result) * 65536 + boolByte (not (run .is-run .result)) * l .quiet) in
     let rest =
-    packFrom radix (boolByte (run .is-run .result) * ((l .quiet + length .run-length .result) % 65536))
+    packFrom radix same (boolByte (run .is-run .result) * ((l .quiet + length .run-length .result) % 65536))
     (wordsFrom 4 (a .msb) (a .part .now) (l .p + 4)) in
     let h = ahead c in
     omega (
@@ -120,19 +121,19 @@ loop-again c =
     let l = looping ends .loop in (
       omega arith,
       omega (arith, once (run .is-run .result) ((l .quiet + length .run-length .result) % 65536)),
-      packing-one (not (run .is-run .result)) (read .read4 .result) _ (put .store42 .ensures) (put .store42 .kept .0)
-          (packing-one (ends .ends-run .result) _ _ (run-put .store4 .ensures) (run-put .store4 .kept .0) (ahead ends)),
+      packing-one (lit≤ tt) (not (run .is-run .result)) (read .read4 .result) _ (put .store42 .ensures) (put .store42 .kept .0)
+          (packing-one (lit≤ tt) (ends .ends-run .result) _ _ (run-put .store4 .ensures) (run-put .store4 .kept .0) (ahead ends)),
     )
 
 -- no word is left: the quiet samples behind the last value are
 last : (c : tie.After-loop Inv-loop μ-loop) →
     let l = c .before .loop in
     let a = start (c .before) .args in
-    Packing (packed radix (allWords 4 (a .msb) (a .part .now))) (gap radix (l .quiet)) (a .out .now) (a .to) (l .out) (l .at)
+    Packing 4 (packed radix same (allWords 4 (a .msb) (a .part .now))) (gap radix (l .quiet)) (a .out .now) (a .to) (l .out) (l .at)
 unfolding packFrom
 last c =
     let l = c .before .loop in
-    packing-as (ap (packFrom radix (l .quiet)) (from-end 4 _ _ _ (lit< tt) (omega (arith, c .loop-test .left)))) (l .inv .2)
+    packing-as (ap (packFrom radix same (l .quiet)) (from-end 4 _ _ _ (lit< tt) (omega (arith, c .loop-test .left)))) (l .inv .2)
 
 returns : tie.Need-returns Inv-loop μ-loop
 returns c =

@@ -6,25 +6,30 @@ use Prim.Native.Nat.{ℕ, suc, _+_, _-_, _*_, _≤_}
 use native.Mathlib.Omega.{arith}
 use borrow.Author.Needs.{needs}
 use lib.Dec.{lit<}
+use mir.Syntax.{w32}
 use lib.IntN.{pos}
 use lib.ListN.{length, drop, getD}
 use lib.Seq.{sets}
 use Rattle.samples.specs.Words.{Sample, unwords}
+use Rattle.layout.specs.Families.{wide}
 use Rattle.samples.specs.Lists.{paired}
+use Rattle.samples.specs.inner.Lists.{worded}
+use Rattle.samples.specs.Values.{wordFor, revalued}
 use Rattle.samples.specs.Runs.{radix, gap, encodeFrom}
 use Rattle.samples.proofs.Rising.{Rising, all-rising}
 use Rattle.samples.proofs.Apart.{pattern-read, paired-end, length-paired}
+use Rattle.samples.proofs.Written.{rising-map}
 use Rattle.samples.proofs.Writing.{sample-rises, sample-words, sample-turn}
 use Rattle.spelling.proofs.write.write_words.Statement.{statement}
 use Rattle.spelling.proofs.write.write_words.Tie as tie
 
 abbrev Inv-loop : tie.InvT-loop
 Inv-loop ns vs quiet msb out₀ at to₀ next₀ i₀ out to next i =
-    (i ≤ length ns) × (length out ≡ length out₀) × Rising next (paired (drop i ns) (drop i vs))
-    × (to + 4 * length (encodeFrom radix next (paired (drop i ns) (drop i vs)) quiet)
-    ≡ at + 4 * length (encodeFrom radix 0 (paired ns vs) quiet))
-    × (sets out to (unwords 4 msb (encodeFrom radix next (paired (drop i ns) (drop i vs)) quiet))
-    ≡ sets out₀ at (unwords 4 msb (encodeFrom radix 0 (paired ns vs) quiet)))
+    (i ≤ length ns) × (length out ≡ length out₀) × Rising next (worded wide (drop i ns) (drop i vs))
+    × (to + 4 * length (encodeFrom radix next (worded wide (drop i ns) (drop i vs)) quiet)
+    ≡ at + 4 * length (encodeFrom radix 0 (worded wide ns vs) quiet))
+    × (sets out to (unwords 4 msb (encodeFrom radix next (worded wide (drop i ns) (drop i vs)) quiet))
+    ≡ sets out₀ at (unwords 4 msb (encodeFrom radix 0 (worded wide ns vs) quiet)))
 
 abbrev μ-loop : tie.MeasureT-loop
 μ-loop ns vs quiet msb out₀ at to₀ next₀ i₀ out to next i = length ns - i
@@ -37,27 +42,29 @@ gap-written c = c .before .before .before .before .before .before .before .befor
 rises : (c : tie.After-wide Inv-loop μ-loop) → c .before .before .before .loop .next ≤ c .wide .result
 rises c =
     let head = c .before .before .before in
-    sample-rises _ _ (head .loop .i) (c .wide .result) (omega arith) (omega arith) (c .wide .ensures .0) (head .loop .next)
-    (head .loop .inv .2) .0
+    sample-rises 4 (wordFor wide) _ _ (head .loop .i) (c .wide .result) (omega arith) (omega arith) (c .wide .ensures .0)
+    (head .loop .next) 0 (head .loop .inv .2) .0
 
 words : (c : tie.After-wide Inv-loop μ-loop) →
     let head = c .before .before .before in
     let l = head .loop in
     let a = head .before .before .before .args in
-    length (encodeFrom radix (l .next) (paired (drop (l .i) (a .numbers .now)) (drop (l .i) (a .values .now))) (a .quiet))
+    length (encodeFrom radix (l .next) (worded wide (drop (l .i) (a .numbers .now)) (drop (l .i) (a .values .now))) (a .quiet))
     ≡ length (gap radix (c .wide .result - l .next))
-    + suc (length (encodeFrom radix (c .wide .result + 1) (paired (drop (l .i + 1) (a .numbers .now)) (drop (l .i + 1) (a .values .now)))
+    + suc (length (encodeFrom radix (c .wide .result + 1) (worded wide (drop (l .i + 1) (a .numbers .now))
+    (drop (l .i + 1) (a .values .now)))
     (a .quiet)))
 words c = let l = c .before .before .before .loop in
-    sample-words _ _ (l .i) (c .wide .result) (omega arith) (omega arith) (c .wide .ensures .0) (l .next) radix (lit< tt) _
+    sample-words 4 (wordFor wide) _ _ (l .i) (c .wide .result) (omega arith) (omega arith) (c .wide .ensures .0) (l .next) _ radix
+    (lit< tt)
 
 loop-holds : tie.Need-loop-holds Inv-loop μ-loop
 loop-holds c =
     let start = c .before .before in
     let a = start .args in
-    let s = paired (a .numbers .now) (a .values .now) in
-    let e = length-paired (a .numbers .now) (a .values .now) (start .pre .0) in
-    (omega arith, refl, all-rising s 0 (omega (arith, start .pre .1 .0)), refl, refl)
+    let s = paired 4 (a .numbers .now) (a .values .now) in
+    let e = length-paired 4 (a .numbers .now) (a .values .now) (start .pre .0) in
+    (omega arith, refl, rising-map (wordFor wide) s 0 (all-rising s 0 (omega (arith, start .pre .1 .0))), refl, refl)
 
 sub-write-gap : tie.Need-sub-write-gap Inv-loop μ-loop
 sub-write-gap c = rises (c .before)
@@ -79,21 +86,21 @@ loop-again c =
     let put = c .before .before in
     let said = put .before in
     let gone = said .before .before .before .before .before in
-    let wide = gone .before .before in
-    let head = wide .before .before .before in
+    let number = gone .before .before in
+    let head = number .before .before .before in
     let l = head .loop in
     let a = head .before .before .before .args in
-    let n = wide .wide .result in (
+    let n = number .wide .result in (
       omega arith,
       put .store4 .kept .0 ∙ gone .write-gap .kept .0 ∙ l .inv .1,
-      sample-rises _ _ (l .i) n (omega arith) (omega arith) (wide .wide .ensures .0) (l .next) (l .inv .2) .1,
-      omega (arith, words wide, gone .write-gap .ensures),
-      sample-turn (a .numbers .now) (a .values .now) (l .i) n (omega arith) (omega arith) (wide .wide .ensures .0) (l .next) radix (lit< tt)
-          (a .quiet)
-          4 (a .msb)
+      sample-rises 4 (wordFor wide) _ _ (l .i) n (omega arith) (omega arith) (number .wide .ensures .0) (l .next) 0 (l .inv .2) .1,
+      omega (arith, words number, gone .write-gap .ensures),
+      sample-turn 4 (wordFor wide) (a .numbers .now) (a .values .now) (l .i) n (omega arith) (omega arith) (number .wide .ensures .0)
+          (l .next) (a .quiet) radix (lit< tt) 4 (a .msb)
           (l .out) _ _ (l .to) (gone .write-gap .result) (said .pattern4 .result)
           (gone .write-gap .ensures .0) (gone .write-gap .ensures .1)
-          (pattern-read (getD (a .values .now) (l .i) (pos 0)) _ (said .before .pattern4-arg .given) (said .pattern4 .ensures))
+          (pattern-read w32 4 (getD (a .values .now) (l .i) (pos 0)) _ (said .before .pattern4-arg .given) (said .pattern4 .ensures)
+          ∙ unfold wordFor in refl)
           (put .store4 .ensures)
           ∙ l .inv .4,
     )
@@ -102,13 +109,14 @@ loop-again c =
 quiet-left : (c : tie.After-loop Inv-loop μ-loop) →
     let l = c .before .loop in
     let a = c .before .before .before .before .args in
-    encodeFrom radix (l .next) (paired (drop (l .i) (a .numbers .now)) (drop (l .i) (a .values .now))) (a .quiet) ≡ gap radix (a .quiet)
+    encodeFrom radix (l .next) (worded wide (drop (l .i) (a .numbers .now)) (drop (l .i) (a .values .now))) (a .quiet) ≡ gap radix
+    (a .quiet)
 unfolding encodeFrom
 quiet-left c =
     let l = c .before .loop in
     let a = c .before .before .before .before .args in
     ap (λ (s : List Sample). encodeFrom radix (l .next) s (a .quiet))
-    (paired-end (a .numbers .now) (a .values .now) (l .i) (c .loop-test .left))
+    (ap (revalued (wordFor wide)) (paired-end 4 (a .numbers .now) (a .values .now) (l .i) (c .loop-test .left)))
 
 write-gap-requires-2 : tie.Need-write-gap-requires-2 Inv-loop μ-loop
 write-gap-requires-2 c κs =

@@ -1,0 +1,4 @@
+pub mod Storing
+pub mod Answering
+pub mod Plain
+pub mod Packed
