@@ -5,7 +5,7 @@
 mod common;
 
 use common::{bytes, count, is_run, lent, marked, ping_header, seed, survey, word_places};
-use common::{first_sample_fault, word_value, word_width, Bytes, File, FIRST_PING};
+use common::{first_sample_fault, word_value, word_width, written, Bytes, File, FIRST_PING};
 use second::gen::{equal_pair, file_case, unequal_pair, Rng};
 use second::pings::*;
 use second::programs::normalise_tuple;
@@ -108,24 +108,6 @@ fn whole(order: Order, pings: &[Stored]) -> Vec<u8> {
     survey(order, |file| {
         pings.iter().for_each(|stored| file.ping(stored))
     })
-}
-
-/// The output of a call that accepts, in memory that just suffices; one byte less is 19
-/// and alters nothing.
-fn written(call: impl Fn(&mut [u8]) -> Answer) -> Vec<u8> {
-    let mut out = lent(600_000);
-    let answer = call(&mut out);
-    assert_eq!((answer.code, answer.place), (0, 0));
-    let length = answer.length as usize;
-    assert_eq!(out[length..], lent(600_000)[length..]);
-    out.truncate(length);
-    let mut exact = lent(length);
-    assert_eq!(call(&mut exact), answer);
-    assert_eq!(exact, out);
-    let mut short = lent(length - 1);
-    assert_eq!(call(&mut short), Answer::refused(19, 0));
-    assert_eq!(short, lent(length - 1));
-    out
 }
 
 /// A ping has this normal form, in both orders, alone and in a file; and that one is its

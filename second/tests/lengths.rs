@@ -5,7 +5,7 @@
 mod common;
 
 use common::{bytes, count, is_run, lent, marked, ping_header, seed, survey, tuples};
-use common::{word_places, word_width, Bytes, File, FIRST_PING};
+use common::{word_places, word_width, written, Bytes, File, FIRST_PING};
 use second::gen::{equal_pair, file_case, frames, unequal_pair, Case, Rng};
 use second::pings::{read_samples, write_c32, write_u32, Ping};
 use second::programs::{normalise_tuple, program_one, program_two};
@@ -77,24 +77,6 @@ fn whole(order: Order, pings: &[Stored]) -> Vec<u8> {
     survey(order, |file| {
         pings.iter().for_each(|stored| file.ping(stored))
     })
-}
-
-/// The output of a call that accepts, in memory that just suffices; one byte less is
-/// 19 and alters nothing.
-fn written(call: impl Fn(&mut [u8]) -> Answer) -> Vec<u8> {
-    let mut out = lent(600_000);
-    let answer = call(&mut out);
-    assert_eq!((answer.code, answer.place), (0, 0));
-    let length = answer.length as usize;
-    assert_eq!(out[length..], lent(600_000)[length..]);
-    out.truncate(length);
-    let mut exact = lent(length);
-    assert_eq!(call(&mut exact), answer);
-    assert_eq!(exact, out);
-    let mut short = lent(length - 1);
-    assert_eq!(call(&mut short), Answer::refused(19, 0));
-    assert_eq!(short, lent(length - 1));
-    out
 }
 
 fn normal_tuple(file: &[u8]) -> Vec<u8> {

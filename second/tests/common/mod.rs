@@ -6,7 +6,7 @@ pub mod said;
 use second::gen::{limit, limit_count, Case};
 use second::pings::PingHeader;
 use second::walk::{forward, Step, Tuple};
-use second::{Order, SoftwareChannel};
+use second::{Answer, Order, SoftwareChannel};
 use std::collections::BTreeMap;
 
 /// The seed of the generated cases; SECOND_SEED sets another.
@@ -68,6 +68,24 @@ pub fn tuples_found(file: &[u8]) -> Vec<Tuple> {
 /// Memory with a pattern that no writer would leave by chance.
 pub fn lent(length: usize) -> Vec<u8> {
     (0..length).map(|at| (at * 151 + 89) as u8).collect()
+}
+
+/// The output of a call that accepts, in memory that just suffices; one byte less is 19
+/// and alters nothing.
+pub fn written(call: impl Fn(&mut [u8]) -> Answer) -> Vec<u8> {
+    let mut out = lent(600_000);
+    let answer = call(&mut out);
+    assert_eq!((answer.code, answer.place), (0, 0));
+    let length = answer.length as usize;
+    assert_eq!(out[length..], lent(600_000)[length..]);
+    out.truncate(length);
+    let mut exact = lent(length);
+    assert_eq!(call(&mut exact), answer);
+    assert_eq!(exact, out);
+    let mut short = lent(length - 1);
+    assert_eq!(call(&mut short), Answer::refused(19, 0));
+    assert_eq!(short, lent(length - 1));
+    out
 }
 
 /// Bytes under way, in one order.
