@@ -31,8 +31,9 @@ use Rattle.samples.specs.Values.{wordFor, wordless, wordsFor}
 use Rattle.samples.specs.Judging.{most, firstDrop, firstWordless, tooShort}
 use Rattle.samples.proofs.Runs.{by-bool}
 use Rattle.samples.proofs.Rising.{drop-most}
-use Rattle.samples.proofs.Apart.{length-paired, length-numbered, drop-numbered, wordless-valued, behind-numbered, count-numbered}
-use Rattle.samples.proofs.Written.{some-radix, quiet-map, wordless-here, wordless-later}
+use Rattle.samples.proofs.Apart.{length-paired, length-valued, length-numbered, drop-numbered, wordless-valued}
+use Rattle.samples.proofs.Apart.{behind-numbered, count-numbered}
+use Rattle.samples.proofs.Written.{some-radix, quiet-map, wordless-most}
 use Rattle.content.specs.Forms.{hasLength, tupleC}
 use Rattle.tuples.specs.Writers.{writeAnswer}
 use Rattle.pings.specs.declared.PingHeader.{PingHeader}
@@ -41,17 +42,6 @@ use Rattle.ping_writers.specs.Writers.{pingOf, countRules, rulesC, Writt
 use Rattle.ping_writers.specs.inner.Judged.{packedSize, packedRules, packedAnswer}
 use Rattle.ping_writers.proofs.Storing.{length-packed, packed-stored}
 use Rattle.ping_writers.proofs.Answering.{refused, written}
-
-wordless-most : (f : Family) (s : List Sample) → firstWordless f s ≤ length s
-wordless-most f [] = unfold firstWordless in omega arith
-wordless-most f (x ∷ s) =
-    by-bool (wordless f (x .1))
-    (λ t. omega (arith, wordless-here f x s t))
-    (λ t. omega (arith, wordless-later f x s t, wordless-most f s))
-
-length-valued : (w : ℕ) (vs : List ℤ) → length (valued w vs) ≡ length vs
-length-valued w [] = refl
-length-valued w (v ∷ vs) = ap suc (length-valued w vs)
 
 -- a space is of two bytes, or of none
 even-space : (f : Family) (n : ℕ) → (valueBytes f * n) % 4 % 2 ≡ 0

@@ -31,7 +31,7 @@ use Rattle.samples.specs.inner.Lists.{numbered}
 use Rattle.samples.specs.Judging.{most, firstDrop}
 use Rattle.samples.proofs.Runs.{by-bool}
 use Rattle.samples.proofs.Rising.{drop-later, drop-here}
-use Rattle.samples.proofs.Apart.{length-paired, drop-numbered}
+use Rattle.samples.proofs.Apart.{length-paired, length-angled, drop-numbered}
 use Rattle.content.specs.Forms.{tupleU}
 use Rattle.tuples.specs.Writers.{writeAnswer, Written}
 use Rattle.pings.specs.declared.PingHeader.{PingHeader}
@@ -178,12 +178,6 @@ module _ (f : Family) (ns : List ℕ) (vs : List ℤ) (out : List ℕ) (n i : �
     written-U = written-plain f o h a pairs out (eqb (length ns) (length vs)) (min (length ns) (length vs)) (length ns) i listed r told-U
 
 -- ---- numbers and two angles
-length-angled : (ns : List ℕ) (xs ys : List ℤ) → length xs ≡ length ns → length ys ≡ length ns → length (angled ns xs ys) ≡ length ns
-length-angled [] xs ys e g = refl
-length-angled (n ∷ ns) [] ys e g = absurd (omega arith)
-length-angled (n ∷ ns) (x ∷ xs) [] e g = absurd (omega arith)
-length-angled (n ∷ ns) (x ∷ xs) (y ∷ ys) e g = ap suc (length-angled ns xs ys (omega arith) (omega arith))
-
 drop-angled : (ns : List ℕ) (xs ys : List ℤ) (m : ℕ) → length xs ≡ length ns → length ys ≡ length ns
     → firstDrop m (numbered ns) ≡ firstDrop m (angled ns xs ys)
 drop-angled [] xs ys m e g = refl

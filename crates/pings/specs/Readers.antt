@@ -38,7 +38,7 @@ familyBy (some (raw k d)) = wide
 abbrev pub valuesAt : List ℕ → ℕ → List ℤ
 valuesAt f p = valuesOf (handedBytes (familyBy (readItem f p))) (samplesAt f p)
 
--- n samples are handed over: 19 where a slice is short, the shortest of them having so many entries
+-- n samples are handed over: 19 where a slice is short, of two for values and of three for angles
 abbrev pub handAnswer : ℕ → ℕ → ℕ → Answer
 handAnswer n numbers values = firstOf ((ltb numbers n || ltb values n ⇒ Refused 19 0) ∷ []) (accepting 1 n)
 

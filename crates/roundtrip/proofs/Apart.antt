@@ -74,12 +74,6 @@ within-apart wideAngles u c ns vs b g = absurd (omega (arith, c))
 within-apart narrowAngles u c ns vs b g = absurd (omega (arith, c))
 
 -- ---- numbers and two angles
-pub length-angled : (ns : List ℕ) (xs ys : List ℤ) → length xs ≡ length ns → length ys ≡ length ns → length (angled ns xs ys) ≡ length ns
-length-angled [] xs ys d e = refl
-length-angled (n ∷ ns) [] ys d e = absurd (omega arith)
-length-angled (n ∷ ns) (x ∷ xs) [] d e = absurd (omega arith)
-length-angled (n ∷ ns) (x ∷ xs) (y ∷ ys) d e = ap suc (length-angled ns xs ys (omega arith) (omega arith))
-
 pub numbers-angled : (ns : List ℕ) (xs ys : List ℤ) → length xs ≡ length ns → length ys ≡ length ns → numbersOf (angled ns xs ys) ≡ ns
 numbers-angled [] xs ys d e = refl
 numbers-angled (n ∷ ns) [] ys d e = absurd (omega arith)

@@ -25,8 +25,8 @@ use Rattle.samples.specs.Values.{wordless, wordsFor}
 use Rattle.samples.specs.Judging.{most, firstDrop, firstWordless}
 use Rattle.samples.proofs.Runs.{by-bool, long-enough}
 use Rattle.samples.proofs.Rising.{all-rising, drop-most}
-use Rattle.samples.proofs.Apart.{length-paired}
-use Rattle.samples.proofs.Written.{all-worded, words-some, wordless-here, wordless-later}
+use Rattle.samples.proofs.Apart.{length-paired, length-angled}
+use Rattle.samples.proofs.Written.{all-worded, words-some, wordless-most}
 use Rattle.content.specs.Pings.{Ping}
 use Rattle.content.specs.Items.{ping, itemOf}
 use Rattle.content.specs.Forms.{tupleU, tupleC, hasLength}
@@ -48,7 +48,7 @@ use Rattle.roundtrip.proofs.Tuples.{read-tuple, read-answer, read-item}
 use Rattle.roundtrip.proofs.Rows.{signed-pattern, pattern-below}
 use Rattle.roundtrip.proofs.Written.{written-kept, written-held}
 use Rattle.roundtrip.proofs.Apart.{one-value, angles-U, numbers-apart, values-apart, within-apart}
-use Rattle.roundtrip.proofs.Apart.{length-angled, numbers-angled, alongship-angled, athwartship-angled, within-angled}
+use Rattle.roundtrip.proofs.Apart.{numbers-angled, alongship-angled, athwartship-angled, within-angled}
 
 pub header-back : (h : PingHeader) → HeaderTyped h → headerOf (headOf h) ≡ h
 header-back h g = rw (signed-pattern 3 (h .«detected_bottom_range») (g .5))
@@ -323,13 +323,6 @@ listed f ns vs e m d =
       few = ltb-false _ _ m;
       rising = rises (paired (handedBytes f) ns vs) d ∙ length-paired (handedBytes f) ns vs (sym same);
     }
-
-wordless-most : (f : Family) (s : List Sample) → firstWordless f s ≤ length s
-wordless-most f [] = unfold firstWordless in omega arith
-wordless-most f (x ∷ s) =
-    by-bool (wordless f (x .1))
-    (λ t. omega (arith, wordless-here f x s t))
-    (λ t. omega (arith, wordless-later f x s t, wordless-most f s))
 
 module _ (f : Family) (o : Bool) (h : PingHeader) (a : ℤ) (ns : List ℕ) (vs : List ℤ) {out left : List ℕ} {n : Counts} where
   pub accepted-U : WrittenU f o h a ns vs out (Accepted n) left → Listed f ns vs × (0 < length ns)

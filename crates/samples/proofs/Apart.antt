@@ -1,5 +1,5 @@
--- Samples handed over apart, numbers and signed values of w bytes: the one at a place and those behind it; and numbers or values
--- alone. Assumes nothing.
+-- Samples handed over apart, numbers and signed values of w bytes, or two angles: how many they are, the one at a place and those
+-- behind it; and numbers or values alone. Assumes nothing.
 use mathlib.Core.Path.{_≡_, refl, sym, ap, _∙_}
 use mathlib.Core.List.{List, [], _∷_}
 use Prim.Native.Nat.{ℕ, suc, _+_, _*_, _^_, _≤_, _<_}
@@ -17,7 +17,7 @@ use borrow.Author.Tests.{leb-true}
 use Rattle.order.specs.Order.{patternOf}
 use Rattle.layout.specs.Families.{Family}
 use Rattle.samples.specs.Words.{Sample}
-use Rattle.samples.specs.Lists.{paired}
+use Rattle.samples.specs.Lists.{paired, angled}
 use Rattle.samples.specs.inner.Lists.{numbered, valued}
 use Rattle.samples.specs.Runs.{encodeFrom, behind}
 use Rattle.samples.specs.Values.{revalued, wordless}
@@ -70,6 +70,10 @@ module _ (w : ℕ) where
   length-paired (n ∷ ns) (v ∷ vs) e = ap suc (length-paired ns vs (omega arith))
 
   -- ---- values alone
+  pub length-valued : (vs : List ℤ) → length (valued w vs) ≡ length vs
+  length-valued [] = refl
+  length-valued (v ∷ vs) = ap suc (length-valued vs)
+
   pub valued-next : (vs : List ℤ) (i : ℕ) → i < length vs → valued w (drop i vs) ≡ (0, patternOf w (getD vs i (pos 0))) ∷ valued w
       (drop (i + 1) vs)
   valued-next vs i h = rw (drop-cons vs i (pos 0) h, add-one i)
@@ -121,3 +125,10 @@ numbered-end ns i h = rw (drop-of-length-le ns h)
 pub length-numbered : (ns : List ℕ) → length (numbered ns) ≡ length ns
 length-numbered [] = refl
 length-numbered (n ∷ ns) = ap suc (length-numbered ns)
+
+-- ---- numbers and two angles
+pub length-angled : (ns : List ℕ) (xs ys : List ℤ) → length xs ≡ length ns → length ys ≡ length ns → length (angled ns xs ys) ≡ length ns
+length-angled [] xs ys d e = refl
+length-angled (n ∷ ns) [] ys d e = absurd (omega arith)
+length-angled (n ∷ ns) (x ∷ xs) [] d e = absurd (omega arith)
+length-angled (n ∷ ns) (x ∷ xs) (y ∷ ys) d e = ap suc (length-angled ns xs ys (omega arith) (omega arith))

@@ -337,6 +337,13 @@ module _ (f : Family) (x : Sample) (s : List Sample) where
   unfolding firstWordless
   wordless-later e = rw (e, firstWordless)
 
+pub wordless-most : (f : Family) (s : List Sample) → firstWordless f s ≤ length s
+wordless-most f [] = unfold firstWordless in omega arith
+wordless-most f (x ∷ s) =
+    by-bool (wordless f (x .1))
+    (λ t. omega (arith, wordless-here f x s t))
+    (λ t. omega (arith, wordless-later f x s t, wordless-most f s))
+
 pub all-worded : (f : Family) (s : List Sample) → firstWordless f s ≡ length s → AllWorded f s
 all-worded f [] e = tt
 all-worded f (x ∷ s) e =

@@ -84,15 +84,6 @@ module _ (w : ℕ) (h : w < 32768) (some : 1 ≤ w / 4096) where
       let e : size % 4294967296 ≡ size = mod-eq-of-lt (omega (arith, size-most)) in
       (e ∙ size-is, omega (arith, e, size-most))
 
--- a word below 8000 is a count, one from there on a negative one
-pub count-plus : (w : ℕ) → w < 32768 → countOf w ≡ pos (magnitude w)
-unfolding countOf
-count-plus w h = rw (lt-ltb w 32768 h, countOf)
-
-pub count-minus : (w : ℕ) → 32768 ≤ w → countOf w ≡ negated (magnitude (w - 32768))
-unfolding countOf
-count-minus w h = rw (le-ltb w 32768 h, countOf)
-
 -- a count less than nothing
 pub minus : (n : ℕ) → pos 0 -ℤ pos n ≡ negated n
 minus zero = +ℤ-idl (pos zero)

@@ -43,7 +43,7 @@ const LEAST_BAD: u16 = 0x7f00;
 
 pub const MOST_BAD: u16 = 0x8100;
 
-const MOST_BAD_ENCODED: u16 = 0x7fff;
+pub const MOST_BAD_ENCODED: u16 = 0x7fff;
 
 // Whether a word is a run: its upper eight bits are ones.
 pub fn is_run(word: u16) -> bool

@@ -29,6 +29,7 @@ use Rattle.samples.proofs.Runs.{decode-run, decode-value, decode-fit}
 use Rattle.samples.proofs.Rising.{Rising, fit-rising}
 use Rattle.samples.proofs.Meaning.{Worded}
 use Rattle.samples.proofs.Written.{EachValue, all-worded}
+use Rattle.samples.proofs.Apart.{length-valued}
 use Rattle.samples.proofs.Writing.{past-sample}
 
 -- ---- the number behind the last sample's is above each number
@@ -192,10 +193,6 @@ value-each : (P : ℕ → Type 0) (w : ℕ) (vs : List ℤ) (i : ℕ) → EachVa
 value-each P w [] i e h = absurd (omega arith)
 value-each P w (v ∷ vs) zero e h = e .0
 value-each P w (v ∷ vs) (suc i) e h = value-each P w vs i (e .1) (omega arith)
-
-length-valued : (w : ℕ) (vs : List ℤ) → length (valued w vs) ≡ length vs
-length-valued w [] = refl
-length-valued w (v ∷ vs) = ap suc (length-valued w vs)
 
 -- where each count has a word, the one at i has one of two bytes
 pub code-fits : (counts : List ℤ) (i : ℕ) → firstWordless encoded (valued 4 counts) ≡ length counts → i < length counts

@@ -30,10 +30,8 @@ const MINUS: u32 = 32768;
 
 const LEAST_NEGATIVE: u32 = 0x8000_0000;
 
-// The longest word; the last outside the limits of a CE-16 value.
+// The longest word.
 const MOST_WORD: u32 = 0xffff;
-
-const MOST_BAD_CODE: u16 = 0x7fff;
 
 // The place of the first value that has no C-16 word; as many as there are where all have one.
 pub fn first_wordless(values: &[i16]) -> usize
@@ -91,7 +89,7 @@ fn is_codeless(count: i32) -> bool
     }
     let word = code as u16;
     samples16::is_run(word)
-        | samples16::is_bad(word, MOST_BAD_CODE)
+        | samples16::is_bad(word, samples16::MOST_BAD_ENCODED)
         | (order::pattern4(samples16::count_of(word)) != value)
 }
 

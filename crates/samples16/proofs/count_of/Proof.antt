@@ -7,7 +7,8 @@ use mir.Syntax.{w32}
 use mir.Val.{SFits, toZ}
 use mir.ValLaws.{toZ-pos, toZ-ofZ}
 use Rattle.samples.specs.Values.{negated}
-use Rattle.samples16.proofs.Laws.{count-plus, count-minus, minus, minus-fits}
+use Rattle.samples.proofs.Meaning.{count-plus, count-minus}
+use Rattle.samples16.proofs.Laws.{minus, minus-fits}
 use Rattle.samples16.proofs.count_of.Statement.{statement}
 use Rattle.samples16.proofs.count_of.Tie as tie
 
