@@ -15,17 +15,13 @@ use Rattle.layout.specs.Families.{Family, valueBytes, radixOf, sampleBytes, isB
 use Rattle.samples.specs.Words.{Sample, allSamples, sampleOf}
 use Rattle.samples.specs.Runs.{isRun, endsFrom, values, firstBad}
 use Rattle.samples.specs.Values.{front, hasSpace}
-use Rattle.samples.specs.Judging.{firstDrop}
+use Rattle.samples.specs.Judging.{firstDrop, anyBad}
 use Rattle.samples.proofs.Words.{some-bytes, wordAt, wordsFrom, from-cons, from-end, restOf, rest-all, rest-next, rest-end}
 use Rattle.samples.proofs.Runs.{by-bool}
 use Rattle.samples.proofs.Values.{values-run, values-value, bad-here, bad-later}
 use Rattle.samples.proofs.Rising.{drop-later, drop-here}
 
 -- ---- the tests of the rules
--- some word is bad
-abbrev pub anyBad : Family → List ℕ → Bool
-anyBad f ws = ltb (firstBad f ws) (length ws)
-
 -- some number is below n or not above the one before it
 abbrev pub anyDrop : ℕ → List Sample → Bool
 anyDrop n s = ltb (firstDrop n s) (length s)
@@ -142,7 +138,7 @@ or-always : (b : Bool) → (b || true) ≡ true
 or-always true = refl
 or-always false = refl
 
-some-more : (d : ℕ) (b : Bool) → not (eqb (d + boolByte b) 0) ≡ (not (eqb d 0) || b)
+pub some-more : (d : ℕ) (b : Bool) → not (eqb (d + boolByte b) 0) ≡ (not (eqb d 0) || b)
 some-more d true = rw (ne-eqb (d + 1) 0 (λ e. omega arith)) (sym (or-always (not (eqb d 0))))
 some-more d false = let z : d + 0 ≡ d = omega arith in ap (λ (i : ℕ). not (eqb i 0)) z ∙ sym (or-false (not (eqb d 0)))
 

@@ -9,6 +9,7 @@ pub mod Leading
 pub mod Written
 pub mod Reach
 pub mod Judging
+pub mod Blocks
 pub mod Handing
 pub mod Apart
 pub mod Writing

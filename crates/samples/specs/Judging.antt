@@ -36,6 +36,10 @@ tooShort s (some n) = ltb n (behind 0 s + 1)
 abbrev pub dropping : List Sample → Bool
 dropping s = ltb (firstDrop 0 s) (length s)
 
+-- some word is outside the limits
+abbrev pub anyBad : Family → List ℕ → Bool
+anyBad f ws = ltb (firstBad f ws) (length ws)
+
 -- ---- where samples stand in a ping, counted from its first byte: an uncompressed ping's behind the header; there a compressed ping's
 -- number of samples, and its words behind that
 abbrev pub firstSample : ℕ
@@ -59,7 +63,7 @@ sampleRules f s =
 abbrev pub wordRules : Family → ℕ → List ℕ → List (Rule Breach)
 wordRules f count ws =
     (ltb most (values (radixOf f) ws) ⇒ 11 byte 0)
-    ∷ (ltb (firstBad f ws) (length ws) ⇒ 24 byte (wordsAt + valueBytes f * firstBad f ws))
+    ∷ (anyBad f ws ⇒ 24 byte (wordsAt + valueBytes f * firstBad f ws))
     ∷ (not (eqb count (values (radixOf f) ws)) ⇒ 25 byte countAt)
     ∷ []
 

@@ -1,9 +1,9 @@
 -- Laws of words and samples of two bytes, as the code tells them apart. Assumes nothing.
 use mathlib.Core.Path.{_≡_, refl, sym, ap, _∙_}
-use mathlib.Core.Bool.{Bool, true, false, not, _&&_, _||_}
-use mathlib.Core.List.{List, [], _∷_}
+use mathlib.Core.Bool.{Bool, true, false, not, _&&_, _||_, or-assoc}
+use mathlib.Core.List.{List, [], _∷_, _++_}
 use Prim.Native.Nat.{ℕ, zero, suc, _+_, _-_, _*_, _/_, _%_, _^_, _≤_, _<_}
-use native.Mathlib.Nat.{mod-eq-of-lt, mul-le-mul, pow-le-pow-right, zero-add, suc-add, mul-div-cancel-left}
+use native.Mathlib.Nat.{mod-eq-of-lt, mul-le-mul, pow-le-pow-right, mul-div-cancel-left}
 use native.Mathlib.Omega.{arith}
 use lib.Dec.{eqb, leb, ltb, lit<}
 use lib.IntN.{ℤ, pos, negsuc, _-ℤ_, +ℤ-idl}
@@ -11,7 +11,7 @@ use lib.Signed.{mag}
 use mir.Syntax.{w32}
 use mir.Val.{SFits, boolByte}
 use lib.ListN.{length, take, drop}
-use lib.Seq.{take-take, take-nil, take-length, length-take-le}
+use lib.Seq.{take-length, length-take-le}
 use borrow.Author.Tests.{eq-eqb, ne-eqb, leb-true, leb-false, lt-ltb, le-ltb, eqb-true}
 use Rattle.order.specs.Order.{numOf, signedOf, patternOf}
 use Rattle.rules.proofs.Bools.{both-true, or-left, or-right}
@@ -24,11 +24,12 @@ use Rattle.samples.specs.Lists.{handedBytes}
 use Rattle.samples.specs.inner.Narrow.{plainBy, wordsBy}
 use Rattle.samples.specs.Runs.{isRun, decodeFrom, endsFrom, values, firstBad}
 use Rattle.samples.specs.Values.{scaled, magnitude, negated, countOf, meant, revalued, samplesIn, front, hasSpace, heldWords}
-use Rattle.samples.specs.Judging.{most, countAt, wordsAt, judgedWords}
+use Rattle.samples.specs.Judging.{most, anyBad, countAt, wordsAt, judgedWords}
 use Rattle.samples.proofs.Words.{wordAt, wordsFrom, from-all, from-cons}
 use Rattle.samples.proofs.Runs.{by-bool}
 use Rattle.samples.proofs.Held.{held-front, held-all}
-use Rattle.samples.proofs.Judging.{anyBad, bad-cons, space-counted}
+use Rattle.samples.proofs.Judging.{bad-cons, space-counted}
+use Rattle.samples.proofs.Blocks.{words-take, from-parted, values-append, bad-append}
 use Rattle.samples.proofs.Lengths.{ends-last}
 
 -- a word of two bytes is a run from ff00 on
@@ -123,19 +124,6 @@ unfolding words front
 front-words k o zero d = refl
 front-words k o (suc n) d = ap (λ (l : List ℕ). numOf o (take k d) ∷ l) (front-words k o n (drop k d))
 
-drop-take : (m j : ℕ) (l : List ℕ) → drop m (take (m + j) l) ≡ take j (drop m l)
-drop-take zero j l = rw zero-add
-drop-take (suc m) j [] = rw (suc-add, take-nil)
-drop-take (suc m) j (x ∷ l) = rw suc-add (drop-take m j l)
-
-words-take : (k : ℕ) (o : Bool) (n : ℕ) (d : List ℕ) → words k o n (take (k * n) d) ≡ words k o n d
-unfolding words
-words-take k o zero d = refl
-words-take k o (suc n) d =
-    let e : k * suc n ≡ k + k * n = omega arith in
-    rw (e, take-take k (k + k * n) d (omega arith), drop-take k (k * n) d)
-    (ap (λ (l : List ℕ). numOf o (take k d) ∷ l) (words-take k o n (drop k d)))
-
 front-taken : (k : ℕ) → 0 < k → (o : Bool) (n : ℕ) (part : List ℕ) → length part ≡ k * suc n
     → allWords k o (take (length part - k) part) ≡ front (allWords k o part)
 unfolding allWords
@@ -193,6 +181,31 @@ module _ (o : Bool) (part : List ℕ) (count : ℕ) (long : 2 ≤ length part) (
         near = (omega arith, omega arith, even);
         counted = rw (held, le-ltb (length part) (length part) (omega arith)) (omega arith);
       }
+
+-- ---- words block by block: those of a block from p to q, and those from there on
+module _ (o : Bool) (part : List ℕ) (p q : ℕ) (h : p ≤ q) (within : q ≤ length part) (even : p % 2 ≡ 0) (whole : q % 2 ≡ 0) where
+  abbrev block : List ℕ
+  block = allWords 2 o (take (q - p) (drop p part))
+
+  from-block : wordsFrom 2 o part p ≡ block ++ wordsFrom 2 o part q
+  from-block =
+      let m = (q - p) / 2 in
+      let e : 2 * m ≡ q - p = omega arith in
+      let z : p + 2 * m ≡ q = omega arith in
+      from-parted 2 (lit< tt) o part p m (omega arith)
+      ∙ ap (λ (n : ℕ). allWords 2 o (take n (drop p part)) ++ wordsFrom 2 o part (p + 2 * m)) e
+      ∙ ap (λ (n : ℕ). block ++ wordsFrom 2 o part n) z
+
+  pub values-block : (n v : ℕ) → v ≡ values 256 block → n + v + values 256 (wordsFrom 2 o part q) ≡ n + values 256 (wordsFrom 2 o part p)
+  values-block n v e =
+      let g = ap (values 256) from-block ∙ values-append 256 block (wordsFrom 2 o part q) in
+      omega (arith, g, e)
+
+  pub bad-block : (f : Family) (b seen : Bool) → seen ≡ anyBad f block
+      → ((b || seen) || anyBad f (wordsFrom 2 o part q)) ≡ (b || anyBad f (wordsFrom 2 o part p))
+  bad-block f b seen e =
+      let g = ap (anyBad f) from-block ∙ bad-append f block (wordsFrom 2 o part q) in
+      rw (e, g, or-assoc)
 
 -- ---- judging words that are held: none is bad where none of all is
 bad-front : (f : Family) (ws : List ℕ) → anyBad f ws ≡ false → anyBad f (front ws) ≡ false

@@ -9,21 +9,21 @@ use samples::MOST;
 use samples::SAMPLES;
 use samples::WORDS;
 ghost use mathlib.Core.Path.{_≡_};
-ghost use mathlib.Core.Bool.{false, _&&_};
+ghost use mathlib.Core.Bool.{false, not, _&&_};
 ghost use Prim.Native.Nat.{_*_, _+_, _%_, _≤_, _<_};
 ghost use mir.Val.{boolByte};
-ghost use lib.Dec.{leb, ltb};
+ghost use lib.Dec.{eqb, leb, ltb};
 ghost use lib.ListN.{length, take};
 ghost use lib.Seq.{sets};
 ghost use Rattle.order.specs.Order.{signedOf};
-ghost use Rattle.layout.specs.Families.{narrow, sampleBytes, measuresOf};
+ghost use Rattle.layout.specs.Families.{narrow, narrowAngles, sampleBytes, measuresOf};
 ghost use Rattle.samples.specs.Words.{allWords, allSamples};
 ghost use Rattle.samples.specs.Lists.{handedBytes, numbersOf, valuesOf};
 ghost use Rattle.samples.specs.inner.Lists.{Room};
 ghost use Rattle.samples.specs.inner.Narrow.{plainBy, wordsBy};
 ghost use Rattle.samples.specs.Runs.{isRun, runLength, firstBad, samplesFrom, endsFrom, values};
 ghost use Rattle.samples.specs.Values.{magnitude, countOf, meant, samplesIn, heldWords};
-ghost use Rattle.samples.specs.Judging.{firstDrop, dropping, judgedSamples, judgedWords};
+ghost use Rattle.samples.specs.Judging.{firstDrop, dropping, anyBad, judgedSamples, judgedWords};
 
 // The bytes of a word; of a U-16 ping's sample, and of a U-16-angles ping's.
 pub const WORD: usize = 2;
@@ -31,6 +31,9 @@ pub const WORD: usize = 2;
 pub const PAIR: usize = 4;
 
 pub const TRIPLE: usize = 6;
+
+// The bytes of a block of words that are looked at together.
+const BLOCK: usize = 32_768;
 
 // The word of a run of 1: longer ones count on from it.
 pub const SHORTEST_RUN: u16 = 0xff00;
@@ -82,25 +85,53 @@ fn sample_bytes(angles: bool) -> usize
     if angles { TRIPLE } else { PAIR }
 }
 
-// Whether a sample number isn't above the one before it, samples being so many bytes.
-fn drops(part: &[u8], msb: bool, angles: bool) -> bool
-    ensures { λ r. ⌜ r ≡ dropping (allSamples (plainBy angles) msb (now (part .entry))) ⌝ }
+// Whether a number of a U-16 ping's samples isn't above the one before it.
+fn drops_pairs(part: &[u8], msb: bool) -> bool
+    ensures { λ r. ⌜ r ≡ dropping (allSamples narrow msb (now (part .entry))) ⌝ }
 {
-    let step = sample_bytes(angles);
-    if part.len() < step {
+    if part.len() < PAIR {
+        return false;
+    }
+    let mut last = order::front2(part, 0, msb);
+    let mut bad = false;
+    let mut p: usize = PAIR;
+    // a number is read with its value, and there is no return before the end: so the compiler judges several samples at once
+    while PAIR <= part.len() - p {
+        let number = order::front2(part, p, msb);
+        bad |= number <= last;
+        last = number;
+        p += PAIR;
+    }
+    bad
+}
+
+// The same of a U-16-angles ping's.
+fn drops_triples(part: &[u8], msb: bool) -> bool
+    ensures { λ r. ⌜ r ≡ dropping (allSamples narrowAngles msb (now (part .entry))) ⌝ }
+{
+    if part.len() < TRIPLE {
         return false;
     }
     let mut last = order::read2(part, 0, msb);
     let mut bad = false;
-    let mut p: usize = step;
-    // no return before the end: so the compiler judges several samples at once
-    while step <= part.len() - p {
+    let mut p: usize = TRIPLE;
+    while TRIPLE <= part.len() - p {
         let number = order::read2(part, p, msb);
         bad |= number <= last;
         last = number;
-        p += step;
+        p += TRIPLE;
     }
     bad
+}
+
+// Whether a sample number isn't above the one before it: of each kind by a loop of its own, whose step the compiler knows.
+fn drops(part: &[u8], msb: bool, angles: bool) -> bool
+    ensures { λ r. ⌜ r ≡ dropping (allSamples (plainBy angles) msb (now (part .entry))) ⌝ }
+{
+    if angles {
+        return drops_triples(part, msb);
+    }
+    drops_pairs(part, msb)
 }
 
 // Where the first number stands that isn't above the one before it; behind the last whole sample where none is.
@@ -157,19 +188,68 @@ pub fn read_samples(part: &[u8], msb: bool, numbers: &mut [u32], values: &mut [i
 }
 
 // ---- compressed
-// How many of the words are values.
-fn count_values(part: &[u8], msb: bool) -> u32
-    requires { ⌜ length (now part) ≤ 262108 ⌝ }
-    ensures { λ r. ⌜ r ≡ values 256 (allWords 2 msb (now (part .entry))) ⌝ }
-    ensures { λ r. ⌜ r ≤ length (now (part .entry)) ⌝ }
+// What is seen of words: how many are values, and how many are outside the limits.
+struct Seen {
+    values: u16,
+    bad: u16,
+}
+
+// Looks at the words of a block. Both are counted in 16 bits, as wide as a word, so that the compiler looks at eight at once: hence blocks.
+fn see(part: &[u8], msb: bool, encoded: bool) -> Seen
+    requires { ⌜ length (now part) ≤ 32768 ⌝ }
+    ensures { λ r. ⌜ r .values ≡ values 256 (allWords 2 msb (now (part .entry))) ⌝ }
+    ensures { λ r. ⌜ not (eqb (r .bad) 0) ≡ anyBad (wordsBy encoded) (allWords 2 msb (now (part .entry))) ⌝ }
+    ensures { λ r. ⌜ r .values ≤ length (now (part .entry)) ⌝ }
 {
-    let mut found: u32 = 0;
+    let most = most_bad(encoded);
+    let mut values: u16 = 0;
+    let mut bad: u16 = 0;
     let mut p: usize = 0;
     while WORD <= part.len() - p {
-        found += !is_run(order::read2(part, p, msb)) as u32;
+        let word = order::read2(part, p, msb);
+        values += !is_run(word) as u16;
+        bad += is_bad(word, most) as u16;
         p += WORD;
     }
-    found
+    Seen { values, bad }
+}
+
+// Where the block at a place ends: with whole words, at most as many as can be counted.
+fn block_end(p: usize, end: usize) -> usize
+    requires { ⌜ p < end ⌝ }
+    requires { ⌜ (p % 2 ≡ 0) × (end % 2 ≡ 0) ⌝ }
+    ensures { λ r. ⌜ (p < r) × (r ≤ end) × (r ≤ p + 32768) × (r % 2 ≡ 0) ⌝ }
+{
+    if end - p < BLOCK {
+        return end;
+    }
+    p + BLOCK
+}
+
+// What is seen of all words, block by block.
+struct Sight {
+    values: u32,
+    bad: bool,
+}
+
+fn look(part: &[u8], msb: bool, encoded: bool) -> Sight
+    requires { ⌜ length (now part) % 2 ≡ 0 ⌝ }
+    requires { ⌜ length (now part) ≤ 262108 ⌝ }
+    ensures { λ r. ⌜ r .values ≡ values 256 (allWords 2 msb (now (part .entry))) ⌝ }
+    ensures { λ r. ⌜ r .bad ≡ anyBad (wordsBy encoded) (allWords 2 msb (now (part .entry))) ⌝ }
+    ensures { λ r. ⌜ r .values ≤ length (now (part .entry)) ⌝ }
+{
+    let mut values: u32 = 0;
+    let mut bad = false;
+    let mut p: usize = 0;
+    while p < part.len() {
+        let end = block_end(p, part.len());
+        let seen = see(&part[p..end], msb, encoded);
+        values += seen.values as u32;
+        bad |= seen.bad != 0;
+        p = end;
+    }
+    Sight { values, bad }
 }
 
 // How many bytes of the part that words and a space fill are words, where so many of all are values: the last word is a space where it
@@ -199,7 +279,7 @@ pub fn held(part: &[u8], msb: bool, count: u32) -> usize
     ensures { λ r. ⌜ allWords 2 msb (take r (now (part .entry))) ≡ heldWords narrow count (allWords 2 msb (now (part .entry))) ⌝ }
     ensures { λ r. ⌜ (r ≤ length (now (part .entry))) × (length (now (part .entry)) ≤ r + 2) × (r % 2 ≡ 0) ⌝ }
 {
-    words_end(part, msb, count, count_values(part, msb))
+    words_end(part, msb, count, look(part, msb, false).values)
 }
 
 // Where in words the first stands that is outside the limits; behind them all where none is.
@@ -226,23 +306,14 @@ pub fn judge_words(part: &[u8], msb: bool, count: u32, encoded: bool) -> Verdict
     requires { ⌜ length (now part) ≤ 262108 ⌝ }
     ensures { λ r. ⌜ r ≡ judgedWords (wordsBy encoded) msb count (now (part .entry)) ⌝ }
 {
-    let most = most_bad(encoded);
-    let mut found: u32 = 0;
-    let mut bad = false;
-    let mut p: usize = 0;
-    // no return before the end: so the compiler judges several words at once
-    while WORD <= part.len() - p {
-        let word = order::read2(part, p, msb);
-        found += !is_run(word) as u32;
-        bad |= is_bad(word, most);
-        p += WORD;
-    }
+    let seen = look(part, msb, encoded);
+    let found = seen.values;
     let end = words_end(part, msb, count, found);
     let values = found - (end < part.len()) as u32;
     if MOST < values as usize {
         return layout::fault(codes::OVERFULL);
     }
-    if bad {
+    if seen.bad {
         let at = find_bad(&part[0..end], msb, encoded);
         if at < end {
             return layout::fault_at(codes::BAD_WORD, WORDS + at);

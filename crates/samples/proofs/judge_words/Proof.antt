@@ -16,9 +16,9 @@ use Rattle.layout.specs.Families.{wide}
 use Rattle.samples.specs.Words.{allWords}
 use Rattle.samples.specs.Runs.{radix, values, firstBad}
 use Rattle.samples.specs.Values.{hasSpace, heldWords}
-use Rattle.samples.specs.Judging.{most, countAt, wordsAt, judgedWords}
+use Rattle.samples.specs.Judging.{most, countAt, wordsAt, judgedWords, anyBad}
 use Rattle.samples.proofs.Words.{wordsFrom, from-all}
-use Rattle.samples.proofs.Judging.{anyBad, counts-one, values-turn, bad-turn, values-end, bad-end}
+use Rattle.samples.proofs.Judging.{counts-one, values-turn, bad-turn, values-end, bad-end}
 use Rattle.samples.proofs.judge_words.Statement.{statement}
 use Rattle.samples.proofs.judge_words.Tie as tie
 

@@ -6,7 +6,7 @@ use Rattle.samples16.proofs.held.Tie as tie
 words-end-requires : tie.Need-words-end-requires
 words-end-requires c κs =
     let start = c .before .before in
-    (start .pre .0, (start .pre .1 .0, c .count-values .ensures .0))
+    (start .pre .0, (start .pre .1 .0, c .look .ensures .0))
 
 returns : tie.Need-returns
 returns c = (c .words-end .ensures .0, c .words-end .ensures .1 .0)
