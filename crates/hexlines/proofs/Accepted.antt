@@ -13,19 +13,20 @@ use Rattle.rules.proofs.Laws.{clear}
 use Rattle.layout.specs.declared.Counts.{Counts}
 use Rattle.layout.specs.declared.Answer.{Answer}
 use Rattle.layout.specs.declared.Answer.the-variants.{Accepted, Refused}
-use Rattle.layout.specs.Answers.{judged, Breach, refusedAt, accepting, isAccepted}
-use Rattle.layout.proofs.Verdicts.{passed, both-left, both-right, judged-append}
-use Rattle.frame.specs.Frames.{Tup, frames, tupAt, frameRules, framing}
+use Rattle.layout.specs.Answers.{Breach, refusedAt, accepting, isAccepted}
+use Rattle.layout.proofs.Verdicts.{passed}
+use Rattle.frame.specs.Frames.{Tup, frames, tupAt}
 use Rattle.frame.specs.Files.{isMsb, fileRules}
-use Rattle.frame.proofs.Frames.{framed}
 use Rattle.frame.proofs.Files.{msb-mark}
 use Rattle.frame.proofs.Tuples.{tuples-of}
 use Rattle.frame.specs.Tuples.{AllFramed}
-use Rattle.content.specs.Items.{Item, itemOf, headRules, innerRules}
+use Rattle.content.specs.Items.{Item, itemOf}
 use Rattle.content.specs.Forms.{formsOf}
 use Rattle.content.proofs.Fine.{Sound}
 use Rattle.content.proofs.Kept.{kept}
+use Rattle.intake.specs.Alone.{aloneRules, alone}
 use Rattle.intake.specs.Check.{checkFile}
+use Rattle.intake.proofs.Alone.{alone-sound}
 use Rattle.intake.proofs.Accepted.{refusal, Division, all-framed, accepted-file}
 use Rattle.normal.specs.Contents.{items, contentOf, normalTuples, formed, normalOf}
 use Rattle.normal.specs.Normaliser.{normalRules, normalCounts, behindCheck, normalAnswer}
@@ -81,35 +82,21 @@ one-normal o t s = by-item (itemOf o t) refl
     by-item none e = tt
     by-item (some i) e = (kept o t s i e .sound .framed, tt)
 
--- a tuple that passes its rules is sound
-sound : (o : Bool) (r : List ℕ) → Bytes r → AllPass (frameRules o r ++ (headRules o (tupAt o r) ++ innerRules o (tupAt o r)))
-    → Sound o (tupAt o r)
-unfolding framing
-sound o r b p =
-    let head = headRules o (tupAt o r) in
-    let inner = innerRules o (tupAt o r) in
-    let whole = sym (judged-append (frameRules o r) (head ++ inner)) ∙ passed (frameRules o r ++ (head ++ inner)) p in
-    let own = sym (judged-append head inner) ∙ both-right (judged (frameRules o r)) (judged (head ++ inner)) whole in
-    record {
-      framed = framed o r b (both-left (judged (frameRules o r)) (judged (head ++ inner)) whole);
-      head = both-left (judged head) (judged inner) own;
-      inner = both-right (judged head) (judged inner) own;
-    }
-
 pub tuple-written : (f : List ℕ) → Bytes f → (room : ℕ) (n : Counts) → singleAnswer f room ≡ Accepted n
     → Written (singleForm f) (singleTuples f) room (n .written)
-unfolding singleAnswer
+unfolding singleAnswer alone
 tuple-written f b room n e =
     let o = isMsb f in
     let r = drop 4 f in
     let t = tupAt o r in
-    let own = frameRules o r ++ (headRules o t ++ innerRules o t) in
+    let own = aloneRules o r in
     let d = accepting 1 (length (singleForm f)) in
     let filed = through 0 (fileRules f) (saying (refusedAt 4) own ++ behindRules f room) d n e in
     let judged = through 4 own (behindRules f room) d n (filed .1) in
+    let sound = alone-sound o r (passed own (judged .0)) (bytes-drop 4 f b) in
     let behind = clear isAccepted (behindRules f room) d (Accepted n) (refl, (refl, (refl, tt))) (judged .1) refl in
     record {
       bytes = sym (cc (behind .1));
       fits = ltb-false room (length (singleForm f)) (behind .0 .1 .1 .0);
-      whole = record { whole = unfold singleForm in refl; framed = one-normal o t (sound o r (bytes-drop 4 f b) (judged .0)) };
+      whole = record { whole = unfold singleForm in refl; framed = one-normal o t sound };
     }

@@ -1,6 +1,6 @@
 -- What the code says of the tuple at a place: how far behind its first byte a fault is, and that a fine verdict tells that there is
 -- room for what it declares. Assumes nothing.
-use mathlib.Core.Path.{_≡_, refl, sym, ap, _∙_}
+use mathlib.Core.Path.{_≡_, refl, sym, ap, subst, _∙_}
 use mathlib.Core.List.{List, [], _∷_, _++_}
 use mathlib.Core.Bool.{Bool, true, false, cond, _&&_, _||_, true≢false}
 use Prim.Native.Nat.{ℕ, _+_, _-_, _*_, _/_, _%_, _≤_, _<_}
@@ -37,8 +37,10 @@ use Rattle.links.specs.Links.{Link, mostSounders, mostChannels, signRules, rule
 use Rattle.content.specs.Items.{rowIn, itemBy, itemOf, unless, linkBy, numberAt, digestOf, digestItem, digest, headRules, innerBy}
 use Rattle.content.specs.Items.{innerRules}
 use Rattle.content.specs.Pings.{headU, headC, partIn, countIn, wordsIn, contentU}
+use Rattle.intake.specs.Alone.{alone}
 use Rattle.intake.specs.inner.Tallies.{headVerdict, linkVerdict, innerVerdict, ownVerdict, turnVerdict}
 use Rattle.intake.proofs.Turns.{emptied}
+use Rattle.intake.proofs.Alone.{alone-parts}
 
 -- ---- how far behind the tuple's first byte a fault is: no farther than a tuple's most bytes and a ping's header
 abbrev pub far : ℕ
@@ -116,8 +118,8 @@ module _ (o : Bool) (r : List ℕ) where
   unfolding framing
   frame-near = near-rules far (frameRules o r) (here-near, (here-near, (here-near, (here-near, tt))))
 
-  pub alone-near : Near far (both (framing o r) (ownVerdict o front))
-  alone-near = near-both far (framing o r) (ownVerdict o front) frame-near own-near
+  pub alone-near : Near far (alone o r)
+  alone-near = subst (Near far) (sym (alone-parts o r)) (near-both far (framing o r) (ownVerdict o front) frame-near own-near)
 
   module _ (first : Bool) (ss : List Sounder) (cs : List Channel) where
     turn-near : Near far (turnVerdict o first ss cs r)

@@ -26,6 +26,7 @@ ghost use Rattle.links.specs.Links.{mostChannels, Steady};
 ghost use Rattle.intake.specs.inner.Tallies.{Here, Fits, headVerdict, innerVerdict, ownVerdict, sounderAt, channelAt, namedAt};
 ghost use Rattle.intake.specs.inner.Tallies.{linkTold, turnTold, tallyBegin, tallyPast, Standing, Held, Tables, tables, Sized};
 ghost use Rattle.intake.specs.inner.Tallies.{courseOf, TurnedTo, RunTo, AskIn, askWhere};
+ghost use Rattle.intake.specs.Alone.{alone};
 ghost use Rattle.intake.specs.Check.{checkFile, ending, Checked};
 ghost use Rattle.intake.specs.Asking.{AskedFor, askAccepted};
 
@@ -264,6 +265,20 @@ pub fn judge_own(file: &[u8], at: usize, msb: bool, whole: usize, code: u16) -> 
         Verdict::Fault { code, offset } => Verdict::Fault { code, offset },
         Verdict::Fine => judge_inner(file, at, msb, whole, code),
     }
+}
+
+// A tuple by itself, whatever stands around it: the rules of its frame, then its own.
+pub fn judge_alone(file: &[u8], at: usize, msb: bool) -> Verdict
+    requires { ⌜ at ≤ length (now file) ⌝ }
+    ensures { λ r. ⌜ r ≡ alone msb (drop at (now (file .entry))) ⌝ }
+{
+    let framed = frame::judge_frame(file, at, msb);
+    let Verdict::Fine = framed else {
+        return framed;
+    };
+    let whole = frame::length_at(file, at, msb);
+    let code = frame::kind_at(file, at, msb);
+    judge_own(file, at, msb, whole, code)
 }
 
 // Either of two.

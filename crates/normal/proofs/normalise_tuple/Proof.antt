@@ -5,12 +5,11 @@ use mathlib.Core.Bool.{Bool, true}
 use borrow.Author.Needs.{needs}
 use borrow.Author.Tests.{not-true, not-false}
 use lib.ListN.{drop}
-use Rattle.layout.specs.Answers.{both}
-use Rattle.layout.proofs.Verdicts.{both-left, both-right, near-fault}
-use Rattle.frame.specs.Frames.{tupAt, framing}
+use Rattle.layout.proofs.Verdicts.{near-fault}
 use Rattle.frame.specs.Files.{isMsb, marked}
 use Rattle.frame.proofs.Files.{marked-4}
-use Rattle.intake.specs.inner.Tallies.{ownVerdict}
+use Rattle.intake.specs.Alone.{alone}
+use Rattle.intake.proofs.Alone.{alone-framed, alone-own}
 use Rattle.intake.proofs.Said.{far, alone-near}
 use Rattle.normal.proofs.Singles.{single-limit, single-mark, single-fault, single-fine}
 use Rattle.normal.proofs.normalise_tuple.Statement.{statement}
@@ -24,12 +23,11 @@ marks : (c : tie.Else2) → marked (start c .args .file .now) ≡ true
 marks c = sym (c .before .is-marked .ensures) ∙ not-false _ (c .if2 .left)
 
 -- what the rules say that it keeps alone
-alone : (c : tie.After-judge-alone) → let f = start (c .before .before) .args .file .now in
-    both (framing (isMsb f) (drop 4 f)) (ownVerdict (isMsb f) (tupAt (isMsb f) (drop 4 f))) ≡ c .judge-alone .result
-alone c =
+said : (c : tie.After-judge-alone) → let f = start (c .before .before) .args .file .now in
+    alone (isMsb f) (drop 4 f) ≡ c .judge-alone .result
+said c =
     let f = start (c .before .before) .args .file .now in
-    sym (c .judge-alone .ensures
-    ∙ ap (λ (o : Bool). both (framing o (drop 4 f)) (ownVerdict o (tupAt o (drop 4 f)))) (c .before .is-msb .ensures))
+    sym (c .judge-alone .ensures ∙ ap (λ (o : Bool). alone o (drop 4 f)) (c .before .is-msb .ensures))
 
 returns : tie.Need-returns
 returns c = rw (c .refuse .ensures) (single-limit _ _ (c .before .if1 .taken))
@@ -43,31 +41,33 @@ returns-2 c =
 add-refuse : tie.Need-add-refuse
 add-refuse c =
     let j = c .before .before .before in
-    let z = near-fault far (alone-near _ _) (alone j ∙ c .before .code .given .1) in
+    let z = near-fault far (alone-near _ _) (said j ∙ c .before .code .given .1) in
     search needs
 
 turn-tuple-requires : tie.Need-turn-tuple-requires
 turn-tuple-requires c κs =
     let j = c .before .before .before in
     let f = start (j .before .before) .args .file .now in
-    let fine = alone j ∙ c .before .enum-told .given .1 in
-    let framed = both-left (framing (isMsb f) (drop 4 f)) (ownVerdict (isMsb f) (tupAt (isMsb f) (drop 4 f))) fine in
-    let own = both-right (framing (isMsb f) (drop 4 f)) (ownVerdict (isMsb f) (tupAt (isMsb f) (drop 4 f))) fine in
-    record { within = marked-4 _ (marks (j .before .before)); here = record { framed = framed; size = refl; kind = refl }; own = own }
+    let fine = said j ∙ c .before .enum-told .given .1 in
+    record {
+      within = marked-4 _ (marks (j .before .before));
+      here = record { framed = alone-framed (isMsb f) (drop 4 f) fine; size = refl; kind = refl };
+      own = alone-own (isMsb f) (drop 4 f) fine;
+    }
 
 returns-3 : tie.Need-returns-3
 returns-3 c =
     let j = c .before .before .before .before in
     rw (c .refuse3 .ensures)
     (single-fault _ _ (j .before .before .before .before .if1 .left) (marks (j .before .before)) _ _
-    (alone j ∙ c .before .before .code .given .1))
+    (said j ∙ c .before .before .code .given .1))
 
 returns-4 : tie.Need-returns-4
 returns-4 c =
     let told = c .before .before .before .before in
     let j = told .before .before in
     single-fine _ _ (j .before .before .before .before .if1 .left) (marks (j .before .before))
-    (alone j ∙ told .enum-told .given .1) _ _ (c .before .before .turn-tuple .ensures)
+    (said j ∙ told .enum-told .given .1) _ _ (c .before .before .turn-tuple .ensures)
 
 pub normalise-tuple-spec : {M : Type 1} → statement M
 normalise-tuple-spec =

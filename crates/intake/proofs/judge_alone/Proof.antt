@@ -1,4 +1,4 @@
--- `normal::judge_alone` meets its contract: the rules of the frame, then the tuple's own. Assumes nothing.
+-- `intake::judge_alone` meets its contract: the rules of the frame, then the tuple's own. Assumes nothing.
 use mathlib.Core.Path.{_≡_, sym, _∙_}
 use native.Mathlib.Omega.{arith}
 use borrow.Author.Needs.{needs}
@@ -6,8 +6,9 @@ use Rattle.layout.specs.declared.Verdict.the-variants.{Fine}
 use Rattle.frame.specs.Frames.{lenAt, framing}
 use lib.ListN.{drop}
 use Rattle.frame.proofs.Places.{Whole, framing-whole}
-use Rattle.normal.proofs.judge_alone.Statement.{statement}
-use Rattle.normal.proofs.judge_alone.Tie as tie
+use Rattle.intake.proofs.Alone.{alone-parts}
+use Rattle.intake.proofs.judge_alone.Statement.{statement}
+use Rattle.intake.proofs.judge_alone.Tie as tie
 
 -- the frame's rules hold
 fine : (c : tie.After-enum-told) → let a = c .before .before .before .before .args in framing (a .msb) (drop (a .at) (a .file .now)) ≡ Fine
@@ -18,10 +19,12 @@ there : (c : tie.After-enum-told) → let a = c .before .before .before .before 
 there c = framing-whole _ _ _ (fine c)
 
 returns : tie.Need-returns
-returns c = let j = c .before .before in rw (← j .judge-frame .ensures, c .enum-told2 .given .1)
+returns c =
+    let j = c .before .before in
+    rw (alone-parts, ← j .judge-frame .ensures, c .enum-told2 .given .1)
 
 returns-2 : tie.Need-returns-2
-returns-2 c = rw (fine (c .before .before .before)) (c .judge-own .ensures)
+returns-2 c = rw (alone-parts, fine (c .before .before .before)) (c .judge-own .ensures)
 
 pub judge-alone-spec : {M : Type 1} → statement M
 judge-alone-spec =
