@@ -17,7 +17,7 @@ use Rattle.layout.specs.Fields.{known}
 use Rattle.layout.specs.declared.Maker.{Maker}
 use Rattle.layout.specs.declared.Says.{Says}
 use Rattle.layout.specs.declared.Says.the-variants as says
-use Rattle.layout.specs.Families.{Family}
+use Rattle.layout.specs.Families.{Family, sampleBytes}
 use Rattle.layout.specs.Types.{Shape, uncompressed, compressed, listings, among, listingOf, shapeOf, isPing, lengthsOf, saysOf}
 use Rattle.layout.specs.Types.{Length, leastOf, lengthFrom, exactly, upward, upwardOr, free, fitting}
 use Rattle.layout.proofs.Tables.{alike-all, lengths-from}
@@ -164,8 +164,11 @@ module _ {o : Bool} {f : List ℕ} {at n k : ℕ} (h : Here o f at n k) where
     length-by : {q : Shape} → shapeOf k ≡ q → fitting (lengthFrom q) n ≡ true
     length-by e = ap (λ (l : Length). fitting l n) (sym (lengths-from k ∙ ap lengthFrom e)) ∙ g
 
+    pub least-U : (p : Family) → shapeOf k ≡ uncompressed p → 32 + sampleBytes p ≤ n
+    least-U p e = plain-least p n (length-by e)
+
     pub long-U : (p : Family) → shapeOf k ≡ uncompressed p → 36 ≤ n
-    long-U p e = omega (arith, plain-least p n (length-by e), some-sample-bytes p)
+    long-U p e = omega (arith, least-U p e, some-sample-bytes p)
 
     pub long-C : (p : Family) → shapeOf k ≡ compressed p → 40 ≤ n
     long-C p e = upward-least 40 n _ (length-by e)

@@ -88,7 +88,14 @@ enum Turned {
 }
 
 // 7, then 9 and 8, of the tuple at a place.
-fn judge_head(file: &[u8], at: usize, msb: bool, whole: usize, code: u16, first: bool) -> Verdict
+pub fn judge_head(
+    file: &[u8],
+    at: usize,
+    msb: bool,
+    whole: usize,
+    code: u16,
+    first: bool,
+) -> Verdict
     requires { ⌜ Here msb (now file) at whole code ⌝ }
     ensures { λ r. ⌜ r ≡ headVerdict msb first (tupAt msb (drop at (now (file .entry)))) ⌝ }
 {

@@ -16,7 +16,7 @@ use Rattle.samples.specs.Judging.{anyBad}
 use Rattle.samples.proofs.Words.{wordsFrom}
 use Rattle.samples.proofs.Judging.{values-cons, bad-cons}
 
-drop-take : (m j : ℕ) (l : List ℕ) → drop m (take (m + j) l) ≡ take j (drop m l)
+pub drop-take : (m j : ℕ) (l : List ℕ) → drop m (take (m + j) l) ≡ take j (drop m l)
 drop-take zero j l = rw zero-add
 drop-take (suc m) j [] = rw (suc-add, take-nil)
 drop-take (suc m) j (x ∷ l) = rw suc-add (drop-take m j l)

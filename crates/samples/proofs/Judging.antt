@@ -48,11 +48,11 @@ bad-cons f w ws =
 drops-here : (n : ℕ) (x : Sample) (s : List Sample) → x .0 < n → anyDrop n (x ∷ s) ≡ true
 drops-here n x s h = rw (drop-here n x s (lt-leb n (x .0) h)) (lt-ltb 0 (suc (length s)) (omega arith))
 
-drops-later : (n : ℕ) (x : Sample) (s : List Sample) → n ≤ x .0 → anyDrop n (x ∷ s) ≡ anyDrop (x .0 + 1) s
+pub drops-later : (n : ℕ) (x : Sample) (s : List Sample) → n ≤ x .0 → anyDrop n (x ∷ s) ≡ anyDrop (x .0 + 1) s
 drops-later n x s h = one-more _ _ (length s) (drop-later n x s h)
 
 -- behind a number n
-drops-cons : (n : ℕ) (x : Sample) (s : List Sample) → anyDrop (n + 1) (x ∷ s) ≡ (leb (x .0) n || anyDrop (x .0 + 1) s)
+pub drops-cons : (n : ℕ) (x : Sample) (s : List Sample) → anyDrop (n + 1) (x ∷ s) ≡ (leb (x .0) n || anyDrop (x .0 + 1) s)
 drops-cons n x s =
     by-bool (leb (x .0) n)
     (λ e. rw e (drops-here (n + 1) x s (omega (arith, leb-true (x .0) n e))))

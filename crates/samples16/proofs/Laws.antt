@@ -119,7 +119,7 @@ unfolding meant
 value-plain b w e = ap (λ (k : Bool). valueOf k w) (sym e)
 
 -- ---- a space behind words of k bytes: all words but the last are those of all bytes but the last k
-front-words : (k : ℕ) (o : Bool) (n : ℕ) (d : List ℕ) → words k o n d ≡ front (words k o (suc n) d)
+pub front-words : (k : ℕ) (o : Bool) (n : ℕ) (d : List ℕ) → words k o n d ≡ front (words k o (suc n) d)
 unfolding words front
 front-words k o zero d = refl
 front-words k o (suc n) d = ap (λ (l : List ℕ). numOf o (take k d) ∷ l) (front-words k o n (drop k d))

@@ -63,7 +63,7 @@ pub fn run_length(word: u16) -> u16
 }
 
 // The most pattern outside the limits.
-fn most_bad(encoded: bool) -> u16
+pub fn most_bad(encoded: bool) -> u16
     ensures { λ r. ⌜ r ≡ measuresOf (wordsBy encoded) .last ⌝ }
 {
     if encoded { MOST_BAD_ENCODED } else { MOST_BAD }
