@@ -1,5 +1,5 @@
-/* HAC fisheries recordings: checked, walked both ways, linked, read, written and brought to one normal form. The C face of the
-   proved library, for C99 and C++. `host/archive` makes the archive to link with, target/archive/libarchive.a.
+/* HAC fisheries recordings: checked, walked both ways, linked, read, written, brought to one normal form and salvaged. The C face
+   of the proved library, for C99 and C++. `host/archive` makes the archive to link with, target/archive/libarchive.a.
 
    A slice is a pointer and a length in elements. `file` is a whole file, of any bytes; `place` is a byte offset in it. `answer`
    is lent for what a call says: entries 0 to 4 are the code, the place, the number of tuples, the length written and the number
@@ -81,7 +81,8 @@ enum {
    - 17: a sounder's number of channels is the number of channels that name it.
    All four are listed, so none of them gives 18; neither does a ping of any kind.
 
-   21, 22 and 26 are ping writers' alone, 21 and 26 those of C-32, C-16 and CE-16: hac_write_c32 says more. */
+   21, 22 and 26 are ping writers' alone, 21 and 26 those of C-32, C-16 and CE-16: hac_write_c32 says more. 27 is hac_salvage's
+   alone. */
 enum {
     HAC_ACCEPTED = 0,
     HAC_OVER_LIMIT = 1,          /* file over the limit */
@@ -109,8 +110,9 @@ enum {
     HAC_NOT_RISING = 23,         /* sample number not rising */
     HAC_BAD_WORD = 24,           /* word outside the limits */
     HAC_MISCOUNTED = 25,         /* number of samples wrong */
-    HAC_SHORT_LENGTH = 26        /* writer of words: a ping's length under its last sample number plus 2, or 0 where it has
+    HAC_SHORT_LENGTH = 26,       /* writer of words: a ping's length under its last sample number plus 2, or 0 where it has
                                     no samples */
+    HAC_SHORT_TABLE = 27         /* table of ranges too short */
 };
 
 /* ---- type codes of the pings; those of the records stand in hac_records.h: HAC_TYPE_NAVIGATION .. */
@@ -133,7 +135,7 @@ enum {
 enum {
     HAC_CODE = 0,
     HAC_PLACE = 1,
-    HAC_TUPLES = 2,  /* a check, a question and the normaliser: those of the file; a reader and a writer: 1 */
+    HAC_TUPLES = 2,  /* a check, a question and the normaliser: those of the file; a salvage: those kept; a reader, a writer: 1 */
     HAC_LENGTH = 3,  /* bytes or samples written, else 0 */
     HAC_COMPARED = 4 /* hac_check, hac_ask and hac_normalise: identifiers compared, as said above; else 0 */
 };
@@ -189,6 +191,60 @@ enum { HAC_NORMALISE_TUPLE_ENTRIES = 5 };
 
 uint8_t hac_normalise_tuple(const uint8_t *file, size_t length, uint8_t *out, size_t out_length, uint64_t *answer,
     size_t entries);
+
+/* ---- salvage: what is sound of a damaged file, and which of its bytes are lost.
+
+   From HAC_FIRST_PLACE on a tuple is looked for. It is kept where its frame's rules hold (3, 5, 3, 6, as a forward step judges
+   them) and, if its type is listed, its own too (9, 8, 11, 23, 24, 25, as the check judges them). The next one is looked for
+   behind it; where none is kept, 4 bytes further on. `out` gets the mark and the kept tuples, byte for byte and in their order.
+
+   What it doesn't judge:
+   - Nothing between tuples: no links (7, 12, 13, 14, 17), no classes (16), no end of file (4, 15). So hac_check may refuse `out`.
+   - Bytes that happen to look like a tuple are kept, those inside a longer tuple that is damaged too.
+
+   `table` gets HAC_RANGE_NUMBERS entries for each range of kept or of dropped bytes, in file order. Neighbours of one kind are one
+   range, so that kept and dropped ranges alternate. Together they cover the bytes behind the mark once each, and where the last
+   ones are no multiple of 4 these belong to the last dropped range. A file of the mark alone has no range.
+
+   How much to lend: `out` never needs more than `length` bytes, and no file has more than length / 10 + 1 ranges, for a kept one
+   has at least 16 bytes and a dropped one at least 4, but for the file's last.
+
+   Refused, all at 0: 1; 2; 27 where `table_length` is less than HAC_RANGE_NUMBERS for each range; 19 where `out_length` is less
+   than the bytes to write. Elements of both slices past those written stay.
+
+       uint64_t answer[HAC_SALVAGE_ENTRIES];
+       size_t room = HAC_RANGE_NUMBERS * (length / 10 + 1);
+       size_t *table = (size_t *)malloc(room * sizeof *table);
+       uint8_t *out = (uint8_t *)malloc(length + 1);
+       if (table != NULL && out != NULL
+           && hac_salvage(file, length, out, length, table, room, answer, HAC_SALVAGE_ENTRIES) == HAC_ACCEPTED) {
+           for (size_t i = 0; i < answer[HAC_SALVAGE_RANGES]; i++) {
+               const size_t *range = table + HAC_RANGE_NUMBERS * i;
+               if (range[HAC_RANGE_KEPT] == 0)
+                   printf("lost: %lu to %lu\n", (unsigned long)range[HAC_RANGE_FROM], (unsigned long)range[HAC_RANGE_TO]);
+           }
+           fwrite(out, 1, (size_t)answer[HAC_LENGTH], to);
+       }
+       free(out);
+       free(table);
+*/
+enum { HAC_SALVAGE_ENTRIES = 7 };
+
+enum {
+    HAC_SALVAGE_RANGES = 5, /* how many ranges there are */
+    HAC_SALVAGE_TRIED = 6   /* how many places below the file's length a tuple was looked for at; at most length / 4 + 1 */
+};
+
+/* The entries of a range in `table`. */
+enum {
+    HAC_RANGE_KEPT = 0,   /* 1 for kept, 0 for dropped */
+    HAC_RANGE_FROM = 1,   /* the place of its first byte */
+    HAC_RANGE_TO = 2,     /* the place behind its last byte */
+    HAC_RANGE_NUMBERS = 3 /* how many they are */
+};
+
+uint8_t hac_salvage(const uint8_t *file, size_t length, uint8_t *out, size_t out_length, size_t *table, size_t table_length,
+    uint64_t *answer, size_t entries);
 
 /* ---- pings, of seven kinds
 

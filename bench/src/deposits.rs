@@ -23,6 +23,10 @@ const GROWING_LIMIT: usize = FILE_LIMIT / 4 * 3;
 const SOME_CHANNELS: u16 = 64;
 const MOST_CHANNELS: u16 = CHANNEL_LIMIT as u16;
 
+/// The blocks of disks, of which one in so many is damaged.
+const BLOCKS: [usize; 2] = [512, 4096];
+const SOUND_BLOCKS: u32 = 50;
+
 /// Small deposits are told in these bytes.
 const KIB: usize = 1 << 10;
 
@@ -37,14 +41,14 @@ const FEW_WORDS: u32 = 20;
 
 /// Where in a ping its type stands and its header ends; the bytes behind its samples, and
 /// of a tuple's frame.
-const TYPE_AT: usize = 4;
+pub const TYPE_AT: usize = 4;
 const HEADER_END: usize = 24;
-const TAIL: usize = 8;
-const FRAME: usize = 10;
+pub const TAIL: usize = 8;
+pub const FRAME: usize = 10;
 
 /// The bytes of the two widths of numbers.
-const TWO: usize = 2;
-const FOUR: usize = 4;
+pub const TWO: usize = 2;
+pub const FOUR: usize = 4;
 
 /// A kind of ping that numbers its samples: its type, and the widths of a sample's number
 /// and of its value, or of its two angles.
@@ -69,26 +73,26 @@ const U16_ANGLES: Listed = Listed {
 /// A kind of ping of words: its type, the width of a word, the word of a run of 1, and
 /// how many values from 0 on have words.
 #[derive(Clone, Copy)]
-struct Packed {
-    code: u16,
-    width: usize,
-    shortest_run: u32,
+pub struct Packed {
+    pub code: u16,
+    pub width: usize,
+    pub shortest_run: u32,
     values: u32,
 }
 
-const C32: Packed = Packed {
+pub const C32: Packed = Packed {
     code: 10010,
     width: FOUR,
     shortest_run: 0xFFFF_0000,
     values: 1 << 28,
 };
-const C16: Packed = Packed {
+pub const C16: Packed = Packed {
     code: 10040,
     width: TWO,
     shortest_run: 0xFF00,
     values: 0x7F00,
 };
-const CE16: Packed = Packed { code: 10050, ..C16 };
+pub const CE16: Packed = Packed { code: 10050, ..C16 };
 
 /// A deposit: what it is of, its bytes, and whether it is taken.
 pub struct Deposit {
@@ -231,7 +235,7 @@ fn number_bytes(order: Order, width: usize, number: u32) -> Vec<u8> {
 }
 
 /// A number, put at a place.
-fn put(order: Order, tuple: &mut [u8], at: usize, width: usize, number: u32) {
+pub fn put(order: Order, tuple: &mut [u8], at: usize, width: usize, number: u32) {
     tuple[at..at + width].copy_from_slice(&number_bytes(order, width, number));
 }
 
@@ -398,10 +402,10 @@ fn layers(chance: &mut Chance) -> (Vec<u32>, Vec<i32>) {
 
 /// A cruise as deposits look: pings in turn over three channels, U-32 and C-32
 /// by turns, and behind each round a position, a navigation or an attitude.
-fn cruise(order: Order) -> Result<Vec<u8>, Refusal> {
+fn cruise(order: Order, limit: usize) -> Result<Vec<u8>, Refusal> {
     let mut chance = Chance(98765);
     let round = u32::from(CRUISE_CHANNELS) + 1;
-    Draft::new(order, CRUISE_CHANNELS)?.fill(GROWING_LIMIT, |order, count, tuple| {
+    Draft::new(order, CRUISE_CHANNELS)?.fill(limit, |order, count, tuple| {
         let turn = (count % round) as u16;
         if turn < CRUISE_CHANNELS {
             let (numbers, values) = layers(&mut chance);
@@ -422,6 +426,37 @@ fn cruise(order: Order) -> Result<Vec<u8>, Refusal> {
             .write(order, tuple),
         }
     })
+}
+
+/// A sound cruise of some length, for salvage, in either order.
+pub fn sound_lsb(limit: usize) -> Result<Vec<u8>, Refusal> {
+    cruise(Order::Lsb, limit)
+}
+
+pub fn sound_msb(limit: usize) -> Result<Vec<u8>, Refusal> {
+    cruise(Order::Msb, limit)
+}
+
+/// The cruise from a disk that lost one block in some tens, of either size.
+pub fn zeroed(limit: usize) -> Result<Vec<u8>, Refusal> {
+    let mut bytes = cruise(Order::Lsb, limit)?;
+    let mut chance = Chance(13579);
+    for size in BLOCKS {
+        // the first block has the mark
+        for block in bytes.chunks_mut(size).skip(1) {
+            if chance.next().is_multiple_of(SOUND_BLOCKS) {
+                block.fill(0);
+            }
+        }
+    }
+    Ok(bytes)
+}
+
+/// A mark, and anything behind it.
+pub fn rubbish(limit: usize) -> Vec<u8> {
+    let mut chance = Chance(97531);
+    let words = (1..limit / FOUR).flat_map(|_| chance.next().to_le_bytes());
+    Order::Lsb.mark().into_iter().chain(words).collect()
 }
 
 /// Pings of one sample, the shortest there are, so that linking them weighs the
@@ -596,8 +631,8 @@ pub fn long() -> Result<Vec<Deposit>, Refusal> {
         ("C-32 pings, long runs", LONG_RUNS.pings(Order::Lsb)?),
         ("U-32 pings, LSB", pairs(Order::Lsb)?),
         ("U-32 pings, MSB", pairs(Order::Msb)?),
-        ("mixed cruise, LSB", cruise(Order::Lsb)?),
-        ("mixed cruise, MSB", cruise(Order::Msb)?),
+        ("mixed cruise, LSB", cruise(Order::Lsb, GROWING_LIMIT)?),
+        ("mixed cruise, MSB", cruise(Order::Msb, GROWING_LIMIT)?),
     ]);
     long.push(Deposit {
         name: "refused at the last tuple",

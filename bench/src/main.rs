@@ -3,11 +3,14 @@
 //! files, the proved library's beside the second program's and beside a plain copy of
 //! the same bytes, and reading one record, in one run; with `records`, the last alone;
 //! with `count`, counts the instructions of the calls on deposits, but for the short
-//! pings. docs/SPEED.md says what was measured, and how.
+//! pings; with `salvage`, times salvage of sound, damaged and crafted files. docs/SPEED.md
+//! says what was measured, and how.
 
 mod count;
+mod crafted;
 mod deposits;
 mod records;
+mod salvage;
 
 use deposits::Deposit;
 use hac::{Refusal, FILE_LIMIT};
@@ -164,6 +167,10 @@ fn main() -> Result<(), String> {
         ["count"] => count::show(),
         ["once", call, path] => count::once(call, path),
         ["records"] => records::show(),
-        _ => Err(format!("bench [count | records], not {}", words.join(" "))),
+        ["salvage"] => salvage::show(),
+        _ => Err(format!(
+            "bench [count | records | salvage], not {}",
+            words.join(" ")
+        )),
     }
 }

@@ -27,6 +27,9 @@ const HALF: usize = 2;
 pub const FILLED: u32 = u32::from_ne_bytes([FILL; WORD]);
 pub const HALF_FILLED: u16 = u16::from_ne_bytes([FILL; HALF]);
 
+/// What an entry of a table does.
+pub const ENTRY_FILLED: usize = usize::from_ne_bytes([FILL; ENTRY]);
+
 /// Bytes behind lent memory, which no call may touch.
 const GUARD: usize = 8;
 
@@ -236,6 +239,10 @@ impl Batch {
         self.lend_bytes(&half_bytes(left), HALF)
     }
 
+    pub fn lend_entries(&mut self, left: &[usize]) -> Arg {
+        self.lend_bytes(&entry_bytes(left), ENTRY)
+    }
+
     /// Words to read from, and halves of them.
     pub fn give_words(&mut self, words: &[u32]) -> Arg {
         self.give(&word_bytes(words)).of(WORD).into()
@@ -324,6 +331,11 @@ impl Batch {
     /// Notes what was done with a ping.
     pub fn met_ping(&mut self, deed: Deed, kind: PingKind, has_length: bool) {
         self.tally.met_ping(deed, kind, has_length);
+    }
+
+    /// Notes what salvage met.
+    pub fn met_in_salvage(&mut self, what: String) {
+        self.tally.met_in_salvage(what);
     }
 
     /// Notes that a channel of this maker named a sounder of the other.
@@ -433,6 +445,13 @@ fn word_bytes(words: &[u32]) -> Vec<u8> {
 
 fn half_bytes(halves: &[u16]) -> Vec<u8> {
     halves.iter().flat_map(|half| half.to_le_bytes()).collect()
+}
+
+fn entry_bytes(entries: &[usize]) -> Vec<u8> {
+    entries
+        .iter()
+        .flat_map(|entry| entry.to_le_bytes())
+        .collect()
 }
 
 /// The entries that bytes hold.

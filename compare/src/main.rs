@@ -19,6 +19,7 @@ mod lists;
 mod pings;
 mod records;
 mod runner;
+mod salvage;
 mod tally;
 mod writing;
 

@@ -1,15 +1,17 @@
 //! What was compared: how often each export was called, which codes it gave, how
-//! many identifiers it told as compared, which records were met and which files.
+//! many identifiers it told as compared, which records were met and which files, and
+//! what salvage met in these.
 
 use crate::exports::{Export, EXPORTS};
 use crate::kinds::KINDS;
+use crate::salvage;
 use second::kinds::{Kind, KINDS as PING_KINDS};
 use second::layout::{CHANNEL_LIMIT, FILE_LIMIT};
 use second::{Maker, Order, PingKind};
 use std::collections::BTreeMap;
 
 /// The codes of 01 and 02, and 0 for acceptance.
-const CODES: usize = 27;
+const CODES: usize = 28;
 
 /// The most identifiers that one search compares. Only a number above it shows
 /// that searches among many were added up.
@@ -147,6 +149,8 @@ pub struct Tally {
     other_maker: [u64; 2],
     /// In the order of the kinds of ping.
     pings: [Pings; PING_KINDS.len()],
+    /// What salvage met, and how often.
+    salvage: BTreeMap<String, u64>,
     pub cases: u64,
     files: u64,
     bytes: u64,
@@ -161,6 +165,7 @@ impl Default for Tally {
             marked: Default::default(),
             other_maker: [0; 2],
             pings: Default::default(),
+            salvage: BTreeMap::new(),
             cases: 0,
             files: 0,
             bytes: 0,
@@ -200,6 +205,11 @@ impl Tally {
     /// Counts what was done with a ping.
     pub fn met_ping(&mut self, deed: Deed, kind: PingKind, has_length: bool) {
         self.pings[kind as usize][deed as usize][usize::from(has_length)] += 1;
+    }
+
+    /// Counts what salvage met.
+    pub fn met_in_salvage(&mut self, what: String) {
+        *self.salvage.entry(what).or_default() += 1;
     }
 
     /// Of each kind of ping and each deed how often it was done, without a length and with
@@ -257,6 +267,9 @@ impl Tally {
         for (sum, times) in self.other_maker.iter_mut().zip(other.other_maker) {
             *sum += times;
         }
+        for (what, times) in &other.salvage {
+            *self.salvage.entry(what.clone()).or_default() += times;
+        }
         let sums = self.pings.as_flattened_mut().as_flattened_mut();
         for (sum, times) in sums
             .iter_mut()
@@ -268,7 +281,7 @@ impl Tally {
 
     /// In words, a line each: cases and files; each export's calls with the codes
     /// that they gave and the identifiers compared; the records; the channels that
-    /// named a sounder of the other maker; the pings of each kind.
+    /// named a sounder of the other maker; the pings of each kind; what salvage met.
     pub fn tell(&self) -> Vec<String> {
         let [lsb, msb] = &self.marked;
         let calls: u64 = self.exports.iter().map(Count::calls).sum();
@@ -310,6 +323,9 @@ impl Tally {
             };
             lines.push(format!("{name} {what} {}{lengths}", without + with));
         }
+        let met = self.salvage.iter();
+        let met: Vec<String> = met.map(|(what, times)| format!("{what} {times}")).collect();
+        lines.push(format!("salvage met {}", met.join("; ")));
         lines
     }
 
@@ -354,7 +370,8 @@ impl Tally {
 
     /// What was not compared: codes that no call gave; what an export or a record
     /// never did; files at the limit and past it in either order; a sounder of the
-    /// other maker named by a channel of either; pings of each kind.
+    /// other maker named by a channel of either; pings of each kind; what salvage has to
+    /// meet.
     pub fn missing(&self, given: &[Given]) -> Vec<String> {
         let mut missing = Vec::new();
         for (export, count) in EXPORTS.iter().zip(&self.exports) {
@@ -391,6 +408,9 @@ impl Tally {
                 }
             }
         }
+        let wanted = salvage::wanted().into_iter();
+        let never = wanted.filter(|what| !self.salvage.contains_key(what));
+        missing.extend(never.map(|what| format!("salvage never met {what}")));
         missing
     }
 }

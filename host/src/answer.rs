@@ -7,7 +7,7 @@ use std::fmt;
 macro_rules! codes {
     ($($number:literal $code:ident $words:literal)*) => {
         /// The rule that was broken. Document 01 has them in a table; 02 put 23, 24 and
-        /// 25 in the place of 10, which is no longer given, and added 26.
+        /// 25 in the place of 10, which is no longer given, and added 26 and 27.
         #[derive(Clone, Copy, Debug, PartialEq, Eq, PartialOrd, Ord, Hash)]
         pub enum Code {
             $(#[doc = concat!(stringify!($number), ": ", $words, ".")] $code = $number,)*
@@ -61,6 +61,7 @@ codes! {
     24 BadWord "word outside the limits"
     25 Miscounted "number of samples wrong"
     26 ShortLength "writer of words: a ping's length under its last sample number plus 2, or 0 where it has no samples"
+    27 ShortTable "table of ranges too short"
 }
 
 impl Code {
@@ -99,15 +100,15 @@ mod tests {
     use super::*;
 
     #[test]
-    fn numbers_run_from_1_to_26_without_10() {
+    fn numbers_run_from_1_to_27_without_10() {
         let numbers: Vec<u8> = Code::ALL.iter().map(|code| code.number()).collect();
-        assert_eq!(numbers, (1..=9).chain(11..=26).collect::<Vec<u8>>());
+        assert_eq!(numbers, (1..=9).chain(11..=27).collect::<Vec<u8>>());
         for &code in Code::ALL {
             assert_eq!(Code::of(code.number()), Some(code));
         }
         assert_eq!(Code::of(0), None);
         assert_eq!(Code::of(10), None);
-        assert_eq!(Code::of(27), None);
+        assert_eq!(Code::of(28), None);
     }
 
     #[test]

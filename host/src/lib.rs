@@ -1,11 +1,11 @@
-//! HAC fisheries recordings: checked, walked both ways, linked, read, written
-//! and brought to one normal form, by the proved library.
+//! HAC fisheries recordings: checked, walked both ways, linked, read, written,
+//! brought to one normal form and salvaged, by the proved library.
 //!
 //! A file is a slice of bytes and may hold anything; a place is a byte offset
 //! in it. Every call accepts, or gives a [`Refusal`]: the first rule broken, in
-//! document 01's order, in which 02's codes follow, 23 to 25 in the place of 10 and
-//! 26 behind 21. A refused call leaves lent memory as it was; an accepted one leaves
-//! what stands past what it wrote.
+//! document 01's order, in which 02's codes follow, 23 to 25 in the place of 10,
+//! 26 behind 21, 27 before 19. A refused call leaves lent memory as it was; an
+//! accepted one leaves what stands past what it wrote.
 //!
 //! ```
 //! use hac::{Navigation, Order};
@@ -47,6 +47,7 @@ mod header;
 mod normal;
 mod ping;
 mod record;
+mod salvage;
 pub mod types;
 mod walk;
 mod wrong;
@@ -58,6 +59,7 @@ pub use file::*;
 pub use normal::*;
 pub use ping::*;
 pub use record::*;
+pub use salvage::*;
 pub use types::Maker;
 pub use walk::*;
 pub use wrong::*;

@@ -20,6 +20,7 @@ mod pings;
 mod progress;
 mod records;
 mod room;
+mod salvage;
 mod streams;
 mod walk;
 mod wrong;

@@ -12,7 +12,7 @@ fn help_and_version() {
     ] {
         let ran = run(&mut hac(arguments));
         assert_eq!((ran.status, ran.err.as_str()), (0, ""));
-        for command in ["check", "normal", "walk", "parents", "samples"] {
+        for command in ["check", "normal", "salvage", "walk", "parents", "samples"] {
             assert!(ran.out.contains(&format!("hac {command} ")), "{command}");
         }
     }
@@ -22,14 +22,19 @@ fn help_and_version() {
 }
 
 /// Bad use: status 2, one line on standard error, and nothing is done.
+fn is_bad_use(room: &Room, arguments: &[&str]) {
+    let ran = run(hac(arguments).current_dir(room.path()));
+    assert_eq!((ran.status, ran.out.as_str()), (2, ""), "{arguments:?}");
+    assert!(ran.err.starts_with("hac: ") && ran.err.lines().count() == 1);
+    assert_eq!(room.names(), Vec::<String>::new());
+}
+
 #[test]
 fn bad_use() {
     let room = Room::new();
     let known = Known::sample("cruise-lsb");
     let file = known.path.to_str().expect("a plain name");
-    let out = room.at("out.hac");
-    let out = out.to_str().expect("a plain name");
-    let uses: [&[&str]; 22] = [
+    let uses: [&[&str]; 16] = [
         &[],
         &["judge"],
         &["judge", file],
@@ -37,16 +42,10 @@ fn bad_use() {
         &["check", "-", "-"],
         &["check", "--fast", file],
         &["check", "--back", file],
-        &["check", "-o", out, file],
+        &["check", "-o", "out.hac", file],
         &["walk"],
         &["walk", file, file],
         &["walk", "-x"],
-        &["normal", file],
-        &["normal", file, "-o"],
-        &["normal", file, "-o", out, "-o", out],
-        &["normal", "-o", out],
-        &["normal", file, file, "-o", out],
-        &["normal", file, "-o", "-"],
         &["parents", file],
         &["parents", file, "here"],
         &["samples", file, "-1"],
@@ -54,10 +53,31 @@ fn bad_use() {
         &["samples", file, "18446744073709551616"],
     ];
     for arguments in uses {
-        let ran = run(hac(arguments).current_dir(room.path()));
-        assert_eq!((ran.status, ran.out.as_str()), (2, ""), "{arguments:?}");
-        assert!(ran.err.starts_with("hac: ") && ran.err.lines().count() == 1);
-        assert_eq!(room.names(), Vec::<String>::new());
+        is_bad_use(&room, arguments);
+    }
+}
+
+/// The same of the commands that write a file.
+#[test]
+fn bad_use_of_out() {
+    let room = Room::new();
+    let known = Known::sample("cruise-lsb");
+    let file = known.path.to_str().expect("a plain name");
+    let out = room.at("out.hac");
+    let out = out.to_str().expect("a plain name");
+    let uses: [&[&str]; 7] = [
+        &[file],
+        &[file, "-o"],
+        &[file, "-o", out, "-o", out],
+        &["-o", out],
+        &[file, file, "-o", out],
+        &[file, "-o", "-"],
+        &[file, "-o", out, "--back"],
+    ];
+    for command in ["normal", "salvage"] {
+        for arguments in uses {
+            is_bad_use(&room, &[&[command], arguments].concat());
+        }
     }
 }
 
@@ -68,7 +88,7 @@ fn no_files() {
     let folder = room.path().to_str().expect("a plain name");
     let none = room.at("none.hac");
     let none = none.to_str().expect("a plain name");
-    let uses: [&[&str]; 7] = [
+    let uses: [&[&str]; 9] = [
         &["check", none],
         &["walk", folder],
         &["walk", none],
@@ -76,6 +96,8 @@ fn no_files() {
         &["samples", folder, "4"],
         &["normal", none, "-o", "out.hac"],
         &["normal", folder, "-o", "out.hac"],
+        &["salvage", none, "-o", "out.hac"],
+        &["salvage", folder, "-o", "out.hac"],
     ];
     for arguments in uses {
         let ran = run(hac(arguments).current_dir(room.path()));

@@ -45,31 +45,44 @@ fn the_header_alone() {
     }
 }
 
-/// The example of the header's top comment, set in deeper than the rest of it.
-#[test]
-fn the_example() {
+/// The example of the header's comment that shows a call: what is set in deeper than the
+/// rest of it.
+fn example_of(call: &str) -> String {
     let header = std::fs::read_to_string(repository("include/hac.h")).expect("the header");
-    let (comment, _) = header.split_once("*/").expect("a comment");
-    let example: String = comment
-        .lines()
-        .filter_map(|line| line.strip_prefix("       "))
-        .map(|line| format!("{line}\n"))
-        .collect();
-    for call in ["check", "forward", "read_record", "write_record"] {
-        assert!(example.contains(&format!("hac_{call}(")), "{call}");
+    let mut examples = header.split("/*").skip(1).map(|rest| -> String {
+        let (comment, _) = rest.split_once("*/").expect("a comment's end");
+        let lines = comment.lines();
+        let lines = lines.filter_map(|line| line.strip_prefix("       "));
+        lines.map(|line| format!("{line}\n")).collect()
+    });
+    let shows = |example: &String| example.contains(&format!("hac_{call}("));
+    examples.find(shows).expect("an example")
+}
+
+/// Both examples, as a function that is handed what they need.
+#[test]
+fn the_examples() {
+    let first = example_of("check");
+    for call in ["forward", "read_record", "write_record"] {
+        assert!(first.contains(&format!("hac_{call}(")), "{call}");
     }
-    let room = Room::new();
-    let source = format!(
-        "#include \"hac.h\"\n#include <stdio.h>\n\
-         void example(const uint8_t *file, size_t length);\n\
-         void example(const uint8_t *file, size_t length) {{\n{example}}}\n"
-    );
-    let path = room.put("example.c", source.as_bytes());
-    let mut command = Command::new("cc");
-    command
-        .args(STRICT)
-        .args(["-std=c99", "-fsyntax-only", "-I"]);
-    compile(command.arg(repository("include")).arg(path));
+    let file = "const uint8_t *file, size_t length";
+    for (example, handed) in [
+        (first, file.to_string()),
+        (example_of("salvage"), format!("{file}, FILE *to")),
+    ] {
+        let source = format!(
+            "#include \"hac.h\"\n#include <stdio.h>\n#include <stdlib.h>\n\
+             void example({handed});\nvoid example({handed}) {{\n{example}}}\n"
+        );
+        let room = Room::new();
+        let path = room.put("example.c", source.as_bytes());
+        let mut command = Command::new("cc");
+        command
+            .args(STRICT)
+            .args(["-std=c99", "-fsyntax-only", "-I"]);
+        compile(command.arg(repository("include")).arg(path));
+    }
 }
 
 /// Compiles a C program of this folder and links the archive.
@@ -268,6 +281,28 @@ const KINDS: [&str; 8] = [
 #[test]
 fn kinds() {
     prints("kinds", &KINDS);
+}
+
+/// What salvage.c prints: of a signature, four bytes, a navigation whose backlink is gone,
+/// another and three bytes the ranges that 02 gives, and the output. Places tried: the two
+/// tuples, the four bytes, the seven words of the damaged one, and the last.
+const SALVAGE: [&str; 9] = [
+    "kept 4 to 28",
+    "dropped 28 to 60",
+    "kept 60 to 88",
+    "dropped 88 to 91",
+    "tuples 2, length 56, compared 0, ranges 4, tried 11",
+    "000000ac 0000000e ffff acac 0000 0000 00000000 00000000 00000018 \
+     00000012 001e 0000 00000000 0000 0000 0000 0000 00000000 0000001c",
+    "refused 27 at 0, nothing written",
+    "refused 19 at 0, nothing written",
+    "refused 2 at 0, nothing written",
+];
+
+/// A damaged file salvaged in C, with what the header says to lend, and with less.
+#[test]
+fn salvage() {
+    prints("salvage", &SALVAGE);
 }
 
 fn hexadecimal(bytes: &[u8]) -> String {

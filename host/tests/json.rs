@@ -7,7 +7,10 @@ use std::str::Chars;
 pub enum Value {
     Null,
     Number(i128),
+    /// A number with a point, as it is spelled.
+    Decimal(String),
     Text(String),
+    List(Vec<Value>),
     Object(Vec<(String, Value)>),
 }
 
@@ -43,6 +46,13 @@ impl Value {
         }
     }
 
+    pub fn list(&self, key: &str) -> &[Value] {
+        match self.get(key) {
+            Value::List(values) => values,
+            other => panic!("no list: {other:?}"),
+        }
+    }
+
     /// The names of an object's members, in their order.
     pub fn keys(&self) -> Vec<&str> {
         match self {
@@ -74,6 +84,7 @@ fn value(rest: &mut Rest) -> Value {
     match rest.peek() {
         Some('"') => Value::Text(text(rest)),
         Some('{') => object(rest),
+        Some('[') => list(rest),
         Some('n') => null(rest),
         _ => number(rest),
     }
@@ -82,6 +93,19 @@ fn value(rest: &mut Rest) -> Value {
 fn null(rest: &mut Rest) -> Value {
     "null".chars().for_each(|c| expect(rest, c));
     Value::Null
+}
+
+fn list(rest: &mut Rest) -> Value {
+    expect(rest, '[');
+    let mut values = Vec::new();
+    while rest.peek() != Some(&']') {
+        if !values.is_empty() {
+            expect(rest, ',');
+        }
+        values.push(value(rest));
+    }
+    expect(rest, ']');
+    Value::List(values)
 }
 
 fn object(rest: &mut Rest) -> Value {
@@ -102,8 +126,13 @@ fn object(rest: &mut Rest) -> Value {
 
 fn number(rest: &mut Rest) -> Value {
     let mut digits = String::new();
-    while let Some(c) = rest.next_if(|c| c.is_ascii_digit() || *c == '-') {
+    while let Some(c) = rest.next_if(|c| c.is_ascii_digit() || "-.".contains(*c)) {
         digits.push(c);
+    }
+    if let Some((whole, decimals)) = digits.split_once('.') {
+        let both = [whole, decimals].map(|part| part.parse::<u32>().is_ok());
+        assert_eq!(both, [true, true], "digits on both sides of a point");
+        return Value::Decimal(digits);
     }
     let number: i128 = digits.parse().expect("a number");
     assert_eq!(number.to_string(), digits, "a number has one spelling");

@@ -12,7 +12,7 @@ use hac::*;
 use std::slice;
 
 /// The survey that has all of them, and its normal form.
-const SPELLINGS: [&str; 2] = ["encodings-lsb", "encodings-msb"];
+pub const SPELLINGS: [&str; 2] = ["encodings-lsb", "encodings-msb"];
 const NORMAL: &str = "encodings-normal";
 
 /// The shortest and the longest run of two bytes.

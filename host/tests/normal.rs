@@ -11,7 +11,7 @@ use std::os::unix::fs::{symlink, FileTypeExt};
 use std::path::Path;
 use std::process::{Command, Stdio};
 
-fn refused<T>(code: Code, place: usize) -> Result<T, Refusal> {
+pub fn refused<T>(code: Code, place: usize) -> Result<T, Refusal> {
     Err(Refusal { code, place })
 }
 

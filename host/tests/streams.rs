@@ -43,6 +43,9 @@ fn standard_input() {
     assert_eq!(fed(&["normal", "-", "-o", path], &known.bytes).status, 0);
     assert_eq!(fs::read(&out).expect("OUT"), Known::sample(NORMAL).bytes);
 
+    assert_eq!(fed(&["salvage", "-", "-o", path], &known.bytes).status, 0);
+    assert_eq!(fs::read(&out).expect("OUT"), known.bytes);
+
     let ran = fed(&["check", "--", "-"], &[]);
     let line = format!("-: refused, {}, at 0\n", Code::NoMark);
     assert_eq!((ran.status, ran.out), (1, line));

@@ -217,7 +217,9 @@ impl Layout {
     pub fn fits(&self, length: u64) -> bool {
         match self.lengths {
             Lengths::Exactly(exact) => length == exact,
-            Lengths::From { least, step } => length >= least && (length - least) % step == 0,
+            Lengths::From { least, step } => {
+                length >= least && (length - least).is_multiple_of(step)
+            }
             Lengths::Ping(kind) => kind.row().fits(length),
         }
     }
@@ -225,7 +227,7 @@ impl Layout {
 
 /// The lengths that any tuple may have.
 pub fn length_allowed(length: u64) -> bool {
-    length % 4 == 0 && (TUPLE_LEAST..=TUPLE_LIMIT).contains(&length)
+    length.is_multiple_of(4) && (TUPLE_LEAST..=TUPLE_LIMIT).contains(&length)
 }
 
 #[derive(Clone, Copy, PartialEq, Eq, Debug)]

@@ -21,7 +21,8 @@ fn digit(character: u8) -> Option<u8> {
 /// Appends a line's bytes; none where it is empty, odd, not hexadecimal or
 /// passes the limit.
 fn decode_line(line: &[u8], bytes: &mut Vec<u8>) -> Option<()> {
-    if line.is_empty() || line.len() % 2 != 0 || line.len() / 2 > BYTE_LIMIT - bytes.len() {
+    if line.is_empty() || !line.len().is_multiple_of(2) || line.len() / 2 > BYTE_LIMIT - bytes.len()
+    {
         return None;
     }
     for pair in line.chunks_exact(2) {

@@ -69,11 +69,11 @@ number!(
 
 /// The tuple of a listed type that a reader asks for: the step's refusals
 /// (3 at the end), 9 for another type, 9 for an unfit length, then 8.
-pub(crate) fn listed_tuple<'a>(
-    file: &'a [u8],
+pub(crate) fn listed_tuple(
+    file: &[u8],
     place: u64,
     asked: impl Fn(u16) -> bool,
-) -> Result<(&'a [u8], u16, Order), Answer> {
+) -> Result<(&[u8], u16, Order), Answer> {
     let order = mark(file).map_err(|code| Answer::refused(code, place))?;
     let tuple = match forward(file, place) {
         Step::Tuple { tuple, .. } => tuple,
@@ -410,7 +410,7 @@ impl EventMarker<'_> {
     /// bytes, then 19.
     pub fn write(&self, order: Order, out: &mut [u8]) -> Answer {
         let text = self.text.len() as u64;
-        if text % 4 != 0 || text < 4 {
+        if !text.is_multiple_of(4) || text < 4 {
             return Answer::refused(9, 0);
         }
         if text > TUPLE_LIMIT - 20 {

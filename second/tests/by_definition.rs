@@ -5,7 +5,7 @@
 
 mod common;
 
-use common::{count, sample_faults, seed, Faults, File, PINGS};
+use common::{count, seed, tuple_faults, Faults, File, PINGS};
 use second::gen::{
     fault, limit, limit_count, noise, random_damage, sound_case, two_faults, Case, Kind, Rng,
     FAULT_KINDS, LONG_KIND,
@@ -29,47 +29,6 @@ struct Known {
     codes: Vec<u64>,
     /// The identifiers compared.
     compared: u64,
-}
-
-/// Lengths by 01's table and the readings, by TR's Tables 3 and 5 and request f's table.
-fn suits(code: u64, length: u64) -> bool {
-    match code {
-        65535 => length == 24,
-        100 => length == 72,
-        200 => length == 80,
-        1000 | 2000 => length == 108,
-        20 | 40 => length == 36,
-        30 => length == 28,
-        10100 => length == 44,
-        65516 | 65517 => length == 20,
-        10110 | 65534 => length >= 24,
-        10000 | 10001 => length >= 40 && length % 8 == 0,
-        10030 => length >= 36,
-        10031 => length >= 40 && [0, 8].contains(&((length - 32) % 12)),
-        10010 | 10040 | 10050 => length >= 40,
-        _ => true,
-    }
-}
-
-fn frame_faults(file: &File, at: usize) -> Faults {
-    let mut faults = Faults::new();
-    let left = (file.bytes.len() - at) as u64;
-    let length = file.number(at, 4) + 10;
-    if left == 0 {
-        faults.insert("4", at);
-    }
-    if left < 16 {
-        faults.insert("3 short", at);
-    }
-    if length < 16 || length > 262_144 || length & 3 != 0 {
-        faults.insert("5", at);
-    }
-    if length > left {
-        faults.insert("3 end", at);
-    } else if length >= 4 && file.number(at + length as usize - 4, 4) != length {
-        faults.insert("6", at);
-    }
-    faults
 }
 
 /// Pings, thresholds and attitudes do.
@@ -120,23 +79,12 @@ fn link_faults(file: &File, at: usize, code: u64, known: &Known) -> Faults {
 
 /// All faults of the tuple at a place, as far as they can be looked for.
 fn faults(file: &File, at: usize, known: &Known) -> Faults {
-    let mut all = frame_faults(file, at);
+    let mut all = tuple_faults(file, at);
     let code = file.number(at + 4, 2);
-    let length = file.number(at, 4) + 10;
     if (known.tuples == 0) != (code == 65535) {
         all.insert("7", at);
     }
-    if !suits(code, length) {
-        all.insert("9", at);
-    }
-    if code == 65535 && ![44201, 44204].contains(&file.number(at + 6, 2)) {
-        all.insert("8", at);
-    }
     all.extend(link_faults(file, at, code, known));
-    let fits = suits(code, length) && length <= 262_144;
-    if fits && PINGS.contains(&code) {
-        all.extend(sample_faults(file, at));
-    }
     all
 }
 

@@ -284,7 +284,7 @@ fn the_longest_silence() {
 /// One silence as full runs and a remainder, if there is one: the fewest words, this way
 /// round.
 fn full_first(silence: u32) -> Vec<u32> {
-    let rest = (silence % 65_536 > 0).then(|| RUN + silence % 65_536 - 1);
+    let rest = (!silence.is_multiple_of(65_536)).then(|| RUN + silence % 65_536 - 1);
     let mut runs = vec![FULL; (silence / 65_536) as usize];
     runs.extend(rest);
     runs

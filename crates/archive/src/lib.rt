@@ -6,6 +6,7 @@ mod of_files;
 mod of_narrow_writers;
 mod of_pings;
 mod of_records;
+mod of_salvage;
 mod of_wide_writers;
 
 use layout::Answer;

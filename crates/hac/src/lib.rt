@@ -1,4 +1,4 @@
-// HAC files: checked, walked both ways, linked, read, written and brought to one normal form. The whole library under one name.
+// HAC files: checked, walked both ways, linked, read, written, salvaged and brought to one normal form. The whole library under one name.
 //
 // A file is lent as a slice of bytes and may hold anything; a place is a byte offset in it. Every call answers for every argument and
 // asks for nothing. It accepts, or it refuses by one code with a place: the first rule broken, in the order of docs/RULES.md. A refused
@@ -146,3 +146,13 @@ pub use normal::normalise;
 // normalise_tuple(file, out): the normal form of a mark and one tuple, whatever would stand around it: 1, 2; 3, 5, 3, 6, 9, 8, 11
 // at 4; 23, or 24 and 25, at their bytes; 15 for bytes behind it; 18; 19. Promise: `NormalisedTuple`, crates/normal/specs/Single.antt.
 pub use normal::normalise_tuple;
+
+// salvage(file, out, table): what is kept of a damaged recording. From 4 on a tuple is looked for: behind a tuple that is kept, else 4
+// bytes further on. It is kept where 3, 5, 3, 6 hold of its frame and, if its type is listed, its own rules: 9, 8, 11, and 23 or 24, 25.
+// Links, classes and the order of tuples aren't judged. out gets the mark and the kept tuples as they stand; table gets three entries for
+// each range, in file order: 1 for kept or 0 for dropped, the place of its first byte, the place behind its last; neighbours of one kind
+// are one range. Refuses at 0 by 1; 2; 27 where the table has fewer entries than three for each range; 19. Saves with the number of
+// ranges, the offsets tried, and as counts the tuples kept and the bytes written. Promise: `Salvaged`, crates/salvage/specs/Salvage.antt;
+// what it means for the ranges, the output and a second salvage: `Salvages`, crates/salvage/specs/Calls.antt.
+pub use salvage::Outcome;
+pub use salvage::salvage;

@@ -1,13 +1,15 @@
 //! Writes the samples into a folder: `cruise DIR`. They are three made-up surveys, a
 //! cruise in four spellings, the next day's split-beam survey in two, and the day's
 //! behind it in two, whose recorder used the other encodings of pings, each with its
-//! one normal form; each file as lines and as bytes. The same bytes come at every run.
+//! one normal form; and the cruise once more as a damaged disk gives it, with what can
+//! be salvaged of it. Each file as lines and as bytes. The same bytes come at every run.
 
 use second::gen::{frames, render, Body, Draft, Piece, PingStyle, Rng, Style};
 use second::layout::*;
 use second::programs::BYTE_LIMIT;
 use second::walk::{forward, Step};
-use second::{normalise, Family, Order, PingKind};
+use second::{normalise, salvage, Family, Order, PingKind};
+use std::ops::Range;
 use std::path::Path;
 use std::{env, fs, io, process};
 use Piece::{Chars, Four, Identifier, Space, Two};
@@ -38,6 +40,14 @@ const INDEX: u16 = 65406;
 const STREAM: u64 = 25;
 const SPLIT_BEAM_STREAM: u64 = 125;
 const ENCODINGS_STREAM: u64 = 225;
+
+/// What the disk did to the cruise's first spelling: it zeroed some bytes, the end of one
+/// ping and the head of the next, and turned a bit in the third sample number of another.
+const ZEROED: Range<usize> = 896..960;
+const TURNED: (usize, u8) = (1124, 0x08);
+
+/// The tuples that this costs, counted from 0.
+const LOST: [usize; 3] = [15, 16, 19];
 
 /// A signed field's bits.
 fn signed(number: i16) -> Piece {
@@ -558,10 +568,10 @@ fn ping_types(file: &[u8]) -> Vec<u16> {
     types
 }
 
-fn write_both(dir: &Path, survey: &Survey, name: &str, file: &[u8]) -> io::Result<()> {
+fn write_both(dir: &Path, of: &str, name: &str, file: &[u8]) -> io::Result<()> {
     let lines = frames(file).join("\n") + "\n";
-    fs::write(dir.join(format!("{}-{name}.hex", survey.name)), lines)?;
-    fs::write(dir.join(format!("{}-{name}.hac", survey.name)), file)
+    fs::write(dir.join(format!("{of}-{name}.hex")), lines)?;
+    fs::write(dir.join(format!("{of}-{name}.hac")), file)
 }
 
 /// Writes a survey's files. Its plain spelling is its normal form, by the encoder of the
@@ -573,7 +583,7 @@ fn write_survey(dir: &Path, survey: &Survey) -> io::Result<()> {
     if normal_form(&normal)? != normal {
         return Err(io::Error::other(survey.name));
     }
-    write_both(dir, survey, "normal", &normal)?;
+    write_both(dir, survey.name, "normal", &normal)?;
     let mut types = Vec::new();
     for (spelling, stream) in survey.spellings.iter().zip(survey.stream..) {
         let file = spell(survey, spelling, stream);
@@ -581,12 +591,42 @@ fn write_survey(dir: &Path, survey: &Survey) -> io::Result<()> {
             return Err(io::Error::other(spelling.name));
         }
         types.push(ping_types(&file));
-        write_both(dir, survey, spelling.name, &file)?;
+        write_both(dir, survey.name, spelling.name, &file)?;
     }
     if types.chunks(2).any(|pair| pair[0] == pair[1]) {
         return Err(io::Error::other("no ping changes its type"));
     }
     Ok(())
+}
+
+/// A sound file without some of its tuples.
+fn without(file: &[u8], lost: &[usize]) -> Vec<u8> {
+    let mut left = file[..4].to_vec();
+    let (mut nth, mut place) = (0, 4);
+    while let Step::Tuple { tuple, next } = forward(file, place) {
+        if !lost.contains(&nth) {
+            left.extend(tuple.bytes(file));
+        }
+        nth += 1;
+        place = next;
+    }
+    left
+}
+
+/// Writes a survey's first spelling as the disk gives it, and all its tuples but the lost
+/// ones; fails where salvage gives something else.
+fn write_damaged(dir: &Path, survey: &Survey) -> io::Result<()> {
+    let sound = spell(survey, &survey.spellings[0], survey.stream);
+    let mut damaged = sound.clone();
+    damaged[ZEROED].fill(0);
+    damaged[TURNED.0] ^= TURNED.1;
+    let salvaged = without(&sound, &LOST);
+    let (mut out, mut table) = (vec![0; salvaged.len()], [0; 3 * 5]);
+    if salvage(&damaged, &mut out, &mut table).is_err() || out != salvaged {
+        return Err(io::Error::other("something else is salvaged"));
+    }
+    write_both(dir, "damaged", "lsb", &damaged)?;
+    write_both(dir, "damaged", "salvaged", &salvaged)
 }
 
 fn main() -> io::Result<()> {
@@ -597,7 +637,9 @@ fn main() -> io::Result<()> {
     };
     let dir = Path::new(dir);
     fs::create_dir_all(dir)?;
-    surveys()
-        .iter()
-        .try_for_each(|survey| write_survey(dir, survey))
+    let surveys = surveys();
+    for survey in &surveys {
+        write_survey(dir, survey)?;
+    }
+    write_damaged(dir, &surveys[0])
 }

@@ -217,7 +217,7 @@ impl Pen {
     }
 
     /// A number of two bytes or of four.
-    fn number(&mut self, width: usize, number: u32) {
+    pub fn number(&mut self, width: usize, number: u32) {
         match width {
             2 => self.two(number as u16),
             _ => self.four(number),
@@ -227,7 +227,7 @@ impl Pen {
     /// A space where so many bytes leave one, with rubbish in it if the style asks for
     /// that: anything below a number.
     fn space_behind(&mut self, bytes: usize, below: u64, style: &Style, rng: &mut Rng) {
-        if bytes % 4 == 0 {
+        if bytes.is_multiple_of(4) {
             return;
         }
         self.two(match rng.below(2) {
@@ -422,7 +422,8 @@ pub(super) fn word(kind: PingKind, value: i32) -> Option<u32> {
                 0 => (counts < 4096).then_some(counts),
                 _ => {
                     let unit = 1 << (exponent - 1);
-                    let whole = counts % unit == 0 && (4096..8192).contains(&(counts / unit));
+                    let whole =
+                        counts.is_multiple_of(unit) && (4096..8192).contains(&(counts / unit));
                     whole.then(|| exponent * 4096 + counts / unit - 4096)
                 }
             });
@@ -513,7 +514,7 @@ impl Cut {
     pub(super) fn runs(self, kind: PingKind, gap: u64) -> Vec<u32> {
         let most = radix(kind);
         let full = |gap: u64| vec![run(kind, most); (gap / most) as usize];
-        let rest = |gap: u64| (gap % most != 0).then(|| run(kind, gap % most));
+        let rest = |gap: u64| (!gap.is_multiple_of(most)).then(|| run(kind, gap % most));
         match self {
             Cut::Fewest => full(gap).into_iter().chain(rest(gap)).collect(),
             Cut::RemainderFirst => rest(gap).into_iter().chain(full(gap)).collect(),
@@ -527,7 +528,7 @@ impl Cut {
             Cut::Short(count) => {
                 let length = gap.div_ceil(count).clamp(1, most);
                 let mut runs = vec![run(kind, length); (gap / length) as usize];
-                runs.extend((gap % length != 0).then(|| run(kind, gap % length)));
+                runs.extend((!gap.is_multiple_of(length)).then(|| run(kind, gap % length)));
                 runs
             }
         }

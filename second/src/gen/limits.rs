@@ -237,10 +237,13 @@ fn spaces_case(kind: PingKind, style: &Style) -> Case {
     case(named(kind, "spaces"), &drafts, style, MORE, 0)
 }
 
+/// A name, a count, words, and the code with its place in the ping.
+type Counted = (&'static str, u32, [u32; 2], (u32, usize));
+
 /// The same, but that the last is no space, for the count is right with it or wrong
 /// either way.
 #[rustfmt::skip]
-const NO_SPACES: [(&str, u32, [u32; 2], (u32, usize)); 4] = [
+const NO_SPACES: [Counted; 4] = [
     ("counted", 2, [5, 0x7F00], (24, 30)),
     ("miscounted", 3, [5, 0x7F00], (24, 30)),
     ("one-over", 3, [5, 7], (25, 24)),

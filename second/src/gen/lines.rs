@@ -243,7 +243,7 @@ fn spoil_line(rng: &mut Rng, lines: &mut Vec<String>) -> (&'static str, u64) {
 
 /// Said once more, plainly, apart from the programs' own decoding.
 fn is_bad(line: &str) -> bool {
-    let odd = line.len() % 2 != 0;
+    let odd = !line.len().is_multiple_of(2);
     line.is_empty() || odd || !line.chars().all(|c| "0123456789abcdef".contains(c))
 }
 

@@ -1,9 +1,10 @@
-//! A seeded generator of cases: sound files, damaged ones, limit cases, pairs
-//! of files, and lines for the two programs.
+//! A seeded generator of cases: sound files, damaged ones, by rule, blindly and as disks
+//! do it, limit cases, pairs of files, and lines for the two programs.
 //!
 //! It has an encoder of its own, so that a fault of the library's writers or
 //! tables shows against it. A case is a function of its seed and its number.
 
+mod disk;
 mod draft;
 mod faults;
 mod limits;
@@ -12,6 +13,7 @@ mod pairs;
 mod sound;
 mod vessels;
 
+pub use disk::{disk_fault, DiskFault, DISK_FAULTS};
 pub use draft::{render, Body, Draft, Patch, Piece, PingStyle, Rendered, Style};
 pub use faults::{fault, noise, random_damage, two_faults, Kind, Spot, FAULT_KINDS, LONG_KIND};
 pub use limits::{big_limit, big_limit_count, limit, limit_count};
@@ -128,7 +130,11 @@ pub fn file_case(seed: u64, index: u64) -> Vec<Case> {
             vec![fault(&mut rng, kind)]
         }
         8 | 9 => vec![two_faults(&mut rng)],
-        10 | 11 => vec![random_damage(&mut rng)],
+        10 => vec![random_damage(&mut rng)],
+        11 => {
+            let nth = turn as usize % DISK_FAULTS.len();
+            vec![disk_fault(&mut rng, DISK_FAULTS[nth])]
+        }
         12 => vec![noise(&mut rng)],
         13 => limit_case(turn),
         14 => pair_case("pair-equal", equal_pair(&mut rng)),

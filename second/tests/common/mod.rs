@@ -31,7 +31,7 @@ pub fn bytes(digits: &str) -> Vec<u8> {
         .filter(|c| !c.is_whitespace())
         .map(|c| c.to_digit(16).expect("a hexadecimal digit"))
         .collect();
-    assert!(digits.len() % 2 == 0);
+    assert!(digits.len().is_multiple_of(2));
     digits
         .chunks(2)
         .map(|pair| (pair[0] << 4 | pair[1]) as u8)
@@ -197,6 +197,66 @@ pub type Faults = BTreeMap<&'static str, usize>;
 /// The types of the seven kinds of ping.
 pub const PINGS: [u64; 7] = [10000, 10001, 10010, 10030, 10031, 10040, 10050];
 
+/// Lengths by 01's table and the readings, by TR's Tables 3 and 5 and request f's table.
+fn suits(code: u64, length: u64) -> bool {
+    match code {
+        65535 => length == 24,
+        100 => length == 72,
+        200 => length == 80,
+        1000 | 2000 => length == 108,
+        20 | 40 => length == 36,
+        30 => length == 28,
+        10100 => length == 44,
+        65516 | 65517 => length == 20,
+        10110 | 65534 => length >= 24,
+        10000 | 10001 => length >= 40 && length.is_multiple_of(8),
+        10030 => length >= 36,
+        10031 => length >= 40 && [0, 8].contains(&((length - 32) % 12)),
+        10010 | 10040 | 10050 => length >= 40,
+        _ => true,
+    }
+}
+
+fn frame_faults(file: &File, at: usize) -> Faults {
+    let mut faults = Faults::new();
+    let left = (file.bytes.len() - at) as u64;
+    let length = file.number(at, 4) + 10;
+    if left == 0 {
+        faults.insert("4", at);
+    }
+    if left < 16 {
+        faults.insert("3 short", at);
+    }
+    if !(16..=262_144).contains(&length) || length & 3 != 0 {
+        faults.insert("5", at);
+    }
+    if length > left {
+        faults.insert("3 end", at);
+    } else if length >= 4 && file.number(at + length as usize - 4, 4) != length {
+        faults.insert("6", at);
+    }
+    faults
+}
+
+/// All faults that the tuple at a place has by itself, whatever stands around it, as far
+/// as they can be looked for.
+pub fn tuple_faults(file: &File, at: usize) -> Faults {
+    let mut all = frame_faults(file, at);
+    let code = file.number(at + 4, 2);
+    let length = file.number(at, 4) + 10;
+    if !suits(code, length) {
+        all.insert("9", at);
+    }
+    if code == 65535 && ![44201, 44204].contains(&file.number(at + 6, 2)) {
+        all.insert("8", at);
+    }
+    let fits = suits(code, length) && length <= 262_144;
+    if fits && PINGS.contains(&code) {
+        all.extend(sample_faults(file, at));
+    }
+    all
+}
+
 /// All faults of the samples of a ping at a place, by the samples and words
 /// themselves: requests c and f of 02. Its length has to fit.
 pub fn sample_faults(file: &File, at: usize) -> Faults {
@@ -281,6 +341,7 @@ pub fn word_places(file: &File, at: usize, end: usize, code: u64) -> Vec<usize> 
     };
     let stated = file.number(at + 24, 4);
     let (with, without) = (values(&all), values(&all[..all.len() - 1]));
+    #[allow(clippy::nonminimal_bool)] // as the reading has it
     let word = stated == with || (stated != with && stated != without);
     if !word {
         all.pop();

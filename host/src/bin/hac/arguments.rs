@@ -3,7 +3,7 @@
 use crate::input::{Input, STANDARD};
 use crate::shown::shown;
 use std::ffi::OsString;
-use std::path::PathBuf;
+use std::path::{Path, PathBuf};
 use std::vec;
 
 pub enum Command {
@@ -16,9 +16,20 @@ pub enum Command {
 /// What is done with one input.
 pub enum Task {
     Normal { out: PathBuf },
+    Salvage { out: PathBuf },
     Walk { back: bool },
     Parents { place: usize },
     Samples { place: usize },
+}
+
+impl Task {
+    /// The file that it writes, if it writes one.
+    pub fn out(&self) -> Option<&Path> {
+        match self {
+            Task::Normal { out } | Task::Salvage { out } => Some(out),
+            Task::Walk { .. } | Task::Parents { .. } | Task::Samples { .. } => None,
+        }
+    }
 }
 
 pub struct Arguments {
@@ -36,6 +47,9 @@ impl Arguments {
         Ok(Arguments { command, json })
     }
 }
+
+/// The commands that write a file.
+const WRITING: [&str; 2] = ["normal", "salvage"];
 
 /// The arguments, options apart from the rest.
 #[derive(Default)]
@@ -93,15 +107,13 @@ impl Sorted {
         if self.back && name != "walk" {
             return Err("--back is for hac walk alone".into());
         }
-        if self.out.is_some() && name != "normal" {
-            return Err("-o is for hac normal alone".into());
+        if self.out.is_some() && !WRITING.contains(&name) {
+            return Err("-o is for hac normal and hac salvage alone".into());
         }
         match name {
             "check" => rest.check(),
-            "normal" => {
-                let out = self.out.ok_or("no -o OUT")?.into();
-                rest.one(|_| Ok(Task::Normal { out }))
-            }
+            "normal" => rest.writing(self.out, |out| Task::Normal { out }),
+            "salvage" => rest.writing(self.out, |out| Task::Salvage { out }),
             "walk" => rest.one(|_| Ok(Task::Walk { back: self.back })),
             "parents" => rest.one(|rest| rest.place().map(|place| Task::Parents { place })),
             "samples" => rest.one(|rest| rest.place().map(|place| Task::Samples { place })),
@@ -137,6 +149,16 @@ impl Rest {
             None => Ok(Command::One { input, task }),
             Some(word) => Err(format!("{} is too much", shown(&word))),
         }
+    }
+
+    /// A command that also writes a file.
+    fn writing(
+        self,
+        out: Option<OsString>,
+        task: impl FnOnce(PathBuf) -> Task,
+    ) -> Result<Command, String> {
+        let out = out.ok_or("no -o OUT")?;
+        self.one(|_| Ok(task(out.into())))
     }
 
     fn place(&mut self) -> Result<usize, String> {

@@ -7,7 +7,6 @@ use crate::progress::{Progress, PAUSE};
 use crate::shown::shown;
 use crate::summary::Summary;
 use crate::verdict::{Status, Verdict};
-use hac::Walk;
 use std::collections::BTreeMap;
 use std::io::{self, IsTerminal};
 use std::sync::atomic::{AtomicUsize, Ordering};
@@ -69,10 +68,7 @@ fn judge(entry: &Entry, bytes: &mut Vec<u8>) -> Verdict {
     }
     let file = entry.input.open();
     match file.and_then(|file| input::read(&file, bytes)) {
-        Ok(()) => hac::check(bytes).map_or_else(
-            |refusal| Verdict::refused(bytes, Walk::START, refusal),
-            Verdict::Accepted,
-        ),
+        Ok(()) => Verdict::of(bytes),
         Err(error) => error.into(),
     }
 }

@@ -46,6 +46,12 @@ impl Object {
         self.member(key, value)
     }
 
+    /// A list of objects.
+    pub fn list(self, key: &str, values: impl Iterator<Item = Object>) -> Object {
+        let values: Vec<String> = values.map(|value| value.to_string()).collect();
+        self.member(key, format_args!("[{}]", values.join(",")))
+    }
+
     /// The name of a file. One that is no UTF-8 is told as near as can be, and
     /// exactly beside it, in hexadecimal.
     pub fn name(self, key: &str, name: &OsStr) -> Object {
@@ -101,10 +107,15 @@ mod tests {
             .number_or_null("p", Some(5))
             .number_or_null("q", None::<u32>)
             .object("o", inner)
+            .list("e", [].into_iter())
+            .list(
+                "l",
+                [0, 1].into_iter().map(|n| Object::default().number("m", n)),
+            )
             .name("file", OsStr::from_bytes(b"x\xff"));
         let line =
             "{\"a\\\"b\\\\\":\"\\u001b[2J\\u000a\\u202e\u{e9}\",\"n\":-5,\"p\":5,\"q\":null,\
-                    \"o\":{\"13\":2},\"file\":\"x\u{fffd}\",\"file_bytes\":\"78ff\"}";
+                    \"o\":{\"13\":2},\"e\":[],\"l\":[{\"m\":0},{\"m\":1}],\"file\":\"x\u{fffd}\",\"file_bytes\":\"78ff\"}";
         assert_eq!(object.to_string(), line);
     }
 }

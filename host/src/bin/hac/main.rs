@@ -1,5 +1,5 @@
-//! The command `hac`: HAC recordings checked, walked, linked, read and brought to
-//! their normal form, by the proved library.
+//! The command `hac`: HAC recordings checked, walked, linked, read, brought to their
+//! normal form and salvaged, by the proved library.
 
 #![forbid(unsafe_code)]
 
@@ -10,9 +10,11 @@ mod input;
 mod json;
 mod normal;
 mod one;
+mod out;
 mod output;
 mod parents;
 mod progress;
+mod salvage;
 mod samples;
 mod shown;
 mod stop;
@@ -28,12 +30,16 @@ use std::process::ExitCode;
 use verdict::Status;
 
 const HELP: &str = "\
-HAC fisheries recordings: checked, walked and brought to their normal form.
+HAC fisheries recordings: checked, walked, brought to their normal form, salvaged.
 
   hac check FILE..          is each file accepted? How many tuples has it, and how
                             many identifiers are compared while it is linked? A
                             folder stands for all files in it and below.
   hac normal FILE -o OUT    writes a file's normal form to OUT, whole or not at all
+  hac salvage FILE -o OUT   writes the mark and the sound tuples of a damaged file to
+                            OUT, whole or not at all, and tells what was lost, how
+                            many tuples of each type are kept, and what the check
+                            says of OUT, for links aren't judged
   hac walk FILE [--back]    a file's tuples: place, type, name, length
   hac parents FILE PLACE    the channel and the sounder of the ping at a place, with
                             the channel's sampling rate and type of data sample,
@@ -53,7 +59,8 @@ Where a ping's samples are wrong a refusal also says which one; pairs and words
 count from 0.
 
 Exit status: 0 accepted, 1 refused, 2 not a file or bad use; of many files 2 if
-any couldn't be read, else 1 if any was refused.";
+any couldn't be read, else 1 if any was refused. Of hac salvage: 0 everything was
+kept, 3 something was lost; with 1 and 2 OUT isn't written.";
 
 const VERSION: &str = concat!("hac ", env!("CARGO_PKG_VERSION"));
 

@@ -5,7 +5,7 @@ use crate::input::{self, Input};
 use crate::output::{say, say_verdict, Broken, Output};
 use crate::stop::Stop;
 use crate::verdict::{Status, Verdict};
-use crate::{normal, parents, samples, walk};
+use crate::{normal, out, parents, salvage, samples, walk};
 use hac::Walk;
 
 pub fn run(input: &Input, task: &Task, output: &mut Output) -> Result<(), Broken> {
@@ -42,7 +42,9 @@ fn tell(input: &Input, verdict: &Verdict, output: &mut Output) -> Result<(), Bro
 fn judged_from(task: &Task) -> Walk {
     match task {
         Task::Samples { place } => Walk { at: *place },
-        Task::Normal { .. } | Task::Walk { .. } | Task::Parents { .. } => Walk::START,
+        Task::Normal { .. } | Task::Salvage { .. } | Task::Walk { .. } | Task::Parents { .. } => {
+            Walk::START
+        }
     }
 }
 
@@ -54,12 +56,13 @@ fn perform(
     output: &mut Output,
 ) -> Result<(), Stop> {
     let file = input.open()?;
-    if let Task::Normal { out } = task {
-        normal::must_differ(&file, out)?;
+    if let Some(out) = task.out() {
+        out::must_differ(&file, out)?;
     }
     input::read(&file, bytes)?;
     match task {
         Task::Normal { out } => normal::run(input, bytes, out, output),
+        Task::Salvage { out } => salvage::run(input, bytes, out, output),
         Task::Walk { back } => walk::run(bytes, *back, output),
         Task::Parents { place } => parents::run(bytes, *place, output),
         Task::Samples { place } => samples::run(bytes, *place, output),

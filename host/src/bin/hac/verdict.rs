@@ -6,13 +6,15 @@ use hac::{Counts, Refusal, SampleFault, Walk, WrongSample};
 use std::fmt;
 use std::io;
 
-/// The exit status. Of many the worst counts.
+/// The exit status. Of many files the worst counts; what is salvaged is one.
 #[derive(Clone, Copy, Debug, PartialEq, Eq, PartialOrd, Ord)]
 pub enum Status {
     Accepted = 0,
     Refused = 1,
     /// Not a file, or bad use.
     Unread = 2,
+    /// Salvaged, but not all of it.
+    Lost = 3,
 }
 
 pub enum Verdict {
@@ -25,6 +27,14 @@ pub enum Verdict {
 }
 
 impl Verdict {
+    /// What the check says of a file.
+    pub fn of(file: &[u8]) -> Verdict {
+        hac::check(file).map_or_else(
+            |refusal| Verdict::refused(file, Walk::START, refusal),
+            Verdict::Accepted,
+        )
+    }
+
     /// The refusal of a file. A walk finds the ping that it is about, if it is about one.
     pub fn refused(file: &[u8], from: Walk, refusal: Refusal) -> Verdict {
         Verdict::Refused(refusal, hac::wrong_sample(file, from, refusal))
@@ -40,7 +50,11 @@ impl Verdict {
 
     /// The verdict on an input, as an object.
     pub fn object(&self, input: &Input) -> Object {
-        let object = Object::default().name("file", input.name());
+        self.told(Object::default().name("file", input.name()))
+    }
+
+    /// An object that also tells the verdict.
+    pub fn told(&self, object: Object) -> Object {
         match self {
             Verdict::Accepted(Counts { tuples, compared }) => object
                 .text("outcome", "accepted")
