@@ -146,6 +146,25 @@ fn damaged_by_hand() {
 }
 
 /// A mark alone has no range; behind it bytes of which none are a tuple.
+/// The damaged cruise among the samples, and what its paper says of it.
+#[test]
+fn the_damaged_sample() {
+    let damaged = fs::read(repository("samples/damaged-lsb.hac")).unwrap();
+    let sound = fs::read(repository("samples/damaged-salvaged.hac")).unwrap();
+    let ranges = [
+        kept(4, 872),
+        dropped(872, 1008),
+        kept(1008, 1084),
+        dropped(1084, 1172),
+        kept(1172, 1380),
+    ];
+    let salvage = salvage(&damaged).unwrap();
+    assert_eq!((salvage.tuples, salvage.tried), (23, 79));
+    assert_eq!(salvage.ranges, ranges);
+    assert_eq!(salvage.bytes, sound);
+    assert!(check(&sound).is_ok());
+}
+
 #[test]
 fn nothing_to_keep() {
     for order in ORDERS {
