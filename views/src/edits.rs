@@ -10,17 +10,22 @@ use crate::File;
 pub fn files(records: &[Record]) -> Vec<File> {
     let mut files = Vec::new();
     for (nth, record) in records.iter().enumerate() {
-        files.extend([wrong_place(record), wrong_sign(record), field_twice(record)]);
+        let another = &records[(nth + 1) % records.len()];
+        files.extend([
+            for_another(record, another),
+            wrong_place(record),
+            wrong_sign(record),
+            field_twice(record),
+        ]);
         if is_first_of_shape(records, nth) {
-            let another = &records[(nth + 1) % records.len()];
-            files.extend([for_another(record, another), wrong_constant(record)]);
+            files.push(wrong_constant(record));
         }
     }
     files
 }
 
-/// Whether no record before it has characters as it has them. What all records of a shape have from their template alone, the type
-/// asked for and the constants, is tried on the first of each: every edit proves a whole crate again.
+/// Whether no record before it has characters as it has them. The constants, which all records of a shape have from their template
+/// alone, are tried on the first of each: every edit proves a whole crate again.
 fn is_first_of_shape(records: &[Record], nth: usize) -> bool {
     let shape = |record: &Record| record.text().map(|text| text.shape);
     let earlier = &records[..nth];
