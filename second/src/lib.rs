@@ -23,6 +23,7 @@ pub mod programs;
 pub mod records;
 pub mod salvage;
 mod samples;
+pub mod settings;
 pub mod walk;
 pub mod words;
 
@@ -35,3 +36,4 @@ pub use normal::normalise;
 pub use order::Order;
 pub use parents::{parents, Parents};
 pub use salvage::{salvage, Salvaged};
+pub use settings::settings;

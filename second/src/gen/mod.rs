@@ -1,5 +1,6 @@
-//! A seeded generator of cases: sound files, damaged ones, by rule, blindly and as disks
-//! do it, limit cases, pairs of files, and lines for the two programs.
+//! A seeded generator of cases: sound files, some of them of settings, damaged ones, by
+//! rule, blindly and as disks do it, limit cases, pairs of files, and lines for the two
+//! programs.
 //!
 //! It has an encoder of its own, so that a fault of the library's writers or
 //! tables shows against it. A case is a function of its seed and its number.
@@ -10,6 +11,7 @@ mod faults;
 mod limits;
 mod lines;
 mod pairs;
+mod settings;
 mod sound;
 mod vessels;
 
@@ -19,6 +21,7 @@ pub use faults::{fault, noise, random_damage, two_faults, Kind, Spot, FAULT_KIND
 pub use limits::{big_limit, big_limit_count, limit, limit_count};
 pub use lines::{frames, hex, line_case, LineCase};
 pub use pairs::{equal_pair, unequal_pair};
+pub use settings::settings_case;
 pub use sound::{angle_list, any_length, sample_list, sound_drafts, Wish, FAMILIES};
 
 use faults::kind_in_turn;
@@ -124,7 +127,8 @@ pub fn file_case(seed: u64, index: u64) -> Vec<Case> {
     let mut rng = Rng::of_case(seed, index);
     let turn = index / 16;
     match index % 16 {
-        0..=3 => vec![sound_case(&mut rng)],
+        0..=2 => vec![sound_case(&mut rng)],
+        3 => vec![settings_case(&mut rng)],
         4..=7 => {
             let kind = kind_in_turn(&mut rng, turn * 4 + (index % 16 - 4));
             vec![fault(&mut rng, kind)]

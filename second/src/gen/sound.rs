@@ -284,6 +284,18 @@ pub(super) fn any_ping(rng: &mut Rng, channel: u16, wild: bool) -> Draft {
     family_ping(rng, channel, family, samples, length)
 }
 
+/// A ping of any kind with or without a sample, a length or angles.
+pub(super) fn short_ping(rng: &mut Rng, channel: u16) -> Draft {
+    if rng.chance(20) {
+        let kind = rng.pick(&ANGLES);
+        return listed_ping(rng, channel, kind, vec![(3, [5, 6])]);
+    }
+    let family = rng.pick(&FAMILIES);
+    let (samples, length) =
+        rng.pick(&[(&[][..], Some(1)), (&[(3, 5)], None), (&[(3, 5)], Some(9))]);
+    family_ping(rng, channel, family, samples.to_vec(), length)
+}
+
 /// An unlisted tuple of some code with anything in it.
 pub(super) fn unlisted(rng: &mut Rng, code: u16) -> Draft {
     let data = match rng.below(10) {
@@ -532,16 +544,24 @@ pub fn angle_list(rng: &mut Rng, kind: PingKind) -> Vec<(u32, [i16; 2])> {
 }
 
 /// A file under way.
-struct Plan {
-    drafts: Vec<Draft>,
+pub(super) struct Plan {
+    pub drafts: Vec<Draft>,
     /// Document identifiers and makers, and where each sounder stands.
     sounders: Vec<(u32, Maker, usize)>,
     /// Channels, and the sounder that each names.
-    channels: Vec<(u16, usize)>,
+    pub channels: Vec<(u16, usize)>,
 }
 
 impl Plan {
-    fn add_sounder(&mut self, rng: &mut Rng) {
+    pub fn begin(rng: &mut Rng) -> Plan {
+        Plan {
+            drafts: vec![signature(rng)],
+            sounders: Vec::new(),
+            channels: Vec::new(),
+        }
+    }
+
+    pub fn add_sounder(&mut self, rng: &mut Rng) {
         if self.sounders.len() == MOST_SOUNDERS as usize {
             return;
         }
@@ -552,19 +572,24 @@ impl Plan {
         self.drafts.push(sounder_of(rng, maker, 0, id));
     }
 
-    fn add_channel(&mut self, rng: &mut Rng) {
+    pub fn add_channel(&mut self, rng: &mut Rng) {
         if self.sounders.is_empty() || self.channels.len() == usize::from(MOST_CHANNELS) {
             return;
         }
         let taken: Vec<u16> = self.channels.iter().map(|(id, _)| *id).collect();
         let id = new_channel(rng, &taken);
+        self.declare_channel(rng, id);
+    }
+
+    /// Declares a channel that is new, of any sounder.
+    pub fn declare_channel(&mut self, rng: &mut Rng, id: u16) {
         let parent = rng.index(self.sounders.len());
         self.channels.push((id, parent));
         let (document, maker, _) = self.sounders[parent];
         self.drafts.push(channel_of(rng, maker, id, document));
     }
 
-    fn any_channel(&self, rng: &mut Rng) -> Option<u16> {
+    pub fn any_channel(&self, rng: &mut Rng) -> Option<u16> {
         (!self.channels.is_empty()).then(|| self.channels[rng.index(self.channels.len())].0)
     }
 
@@ -595,7 +620,7 @@ impl Plan {
     }
 
     /// A tuple of a class that is still missing; unlisted ones will do.
-    fn fill_classes(&mut self, rng: &mut Rng, wish: &Wish) {
+    pub fn fill_classes(&mut self, rng: &mut Rng, wish: &Wish) {
         let has = |plan: &Plan, wanted: Class| {
             let mut codes = plan.drafts.iter().map(|draft| draft.code);
             codes.any(|code| class(code) == Some(wanted))
@@ -643,6 +668,14 @@ impl Plan {
             self.drafts[*at].pieces()[0] = Two(count);
         }
     }
+
+    /// The whole file.
+    pub fn end(mut self, rng: &mut Rng) -> Vec<Draft> {
+        self.state_counts();
+        let data = 2 + 4 * rng.pick(&[0, 0, 0, 1, 2, 7]);
+        self.drafts.push(end_of_file(rng, data));
+        self.drafts
+    }
 }
 
 /// About how many tuples a plan gets: mostly as many as wished for, at times
@@ -658,11 +691,7 @@ fn steps(rng: &mut Rng, wish: &Wish) -> u64 {
 
 /// The drafts of a sound file, signature first, end of file last.
 pub fn sound_drafts(rng: &mut Rng, wish: &Wish) -> Vec<Draft> {
-    let mut plan = Plan {
-        drafts: vec![signature(rng)],
-        sounders: Vec::new(),
-        channels: Vec::new(),
-    };
+    let mut plan = Plan::begin(rng);
     for _ in 0..steps(rng, wish) {
         match rng.below(100) {
             0..=11 => plan.add_sounder(rng),
@@ -676,8 +705,5 @@ pub fn sound_drafts(rng: &mut Rng, wish: &Wish) -> Vec<Draft> {
         }
     }
     plan.fill_classes(rng, wish);
-    plan.state_counts();
-    let data = 2 + 4 * rng.pick(&[0, 0, 0, 1, 2, 7]);
-    plan.drafts.push(end_of_file(rng, data));
-    plan.drafts
+    plan.end(rng)
 }

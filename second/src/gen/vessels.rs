@@ -82,17 +82,9 @@ impl Vessel {
     }
 }
 
-/// A ping of the nth channel, which need not be declared: of any family, with or without
-/// samples, a length or angles.
+/// A ping of the nth channel, which need not be declared.
 fn ping_of(rng: &mut Rng, nth: u16) -> Draft {
-    if rng.chance(20) {
-        let kind = rng.pick(&ANGLES);
-        return listed_ping(rng, software(nth), kind, vec![(3, [5, 6])]);
-    }
-    let family = rng.pick(&FAMILIES);
-    let (samples, length) =
-        rng.pick(&[(&[][..], Some(1)), (&[(3, 5)], None), (&[(3, 5)], Some(9))]);
-    family_ping(rng, software(nth), family, samples.to_vec(), length)
+    short_ping(rng, software(nth))
 }
 
 /// A vessel, what comes behind its declarations, and the end of file. A code

@@ -1,6 +1,6 @@
 //! Files of tuples that declare and name, said in a line each.
 
-use super::{lent, Bytes};
+use super::{lent, word_width, Bytes};
 use second::{check, normalise, parents, Answer, Order};
 use Said::*;
 
@@ -18,6 +18,8 @@ pub enum Said {
     /// U-32, of one sample, and C-32, without any.
     Ping(u16),
     Silent(u16),
+    /// Of a type, and of a channel: of one sample, or of all the words that it has room for.
+    PingOf(u16, u16),
     Threshold(u16),
     Attitude(u16),
     /// Of a type that isn't listed, as long as a ping.
@@ -42,7 +44,8 @@ impl Said {
             Sounder(..) => 72,
             EkSounder(..) => 80,
             Channel(..) | EkChannel(..) => 108,
-            Ping(_) | Silent(_) | Unlisted(_) => 40,
+            PingOf(10030, _) => 36,
+            Ping(_) | Silent(_) | PingOf(..) | Unlisted(_) => 40,
             Threshold(_) => 44,
             Attitude(_) => 36,
         }
@@ -56,6 +59,7 @@ impl Said {
             EkChannel(..) => 2000,
             Ping(_) => 10000,
             Silent(_) => 10010,
+            PingOf(code, _) => code,
             Threshold(_) => 10100,
             Attitude(_) => 40,
             Unlisted(code) => code,
@@ -74,16 +78,23 @@ impl Said {
                 bytes.four(rate(id));
                 bytes.two(sample_type(id));
             }
-            Ping(id) | Silent(id) | Threshold(id) | Attitude(id) => {
+            Ping(id) | Silent(id) | PingOf(_, id) | Threshold(id) | Attitude(id) => {
                 bytes.two(0);
                 bytes.four(0);
                 bytes.two(id);
             }
             Unlisted(_) => {}
         }
-        if let Silent(_) = self {
-            bytes.bytes.extend([0; 14]); // the rest of the header, the count
-            bytes.four(0xFFFF_0000);
+        match self {
+            Silent(_) => {
+                bytes.bytes.extend([0; 14]); // the rest of the header, the count
+                bytes.four(0xFFFF_0000);
+            }
+            PingOf(code @ (10010 | 10040 | 10050), _) => {
+                bytes.bytes.extend([0; 10]); // the rest of the header
+                bytes.four(4 / word_width(code.into()) as u32);
+            }
+            _ => {}
         }
     }
 }
