@@ -23,7 +23,7 @@ use Rattle.intake.specs.declared.Asked.{Asked}
 use Rattle.intake.specs.Check.{checkFile}
 use Rattle.intake.specs.Asking.{askAccepted, askChecked, askAt}
 use Rattle.intake.specs.inner.Tallies.{ownVerdict}
-use Rattle.ping_forms.specs.inner.Sound.{SoundHere}
+use Rattle.intake.specs.inner.Sound.{SoundHere}
 use Rattle.ping_forms.proofs.Placed.{at-most-twice, most}
 use Rattle.normal.specs.Normaliser.{normalRules, normalCounts, behindCheck, normalAnswer}
 use Rattle.normal.specs.Single.{singleForm, behindRules, singleRules, singleAnswer}

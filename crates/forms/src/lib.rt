@@ -15,7 +15,7 @@ ghost use Rattle.frame.specs.Frames.{tupAt};
 ghost use Rattle.frame.specs.inner.Framing.{openingBytes};
 ghost use Rattle.content.specs.Forms.{formBytes};
 ghost use Rattle.intake.specs.inner.Tallies.{Fits};
-ghost use Rattle.ping_forms.specs.inner.Sound.{SoundHere};
+ghost use Rattle.intake.specs.inner.Sound.{SoundHere};
 ghost use Rattle.forms.specs.inner.Parts.{listedFields, firstListings, Rowed};
 
 // The places of an event's characters and of an end of file's data bytes.

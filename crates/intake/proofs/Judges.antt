@@ -21,7 +21,7 @@ use Rattle.layout.specs.Families.{Family, sampleBytes}
 use Rattle.layout.specs.Types.{Shape, uncompressed, compressed, listings, among, listingOf, shapeOf, isPing, lengthsOf, saysOf}
 use Rattle.layout.specs.Types.{Length, leastOf, lengthFrom, exactly, upward, upwardOr, free, fitting}
 use Rattle.layout.proofs.Tables.{alike-all, lengths-from}
-use Rattle.layout.proofs.Verdicts.{passes, judged-append}
+use Rattle.layout.proofs.Verdicts.{passes, judged-append, both-left}
 use Rattle.frame.specs.Frames.{Tup, kindAt, tupAt, framing}
 use Rattle.rules.proofs.Bools.{both-true}
 use Rattle.frame.proofs.Frames.{allowed-4, allowed-most}
@@ -43,6 +43,7 @@ use Rattle.content.proofs.Families.{plain-least, some-sample-bytes}
 use Rattle.intake.specs.declared.Tally.{Tally}
 use Rattle.intake.specs.inner.Tallies.{Tables, soundersBy, channelsBy, Here, Fits, sounderAt, channelAt, namedAt, headVerdict}
 use Rattle.intake.specs.inner.Tallies.{linkVerdict, innerVerdict, ownVerdict, turnVerdict, said, comparesAt, linkTold, turnTold}
+use Rattle.intake.specs.inner.Sound.{SoundHere}
 
 -- the tuple at a place; whether its identifier is known
 abbrev pub tupIn : Bool → List ℕ → ℕ → Tup
@@ -215,6 +216,13 @@ module _ {o : Bool} {f : List ℕ} {at n k : ℕ} (h : Here o f at n k) where
         let z : n - 36 ≡ at + n - 8 - (at + 28) = omega (arith, long-C p e) in
         inner-C o f at n whole p (ap shapeOf (h .kind) ∙ e) (long-C p e)
         ∙ ap (λ (i : ℕ). judgedWords p o (fieldAt o f at 4 24) (take i (drop (at + 28) f))) z
+
+-- the length of a sound tuple fits its type
+pub sound-fits : {o : Bool} {f : List ℕ} {at n k : ℕ} → SoundHere o f at n k → Fits n k
+sound-fits {o} {f} {at} {n} {k} s =
+    let t = tupIn o f at in
+    let own = own-parts (s .here) ∙ s .own in
+    head-fits (s .here) (eqb k 65535) refl (both-left (headVerdict o (eqb k 65535) t) (innerVerdict o t) own)
 
 -- ---- what is told of its links where a tally stands, by its code
 module _ {o : Bool} {f : List ℕ} (w : Tally) (c : Tables) {n k : ℕ} (h : Here o f (w .at) n k) where

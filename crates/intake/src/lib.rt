@@ -46,7 +46,7 @@ const SAMPLE_TYPE: usize = 16;
 const NAMED_CHANNEL: usize = 12;
 
 // Where all may be named, as in an attitude, this means all channels.
-const ALL_CHANNELS: u16 = 65535;
+pub const ALL_CHANNELS: u16 = 65535;
 
 // What asking gives: both identifiers and both tuples' places, the channel's sampling rate and type of data sample, and what the
 // file's acceptance counts; or a refusal.
@@ -128,7 +128,7 @@ fn sounder_at(file: &[u8], at: usize, msb: bool, maker: Maker) -> Sounder
 }
 
 // What the channel tuple of a maker at a place declares.
-fn channel_at(file: &[u8], at: usize, msb: bool, maker: Maker) -> Channel
+pub fn channel_at(file: &[u8], at: usize, msb: bool, maker: Maker) -> Channel
     requires { ⌜ at + 18 ≤ length (now file) ⌝ }
     ensures { λ r. ⌜ r ≡ channelAt msb (now (file .entry)) at maker ⌝ }
 {
@@ -142,7 +142,7 @@ fn channel_at(file: &[u8], at: usize, msb: bool, maker: Maker) -> Channel
 }
 
 // The channel that the tuple at a place names.
-fn named_at(file: &[u8], at: usize, msb: bool) -> SoftwareChannel
+pub fn named_at(file: &[u8], at: usize, msb: bool) -> SoftwareChannel
     requires { ⌜ at + 16 ≤ length (now file) ⌝ }
     ensures { λ r. ⌜ r ≡ namedAt msb (now (file .entry)) at ⌝ }
 {

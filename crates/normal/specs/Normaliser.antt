@@ -9,12 +9,12 @@ use Rattle.rules.specs.Rules.{Rule, _⇒_, firstOf}
 use Rattle.layout.specs.declared.Counts.{Counts}
 use Rattle.layout.specs.declared.Answer.{Answer}
 use Rattle.layout.specs.declared.Answer.the-variants.{Accepted, Refused}
-use Rattle.layout.specs.Answers.{numbers, Tells, leftBy, counting}
+use Rattle.layout.specs.Answers.{numbers, Tells, leftBy}
 use Rattle.layout.specs.Types.{Shape, indexed, row, uncompressed, compressed, unlisted, shapeOf}
 use Rattle.frame.specs.Frames.{Tup, lengthOf}
 use Rattle.frame.specs.Files.{limit, isMsb}
 use Rattle.frame.specs.Tuples.{tuplesOf}
-use Rattle.intake.specs.Check.{checkFile}
+use Rattle.intake.specs.Check.{writing, checkFile}
 use Rattle.normal.specs.Contents.{normalOf}
 
 -- unlisted, and not of the index class
@@ -40,10 +40,7 @@ normalRules f room =
     ∷ (ltb room n ⇒ Refused 19 0)
     ∷ []
 
--- the tuples of the file handed in, the bytes written, and the identifiers compared in the file handed in
-abbrev pub writing : Counts → ℕ → Counts
-writing n m = counting (n .tuples) m (n .compared)
-
+-- with the bytes written
 abbrev pub normalCounts : List ℕ → Counts → Counts
 normalCounts f n = writing n (length (normalOf f))
 

@@ -5,7 +5,6 @@ use mathlib.Core.List.{List, []}
 use Prim.Native.Nat.{ℕ, _+_, _-_, _*_, _%_, _^_, _≤_}
 use native.Mathlib.Omega.{arith}
 use borrow.Author.Tests.{le-leb, not-false}
-use lib.Dec.{eqb}
 use lib.ListN.{length, take, drop, length-drop}
 use lib.Seq.{drop-drop, length-take-le}
 use Rattle.order.specs.Order.{numOf, Bytes}
@@ -14,7 +13,6 @@ use Rattle.layout.specs.Families.{Family, hasU, hasC, valueBytes, sampleBytes, 
 use Rattle.layout.specs.Types.{Shape, indexed, row, uncompressed, compressed, unlisted, classes, inClass, index, shapeOf}
 use Rattle.layout.specs.Types.{Length, fitting, lengthFrom, lengthsU}
 use Rattle.layout.specs.inner.Codes.{hasWords}
-use Rattle.layout.proofs.Verdicts.{both-left}
 use Rattle.rules.proofs.Bools.{or-left}
 use Rattle.layout.proofs.Tables.{index-shape, lengths-from}
 use Rattle.turning.proofs.Contents.{within-take}
@@ -32,9 +30,8 @@ use Rattle.content.proofs.Families.{plainSize, plain-least, some-sample-bytes}
 use Rattle.content.proofs.Places.{Shaped, shaped, listed-C, length-place, part-place}
 use Rattle.content.proofs.Pings.{words-below-C, words-some-C, short-C, twice-C}
 use Rattle.content.proofs.Packing.{packs-by}
-use Rattle.intake.specs.inner.Tallies.{Fits, headVerdict, innerVerdict}
-use Rattle.intake.proofs.Judges.{whole, head-fits, own-parts}
-use Rattle.ping_forms.specs.inner.Sound.{SoundHere}
+use Rattle.intake.proofs.Judges.{whole, sound-fits}
+use Rattle.intake.specs.inner.Sound.{SoundHere}
 use Rattle.ping_forms.specs.inner.Parts.{partAt, countAt, heldAt, stays}
 use Rattle.ping_forms.proofs.Formed.{form-index, form-raw, parts-row, parts-U, count-C, goods-C, parts-C-U, parts-C}
 
@@ -58,13 +55,8 @@ module _ {o : Bool} {f : List ℕ} {at n k : ℕ} (s : SoundHere o f at n k) whe
   pub most : (16 ≤ n) × (n ≤ 262144) × (at + n ≤ length f)
   most = (there .long, allowed-most n (there .allowed), there .fits)
 
-  -- its length fits its type
-  pub fits-here : Fits n k
-  fits-here =
-      head-fits (s .here) (eqb k 65535) refl (both-left (headVerdict o (eqb k 65535) t) (innerVerdict o t) (own-parts (s .here) ∙ s .own))
-
   fits-by : {q : Shape} → shapeOf k ≡ q → fitting (lengthFrom q) n ≡ true
-  fits-by e = ap (λ (l : Length). fitting l n) (sym (lengths-from k ∙ ap lengthFrom e)) ∙ fits-here
+  fits-by e = ap (λ (l : Length). fitting l n) (sym (lengths-from k ∙ ap lengthFrom e)) ∙ sound-fits s
 
   pub shape-of : shapeOf (kindAt o (drop at f)) ≡ shapeOf k
   shape-of = ap shapeOf (s .here .kind)

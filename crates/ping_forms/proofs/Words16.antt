@@ -32,7 +32,7 @@ use Rattle.content.specs.Pings.{contentC}
 use Rattle.content.specs.Forms.{packs, formBytes}
 use Rattle.content.proofs.Families.{shape-C}
 use Rattle.content.proofs.Packing.{packs-always}
-use Rattle.ping_forms.specs.inner.Sound.{SoundHere}
+use Rattle.intake.specs.inner.Sound.{SoundHere}
 use Rattle.ping_forms.specs.inner.Parts.{partAt, countAt, heldAt, WordsEnd, stays, staysBy}
 use Rattle.ping_forms.proofs.Placed.{there, part-length, long-words, count-of, words-good, packs-here, measured-packed}
 use Rattle.ping_forms.proofs.Placed.{measured-sampled}

@@ -27,7 +27,7 @@ use Rattle.samples.proofs.Respelled.{packed-wide}
 use Rattle.content.specs.Pings.{contentC}
 use Rattle.content.specs.Forms.{packs, formBytes}
 use Rattle.content.proofs.Families.{shape-C}
-use Rattle.ping_forms.specs.inner.Sound.{SoundHere}
+use Rattle.intake.specs.inner.Sound.{SoundHere}
 use Rattle.ping_forms.specs.inner.Parts.{partAt, countAt, heldAt, stays}
 use Rattle.ping_forms.proofs.Placed.{there, part-length, long-words, count-of, packs-here, measured-packed, measured-sampled}
 use Rattle.ping_forms.proofs.Written.{sampled-written, packed-written}

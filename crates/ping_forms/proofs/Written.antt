@@ -29,7 +29,7 @@ use Rattle.content.specs.Pings.{attributeIn, contentC}
 use Rattle.content.specs.Forms.{packs, formBytes}
 use Rattle.content.proofs.Families.{plainSize}
 use Rattle.content.proofs.Places.{Shaped, shaped, length-body}
-use Rattle.ping_forms.specs.inner.Sound.{SoundHere}
+use Rattle.intake.specs.inner.Sound.{SoundHere}
 use Rattle.ping_forms.specs.inner.Parts.{partAt, countAt, heldAt}
 use Rattle.ping_forms.proofs.Formed.{Parts, last-four, form-raw, least-row, parts-row, parts-U, parts-C-U, parts-C}
 use Rattle.ping_forms.proofs.Placed.{there, shape-of, size-of, framed-here, long-plain, samples-there, long-words, content-here}

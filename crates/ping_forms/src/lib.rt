@@ -18,7 +18,7 @@ ghost use Rattle.turning.specs.Rows.{turned};
 ghost use Rattle.frame.specs.Frames.{tupAt};
 ghost use Rattle.frame.specs.inner.Framing.{openingBytes, closeBytes};
 ghost use Rattle.content.specs.Forms.{formBytes};
-ghost use Rattle.ping_forms.specs.inner.Sound.{SoundHere};
+ghost use Rattle.intake.specs.inner.Sound.{SoundHere};
 
 // The listing of the U-32 ping, whose row is the header of every ping.
 const HEADER: usize = 10;

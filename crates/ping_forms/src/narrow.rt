@@ -14,7 +14,7 @@ ghost use Rattle.layout.specs.Families.{narrow, typeC};
 ghost use Rattle.samples.specs.Words.{allWords};
 ghost use Rattle.samples.specs.inner.Narrow.{wordsBy};
 ghost use Rattle.content.specs.Forms.{formBytes};
-ghost use Rattle.ping_forms.specs.inner.Sound.{SoundHere};
+ghost use Rattle.intake.specs.inner.Sound.{SoundHere};
 ghost use Rattle.ping_forms.specs.inner.Parts.{heldAt, countAt, WordsEnd, stays, staysBy};
 
 // The samples that numbers of two bytes can say.

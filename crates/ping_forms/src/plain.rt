@@ -14,7 +14,7 @@ ghost use Rattle.layout.specs.inner.Codes.{familyOf};
 ghost use Rattle.frame.specs.Frames.{tupAt};
 ghost use Rattle.samples.specs.Words.{allSamples, unsampled, spaced};
 ghost use Rattle.content.specs.Forms.{formBytes};
-ghost use Rattle.ping_forms.specs.inner.Sound.{SoundHere};
+ghost use Rattle.intake.specs.inner.Sound.{SoundHere};
 
 // Writes the samples of a U-16-angles ping, and the space behind an odd number of them.
 fn turn_triples(part: &[u8], msb: bool, out: &mut [u8], to: usize)

@@ -14,7 +14,7 @@ ghost use Rattle.frame.specs.Frames.{tupAt};
 ghost use Rattle.samples.specs.Words.{allWords};
 ghost use Rattle.samples.specs.Runs.{radix, endsFrom};
 ghost use Rattle.content.specs.Forms.{formBytes};
-ghost use Rattle.ping_forms.specs.inner.Sound.{SoundHere};
+ghost use Rattle.intake.specs.inner.Sound.{SoundHere};
 ghost use Rattle.ping_forms.specs.inner.Parts.{partAt};
 
 // How many bytes it has. A ping with a length is measured by its words; any other counts its samples itself, so that they are not read.

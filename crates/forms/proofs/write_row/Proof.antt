@@ -7,7 +7,8 @@ use borrow.Author.Needs.{needs}
 use lib.ListN.{length}
 use Rattle.layout.specs.Fields.{Field, size}
 use Rattle.forms.specs.inner.Parts.{listedFields}
-use Rattle.ping_forms.proofs.Placed.{most, fits-here}
+use Rattle.intake.proofs.Judges.{sound-fits}
+use Rattle.ping_forms.proofs.Placed.{most}
 use Rattle.forms.proofs.Texts.{row-listed, row-fields}
 use Rattle.ping_forms.proofs.Written.{row-written}
 use Rattle.forms.proofs.write_row.Statement.{statement}
@@ -67,7 +68,7 @@ pub write-row-spec : {M : Type 1} → statement M
 write-row-spec =
     tie.close
     (tie.spec
-    (λ c κs. let p = c .before .before .pre in (p .1 .0, fits-here (p .0)))
+    (λ c κs. let p = c .before .before .pre in (p .1 .0, sound-fits (p .0)))
     (λ c. search needs)
     open-form-requires
     (λ c. search needs)

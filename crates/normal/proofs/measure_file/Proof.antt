@@ -5,9 +5,10 @@ use native.Mathlib.Omega.{arith}
 use borrow.Author.Needs.{needs}
 use lib.ListN.{length, drop}
 use Rattle.frame.specs.Frames.{lenAt}
-use Rattle.frame.proofs.Places.{Whole, framing-whole}
-use Rattle.normal.proofs.Passing.{accepted-4}
-use Rattle.normal.proofs.Measures.{Measuring, measuring-begin, measuring-sound, measuring-past, measuring-less, measuring-done}
+use Rattle.frame.proofs.Places.{Whole}
+use Rattle.intake.proofs.Loops.{accepted-4}
+use Rattle.normal.proofs.Measures.{Measuring, measuring-begin, measuring-sound, measuring-whole, measuring-past, measuring-less}
+use Rattle.normal.proofs.Measures.{measuring-done}
 use Rattle.normal.proofs.measure_file.Statement.{statement}
 use Rattle.normal.proofs.measure_file.Tie as tie
 
@@ -22,7 +23,7 @@ there : (c : tie.In-loop Inv-loop μ-loop) → let o = c .before .before .before
     let f = c .before .before .before .before .before .args .file .now in
     let at = c .before .loop .place in
     Whole o f at (lenAt o (drop at f))
-there c = framing-whole _ _ _ (measuring-sound _ _ _ _ (c .before .loop .inv) (c .loop-test .taken) .here .framed)
+there c = measuring-whole _ _ _ _ (c .before .loop .inv) (c .loop-test .taken)
 
 pub measure-file-spec : {M : Type 1} → statement M
 measure-file-spec =

@@ -6,8 +6,8 @@ use lib.Dec.{ltb}
 use lib.ListN.{length}
 use Rattle.frame.specs.Files.{isMsb}
 use Rattle.normal.specs.declared.Measure.{Measure}
-use Rattle.normal.specs.inner.Passes.{Accepts}
-use Rattle.normal.proofs.Passing.{accepted-4}
+use Rattle.intake.specs.inner.Sound.{Accepts}
+use Rattle.intake.proofs.Loops.{accepted-4}
 use Rattle.normal.proofs.Answers.{FoundOf, refused-of, found-unturnable, found-over, found-no-room, found-writable, found-written}
 use Rattle.normal.proofs.normalise.Statement.{statement}
 use Rattle.normal.proofs.normalise.Tie as tie

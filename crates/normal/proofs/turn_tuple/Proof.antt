@@ -9,7 +9,7 @@ use Rattle.frame.specs.Frames.{lenAt}
 use Rattle.frame.specs.Files.{mark, isMsb}
 use Rattle.frame.proofs.Places.{Whole, framing-whole}
 use Rattle.intake.proofs.Judges.{whole}
-use Rattle.ping_forms.specs.inner.Sound.{SoundHere}
+use Rattle.intake.specs.inner.Sound.{SoundHere}
 use Rattle.normal.specs.Normaliser.{isUnlisted}
 use Rattle.normal.proofs.Singles.{single-behind, single-unturnable, single-no-room, single-written}
 use Rattle.normal.proofs.turn_tuple.Statement.{statement}

@@ -6,11 +6,11 @@ use native.Mathlib.Omega.{arith}
 use lib.ListN.{length, drop}
 use Rattle.frame.specs.Frames.{lenAt}
 use Rattle.frame.specs.Files.{mark}
-use Rattle.frame.proofs.Places.{Whole, framing-whole}
+use Rattle.frame.proofs.Places.{Whole}
+use Rattle.intake.proofs.Loops.{accepted-4}
 use Rattle.normal.proofs.Pieces.{normal-length}
-use Rattle.normal.proofs.Passing.{accepted-4}
 use Rattle.normal.proofs.Writing.{Writing, marked-out, writing-begin, writing-length, writing-done, writing-sound, writing-room}
-use Rattle.normal.proofs.Writing.{writing-again, writing-less}
+use Rattle.normal.proofs.Writing.{writing-whole, writing-again, writing-less}
 use Rattle.normal.proofs.write_normal.Statement.{statement}
 use Rattle.normal.proofs.write_normal.Tie as tie
 
@@ -43,7 +43,7 @@ there : (c : tie.In-loop Inv-loop μ-loop) → let l = c .before .loop in
     let a = start (c .before .before) .args in
     Whole (c .before .before .is-msb .result) (a .file .now) (l .at)
     (lenAt (c .before .before .is-msb .result) (drop (l .at) (a .file .now)))
-there c = framing-whole _ _ _ (writing-sound _ _ _ _ _ _ (c .before .loop .inv) (c .loop-test .taken) .here .framed)
+there c = writing-whole _ _ _ _ _ _ (c .before .loop .inv) (c .loop-test .taken)
 
 write-form-requires : tie.Need-write-form-requires Inv-loop μ-loop
 write-form-requires c κs =

@@ -1,7 +1,7 @@
 -- `ping_forms::compressed_length` meets its contract: by the type. Assumes nothing.
 use mathlib.Core.Path.{subst}
 use borrow.Author.Needs.{needs}
-use Rattle.ping_forms.specs.inner.Sound.{SoundHere}
+use Rattle.intake.specs.inner.Sound.{SoundHere}
 use Rattle.ping_forms.proofs.Words16.{encoded-left}
 use Rattle.ping_forms.proofs.compressed_length.Statement.{statement}
 use Rattle.ping_forms.proofs.compressed_length.Tie as tie

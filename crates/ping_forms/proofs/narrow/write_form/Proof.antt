@@ -9,7 +9,7 @@ use Rattle.order.specs.Order.{Bytes}
 use Rattle.order.proofs.Laws.{bytes-of}
 use Rattle.layout.specs.Families.{typeC}
 use Rattle.samples.specs.inner.Narrow.{wordsBy}
-use Rattle.ping_forms.specs.inner.Sound.{SoundHere}
+use Rattle.intake.specs.inner.Sound.{SoundHere}
 use Rattle.ping_forms.specs.inner.Parts.{heldAt, WordsEnd, staysBy}
 use Rattle.ping_forms.proofs.Placed.{most}
 use Rattle.ping_forms.proofs.Words16.{long, held-part, unencoded, length-counted}
