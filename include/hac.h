@@ -1,5 +1,6 @@
-/* HAC fisheries recordings: checked, walked both ways, linked, read, written, brought to one normal form and salvaged. The C face
-   of the proved library, for C99 and C++. `host/archive` makes the archive to link with, target/archive/libarchive.a.
+/* HAC fisheries recordings: checked, walked both ways, linked, asked which settings held at each ping, read, written, brought to
+   one normal form and salvaged. The C face of the proved library, for C99 and C++. `host/archive` makes the archive to link with,
+   target/archive/libarchive.a.
 
    A slice is a pointer and a length in elements. `file` is a whole file, of any bytes; `place` is a byte offset in it. `answer`
    is lent for what a call says: entries 0 to 4 are the code, the place, the number of tuples, the length written and the number
@@ -63,7 +64,7 @@ enum {
 /* ---- codes: what a call returns, and what answer[HAC_CODE] holds; HAC_UNFIT is also a reader's for a type not asked for.
 
    23, 24 and 25 are about the samples of a ping. Their place is the byte of the first offender, for the check, the question, the
-   normal forms and all readers of a ping alike, whatever place these are handed. With i counted from 0:
+   settings, the normal forms and all readers of a ping alike, whatever place these are handed. With i counted from 0:
    - 23: the first sample number that isn't above the one before it, i the place of its sample. U-32 and U-32-16-angles: at
      ping + 24 + 8 i; U-16: ping + 24 + 4 i; U-16-angles: ping + 24 + 6 i.
    - 24: the first word outside the limits, i its place among the words. C-32: at ping + 28 + 4 i; C-16 and CE-16: ping + 28 + 2 i.
@@ -80,6 +81,9 @@ enum {
    - 14: the limits count both makers' together.
    - 17: a sounder's number of channels is the number of channels that name it.
    All four are listed, so none of them gives 18; neither does a ping of any kind.
+
+   19 is about memory lent to be written that is too short: bytes of `out`; entries of one of the slices that hac_settings and the
+   readers of samples, angles and records fill; for every call, entries of `answer`.
 
    21, 22 and 26 are ping writers' alone, 21 and 26 those of C-32, C-16 and CE-16: hac_write_c32 says more. 27 is hac_salvage's
    alone. */
@@ -135,9 +139,10 @@ enum {
 enum {
     HAC_CODE = 0,
     HAC_PLACE = 1,
-    HAC_TUPLES = 2,  /* a check, a question and the normaliser: those of the file; a salvage: those kept; a reader, a writer: 1 */
-    HAC_LENGTH = 3,  /* bytes or samples written, else 0 */
-    HAC_COMPARED = 4 /* hac_check, hac_ask and hac_normalise: identifiers compared, as said above; else 0 */
+    HAC_TUPLES = 2,  /* a check, a question, settings and the normaliser: those of the file; a salvage: those kept; a reader, a
+                        writer: 1 */
+    HAC_LENGTH = 3,  /* bytes or samples written, or pings told; else 0 */
+    HAC_COMPARED = 4 /* hac_check, hac_ask, hac_settings and hac_normalise: identifiers compared, as said above; else 0 */
 };
 
 /* ---- the check: 1, 2; tuple by tuple 4, 3, 5, 3, 6, 7, 9, 8, 12, 14, 13, 11, 23, 24, 25; behind the end of file 15, 16, 17 */
@@ -179,6 +184,43 @@ enum {
 };
 
 uint8_t hac_ask(const uint8_t *file, size_t length, size_t place, uint64_t *answer, size_t entries);
+
+/* ---- the settings: which threshold and which attitude held at each ping.
+
+   Each listed ping of the file, of all seven kinds and in file order, gets an entry in each of three slices:
+   - `pings`: its place;
+   - `thresholds`: the place of the last threshold (HAC_TYPE_THRESHOLD) before it for its channel;
+   - `attitudes`: the place of the last attitude (HAC_TYPE_ATTITUDE) before it for its channel or for all channels.
+   0, where the mark stands and so no tuple, is for none.
+
+   What comes last is decided by where tuples stand in the file, never by their clocks, which some recorders set back. In an
+   attitude 65535 means all channels, those declared behind it too; in a ping or a threshold it is an identifier like any other. A
+   tuple of a type that isn't listed sets nothing and is no ping.
+
+   How much to lend: no file has more than length / 36 listed pings, for the shortest, a U-16 ping of one sample, has 36 bytes. The
+   slices need not be of one length.
+
+   Refused as the check does; then by 19 at 0 where one of the slices has fewer entries than the file has listed pings. Length: the
+   number of these, and so of the entries written to each slice; entries past them stay.
+
+       uint64_t answer[HAC_SETTINGS_ENTRIES];
+       size_t room = length / 36 + 1;
+       size_t *pings = (size_t *)malloc(3 * room * sizeof *pings);
+       if (pings != NULL) {
+           size_t *thresholds = pings + room, *attitudes = thresholds + room;
+           if (hac_settings(file, length, pings, room, thresholds, room, attitudes, room, answer, HAC_SETTINGS_ENTRIES)
+               == HAC_ACCEPTED) {
+               for (size_t i = 0; i < answer[HAC_LENGTH]; i++)
+                   printf("ping at %lu: threshold at %lu, attitude at %lu\n", (unsigned long)pings[i],
+                       (unsigned long)thresholds[i], (unsigned long)attitudes[i]);
+           }
+       }
+       free(pings);
+*/
+enum { HAC_SETTINGS_ENTRIES = 5 };
+
+uint8_t hac_settings(const uint8_t *file, size_t length, size_t *pings, size_t pings_length, size_t *thresholds,
+    size_t thresholds_length, size_t *attitudes, size_t attitudes_length, uint64_t *answer, size_t entries);
 
 /* ---- the normal form of a file. Refused as the check does; then 18, 20, 19. Length: the bytes written. */
 enum { HAC_NORMALISE_ENTRIES = 5 };

@@ -2,8 +2,8 @@
 
 use hac::{
     write_u32, Attitude, Channel, DocumentId, FileEnd, Navigation, Order, PingHeader, Position,
-    Refusal, Signature, SoftwareChannel, Sounder, Transceiver, Walk, CHANNEL_LIMIT, FILE_LIMIT,
-    REMARK, TUPLE_LIMIT,
+    Refusal, Signature, SoftwareChannel, Sounder, Threshold, Transceiver, Walk, CHANNEL_LIMIT,
+    FILE_LIMIT, REMARK, TUPLE_LIMIT,
 };
 
 /// The one sounder of a deposit, and the first of its channels.
@@ -22,6 +22,11 @@ const GROWING_LIMIT: usize = FILE_LIMIT / 4 * 3;
 /// The channels of a deposit with some, and of one with as many as may be.
 const SOME_CHANNELS: u16 = 64;
 const MOST_CHANNELS: u16 = CHANNEL_LIMIT as u16;
+
+/// Of so many tuples in a row one is a threshold and one an attitude, and one of so many
+/// attitudes is for all channels.
+const SET_EVERY: u32 = 7;
+const ALL_EVERY: u32 = 10;
 
 /// The blocks of disks, of which one in so many is damaged.
 const BLOCKS: [usize; 2] = [512, 4096];
@@ -419,11 +424,7 @@ fn cruise(order: Order, limit: usize) -> Result<Vec<u8>, Refusal> {
         match count / round % 3 {
             0 => Position::default().write(order, tuple),
             1 => navigation(order, count, tuple),
-            _ => Attitude {
-                software_channel_identifier: CHANNEL,
-                ..Attitude::default()
-            }
-            .write(order, tuple),
+            _ => attitude(order, CHANNEL, tuple),
         }
     })
 }
@@ -477,6 +478,60 @@ fn by_chance(channels: u16) -> Result<Vec<u8>, Refusal> {
     short_pings(channels, |_| (chance.next() % u32::from(channels)) as u16)
 }
 
+/// Short pings with settings between them: of seven tuples in a row, all of channels that
+/// `named` gives, one is a threshold and one an attitude, every tenth of these for all.
+fn set_pings(
+    order: Order,
+    channels: u16,
+    mut named: impl FnMut(u32) -> u16,
+) -> Result<Vec<u8>, Refusal> {
+    Draft::new(order, channels)?.fill(FILE_LIMIT, |order, count, tuple| {
+        let channel = nth_channel(named(count));
+        match (count % SET_EVERY, count / SET_EVERY % ALL_EVERY) {
+            (0, _) => threshold(order, channel, tuple),
+            (1, 0) => attitude(order, SoftwareChannel::ALL, tuple),
+            (1, _) => attitude(order, channel, tuple),
+            _ => write_u32(&header(channel, count), 0, &[0], &[5], order, tuple),
+        }
+    })
+}
+
+fn threshold(
+    order: Order,
+    software_channel_identifier: SoftwareChannel,
+    tuple: &mut [u8],
+) -> Result<usize, Refusal> {
+    let told = Threshold {
+        software_channel_identifier,
+        ..Threshold::default()
+    };
+    told.write(order, tuple)
+}
+
+fn attitude(
+    order: Order,
+    software_channel_identifier: SoftwareChannel,
+    tuple: &mut [u8],
+) -> Result<usize, Refusal> {
+    let told = Attitude {
+        software_channel_identifier,
+        ..Attitude::default()
+    };
+    told.write(order, tuple)
+}
+
+fn set_in_turn(order: Order, channels: u16) -> Result<Vec<u8>, Refusal> {
+    let channels_in_turn = |count| (count % u32::from(channels)) as u16;
+    set_pings(order, channels, channels_in_turn)
+}
+
+fn set_by_chance(order: Order, channels: u16) -> Result<Vec<u8>, Refusal> {
+    let mut chance = Chance(86420);
+    set_pings(order, channels, |_| {
+        (chance.next() % u32::from(channels)) as u16
+    })
+}
+
 /// The small tuples again, the last one's backlink altered.
 fn refused_at_last(accepted: &[u8]) -> Vec<u8> {
     let mut bytes = accepted.to_vec();
@@ -509,6 +564,23 @@ pub fn linked() -> Result<Vec<Deposit>, Refusal> {
             "1,024 channels, the last",
             short_pings(MOST_CHANNELS, |_| MOST_CHANNELS - 1)?,
         ),
+    ]))
+}
+
+/// Those that show what settings cost: short pings with thresholds and attitudes between
+/// them, on few and on many channels.
+pub fn set() -> Result<Vec<Deposit>, Refusal> {
+    let [lsb, msb] = [Order::Lsb, Order::Msb];
+    Ok(taken([
+        ("1 channel", set_in_turn(lsb, 1)?),
+        ("64 channels in turn", set_in_turn(lsb, SOME_CHANNELS)?),
+        ("64 channels by chance", set_by_chance(lsb, SOME_CHANNELS)?),
+        ("1,024 channels in turn", set_in_turn(lsb, MOST_CHANNELS)?),
+        (
+            "1,024 channels by chance",
+            set_by_chance(lsb, MOST_CHANNELS)?,
+        ),
+        ("1,024 by chance, MSB", set_by_chance(msb, MOST_CHANNELS)?),
     ]))
 }
 

@@ -3,14 +3,17 @@
 //! files, the proved library's beside the second program's and beside a plain copy of
 //! the same bytes, and reading one record, in one run; with `records`, the last alone;
 //! with `count`, counts the instructions of the calls on deposits, but for the short
-//! pings; with `salvage`, times salvage of sound, damaged and crafted files. docs/SPEED.md
-//! says what was measured, and how.
+//! pings; with `salvage`, times salvage of sound, damaged and crafted files; with
+//! `settings`, times the settings of deposits of short pings with thresholds and attitudes
+//! between them, on few and on many channels. docs/SPEED.md says what was measured, and
+//! how.
 
 mod count;
 mod crafted;
 mod deposits;
 mod records;
 mod salvage;
+mod settings;
 
 use deposits::Deposit;
 use hac::{Refusal, FILE_LIMIT};
@@ -168,8 +171,9 @@ fn main() -> Result<(), String> {
         ["once", call, path] => count::once(call, path),
         ["records"] => records::show(),
         ["salvage"] => salvage::show(),
+        ["settings"] => settings::show(),
         _ => Err(format!(
-            "bench [count | records | salvage], not {}",
+            "bench [count | records | salvage | settings], not {}",
             words.join(" ")
         )),
     }

@@ -243,6 +243,11 @@ impl Batch {
         self.lend_bytes(&entry_bytes(left), ENTRY)
     }
 
+    pub fn lend_places(&mut self, left: &[u64]) -> Arg {
+        let left: Vec<usize> = left.iter().map(|place| *place as usize).collect();
+        self.lend_entries(&left)
+    }
+
     /// Words to read from, and halves of them.
     pub fn give_words(&mut self, words: &[u32]) -> Arg {
         self.give(&word_bytes(words)).of(WORD).into()
@@ -336,6 +341,11 @@ impl Batch {
     /// Notes what salvage met.
     pub fn met_in_salvage(&mut self, what: String) {
         self.tally.met_in_salvage(what);
+    }
+
+    /// Notes what settings met.
+    pub fn met_in_settings(&mut self, what: String) {
+        self.tally.met_in_settings(what);
     }
 
     /// Notes that a channel of this maker named a sounder of the other.

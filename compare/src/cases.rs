@@ -4,13 +4,13 @@ use crate::batch::Batch;
 use crate::files::{self, compare_file, compare_whole, Places};
 use crate::pings::{self, compare_limit_pings, compare_pings};
 use crate::records::{self, compare_long_texts, compare_records};
-use crate::salvage;
 use crate::tally::Given;
+use crate::{salvage, settings};
 use second::gen::{big_limit_count, file_case, limit_count, Case, Rng};
 use std::io;
 
 /// Behind each case that is compared in full come so many of which only the
-/// check, the walks, the pings, salvage and the normal form are.
+/// check, the walks, the pings, settings, salvage and the normal form are.
 const LIGHT: u64 = 40;
 
 /// Record and ping writers are tried so many times a case.
@@ -28,7 +28,8 @@ const WRITERS: u64 = 0x5EC0_4D57_0817_E455;
 /// What each export can give, as those who compare it say.
 pub fn given() -> Vec<Given> {
     let all = files::GIVEN.into_iter().chain(pings::GIVEN);
-    all.chain(records::GIVEN).chain(salvage::GIVEN).collect()
+    let all = all.chain(records::GIVEN).chain(salvage::GIVEN);
+    all.chain(settings::GIVEN).collect()
 }
 
 /// So many cases are compared in full, of a number of cases asked for.

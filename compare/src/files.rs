@@ -1,5 +1,5 @@
 //! What is compared of a file: the check, the walks, pings and records read at many
-//! places, salvage, and the normal form.
+//! places, settings, salvage, and the normal form.
 
 use crate::answers::{five, reply_numbers};
 use crate::batch::{Batch, File, FILLED, HALF_FILLED};
@@ -7,6 +7,7 @@ use crate::exports::{export, Export};
 use crate::kinds::header_numbers;
 use crate::records;
 use crate::salvage::compare_salvage;
+use crate::settings::{compare_settings, Tries};
 use crate::tally::{Deed, Given};
 use second::gen::{Case, Rng};
 use second::layout::{CHANNEL_LIMIT, FILE_LIMIT};
@@ -159,12 +160,14 @@ fn call_at(batch: &mut Batch, export: Export, file: &mut File, place: u64, numbe
 }
 
 /// The check, both walks, fields, samples and angles of each ping, the parents of the
-/// first and the last, salvage and the normal form. Gives that, where there is one.
+/// first and the last, settings, salvage and the normal form. Gives that, where there is
+/// one.
 pub fn compare_whole(batch: &mut Batch, case: &Case) -> io::Result<Option<Vec<u8>>> {
     let mut file = File::new(&case.bytes);
     check_file(batch, &mut file, case.expected);
     let tuples = walk_both(batch, &mut file)?;
     each_ping(batch, &mut file, &tuples)?;
+    compare_settings(batch, &mut file, Tries::One)?;
     compare_salvage(batch, &mut file)?;
     compare_normal(batch, export("normalise"), normalise, &mut file)
 }
@@ -230,6 +233,7 @@ pub fn compare_file(
     } else {
         one_tuple(batch, file.bytes)?;
     }
+    compare_settings(batch, &mut file, Tries::All)?;
     compare_salvage(batch, &mut file)?;
     compare_normal(batch, export("normalise"), normalise, &mut file)
 }

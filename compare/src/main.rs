@@ -20,6 +20,7 @@ mod pings;
 mod records;
 mod runner;
 mod salvage;
+mod settings;
 mod tally;
 mod writing;
 

@@ -1,10 +1,10 @@
 //! What was compared: how often each export was called, which codes it gave, how
 //! many identifiers it told as compared, which records were met and which files, and
-//! what salvage met in these.
+//! what salvage and settings met in these.
 
 use crate::exports::{Export, EXPORTS};
 use crate::kinds::KINDS;
-use crate::salvage;
+use crate::{salvage, settings};
 use second::kinds::{Kind, KINDS as PING_KINDS};
 use second::layout::{CHANNEL_LIMIT, FILE_LIMIT};
 use second::{Maker, Order, PingKind};
@@ -127,6 +127,36 @@ impl Count {
     }
 }
 
+/// What a call met in the files, and how often.
+#[derive(Clone, Default)]
+struct Met(BTreeMap<String, u64>);
+
+impl Met {
+    fn note(&mut self, what: String) {
+        *self.0.entry(what).or_default() += 1;
+    }
+
+    fn add(&mut self, other: &Met) {
+        for (what, times) in &other.0 {
+            *self.0.entry(what.clone()).or_default() += times;
+        }
+    }
+
+    fn tell(&self, call: &str) -> String {
+        let met = self.0.iter();
+        let met: Vec<String> = met.map(|(what, times)| format!("{what} {times}")).collect();
+        format!("{call} met {}", met.join("; "))
+    }
+
+    /// What it never met of what it has to.
+    fn never(&self, call: &str, wanted: Vec<String>) -> Vec<String> {
+        let never = wanted.iter().filter(|what| !self.0.contains_key(*what));
+        never
+            .map(|what| format!("{call} never met {what}"))
+            .collect()
+    }
+}
+
 /// Of the files that begin with one of the marks.
 #[derive(Clone, Default)]
 struct Marked {
@@ -149,8 +179,9 @@ pub struct Tally {
     other_maker: [u64; 2],
     /// In the order of the kinds of ping.
     pings: [Pings; PING_KINDS.len()],
-    /// What salvage met, and how often.
-    salvage: BTreeMap<String, u64>,
+    /// What salvage met, and what settings met.
+    salvage: Met,
+    settings: Met,
     pub cases: u64,
     files: u64,
     bytes: u64,
@@ -165,7 +196,8 @@ impl Default for Tally {
             marked: Default::default(),
             other_maker: [0; 2],
             pings: Default::default(),
-            salvage: BTreeMap::new(),
+            salvage: Met::default(),
+            settings: Met::default(),
             cases: 0,
             files: 0,
             bytes: 0,
@@ -209,7 +241,12 @@ impl Tally {
 
     /// Counts what salvage met.
     pub fn met_in_salvage(&mut self, what: String) {
-        *self.salvage.entry(what).or_default() += 1;
+        self.salvage.note(what);
+    }
+
+    /// Counts what settings met.
+    pub fn met_in_settings(&mut self, what: String) {
+        self.settings.note(what);
     }
 
     /// Of each kind of ping and each deed how often it was done, without a length and with
@@ -267,9 +304,8 @@ impl Tally {
         for (sum, times) in self.other_maker.iter_mut().zip(other.other_maker) {
             *sum += times;
         }
-        for (what, times) in &other.salvage {
-            *self.salvage.entry(what.clone()).or_default() += times;
-        }
+        self.salvage.add(&other.salvage);
+        self.settings.add(&other.settings);
         let sums = self.pings.as_flattened_mut().as_flattened_mut();
         for (sum, times) in sums
             .iter_mut()
@@ -281,7 +317,8 @@ impl Tally {
 
     /// In words, a line each: cases and files; each export's calls with the codes
     /// that they gave and the identifiers compared; the records; the channels that
-    /// named a sounder of the other maker; the pings of each kind; what salvage met.
+    /// named a sounder of the other maker; the pings of each kind; what salvage and
+    /// settings met.
     pub fn tell(&self) -> Vec<String> {
         let [lsb, msb] = &self.marked;
         let calls: u64 = self.exports.iter().map(Count::calls).sum();
@@ -323,9 +360,8 @@ impl Tally {
             };
             lines.push(format!("{name} {what} {}{lengths}", without + with));
         }
-        let met = self.salvage.iter();
-        let met: Vec<String> = met.map(|(what, times)| format!("{what} {times}")).collect();
-        lines.push(format!("salvage met {}", met.join("; ")));
+        lines.push(self.salvage.tell("salvage"));
+        lines.push(self.settings.tell("settings"));
         lines
     }
 
@@ -370,8 +406,8 @@ impl Tally {
 
     /// What was not compared: codes that no call gave; what an export or a record
     /// never did; files at the limit and past it in either order; a sounder of the
-    /// other maker named by a channel of either; pings of each kind; what salvage has to
-    /// meet.
+    /// other maker named by a channel of either; pings of each kind; what salvage and
+    /// settings have to meet.
     pub fn missing(&self, given: &[Given]) -> Vec<String> {
         let mut missing = Vec::new();
         for (export, count) in EXPORTS.iter().zip(&self.exports) {
@@ -408,9 +444,8 @@ impl Tally {
                 }
             }
         }
-        let wanted = salvage::wanted().into_iter();
-        let never = wanted.filter(|what| !self.salvage.contains_key(what));
-        missing.extend(never.map(|what| format!("salvage never met {what}")));
+        missing.extend(self.salvage.never("salvage", salvage::wanted()));
+        missing.extend(self.settings.never("settings", settings::wanted()));
         missing
     }
 }

@@ -134,6 +134,7 @@ fn declarations() {
         call.map(|call| call.entries)
     };
     assert_eq!(entries("check"), Some(5));
+    assert_eq!(entries("settings"), Some(5));
     assert_eq!(entries("salvage"), Some(7));
     assert_eq!(entries("read_ping"), Some(16));
     assert_eq!(entries("read_record"), Some(7));

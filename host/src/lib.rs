@@ -1,5 +1,6 @@
-//! HAC fisheries recordings: checked, walked both ways, linked, read, written,
-//! brought to one normal form and salvaged, by the proved library.
+//! HAC fisheries recordings: checked, walked both ways, linked, asked which settings
+//! held at each ping, read, written, brought to one normal form and salvaged, by the
+//! proved library.
 //!
 //! A file is a slice of bytes and may hold anything; a place is a byte offset
 //! in it. Every call accepts, or gives a [`Refusal`]: the first rule broken, in
@@ -48,6 +49,7 @@ mod normal;
 mod ping;
 mod record;
 mod salvage;
+mod settings;
 pub mod types;
 mod walk;
 mod wrong;
@@ -60,6 +62,7 @@ pub use normal::*;
 pub use ping::*;
 pub use record::*;
 pub use salvage::*;
+pub use settings::*;
 pub use types::Maker;
 pub use walk::*;
 pub use wrong::*;

@@ -21,6 +21,7 @@ mod progress;
 mod records;
 mod room;
 mod salvage;
+mod settings;
 mod streams;
 mod walk;
 mod wrong;

@@ -12,7 +12,9 @@ fn help_and_version() {
     ] {
         let ran = run(&mut hac(arguments));
         assert_eq!((ran.status, ran.err.as_str()), (0, ""));
-        for command in ["check", "normal", "salvage", "walk", "parents", "samples"] {
+        for command in [
+            "check", "normal", "salvage", "walk", "parents", "samples", "settings",
+        ] {
             assert!(ran.out.contains(&format!("hac {command} ")), "{command}");
         }
     }
@@ -34,7 +36,7 @@ fn bad_use() {
     let room = Room::new();
     let known = Known::sample("cruise-lsb");
     let file = known.path.to_str().expect("a plain name");
-    let uses: [&[&str]; 16] = [
+    let uses: [&[&str]; 20] = [
         &[],
         &["judge"],
         &["judge", file],
@@ -51,6 +53,10 @@ fn bad_use() {
         &["samples", file, "-1"],
         &["samples", file, "4", "4"],
         &["samples", file, "18446744073709551616"],
+        &["settings"],
+        &["settings", file, "4"],
+        &["settings", file, "--back"],
+        &["settings", file, "-o", "out.hac"],
     ];
     for arguments in uses {
         is_bad_use(&room, arguments);
@@ -88,12 +94,14 @@ fn no_files() {
     let folder = room.path().to_str().expect("a plain name");
     let none = room.at("none.hac");
     let none = none.to_str().expect("a plain name");
-    let uses: [&[&str]; 9] = [
+    let uses: [&[&str]; 11] = [
         &["check", none],
         &["walk", folder],
         &["walk", none],
         &["parents", none, "4"],
         &["samples", folder, "4"],
+        &["settings", none],
+        &["settings", folder],
         &["normal", none, "-o", "out.hac"],
         &["normal", folder, "-o", "out.hac"],
         &["salvage", none, "-o", "out.hac"],

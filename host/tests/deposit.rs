@@ -1,5 +1,7 @@
 //! Files put together tuple by tuple, of either maker's sounders and channels.
 
+use crate::known::two_bytes;
+use crate::settings::told;
 use hac::*;
 
 /// 02's limits.
@@ -47,6 +49,11 @@ impl Deposit {
         self.bytes.extend(tuple);
         self.tuples += 1;
         place
+    }
+
+    /// Another type for the tuple at a place.
+    pub fn retype(&mut self, place: usize, kind: u16) {
+        self.bytes[place + 4..place + 6].copy_from_slice(&two_bytes(self.order, kind));
     }
 
     /// A sounder, of Biosonics where nothing else is said.
@@ -111,6 +118,11 @@ impl Deposit {
         self.put(|order, out| write_c32(&header(channel), 0, &[0], &[5], None, order, out))
     }
 
+    /// The shortest ping that there is.
+    pub fn ping_u16(&mut self, channel: u16) -> usize {
+        self.put(|order, out| write_u16(&header(channel), 0, &[0], &[5], order, out))
+    }
+
     pub fn threshold(&mut self, channel: u16) -> usize {
         let threshold = Threshold {
             software_channel_identifier: SoftwareChannel(channel),
@@ -133,8 +145,8 @@ impl Deposit {
         &self.bytes
     }
 
-    /// Accepted, with so many identifiers compared: by the check, by the normaliser,
-    /// and by a question about the ping at a place.
+    /// Accepted, with so many identifiers compared: by the check, by the normaliser, by
+    /// the settings, and by a question about the ping at a place.
     pub fn compares(mut self, ping: usize, compared: usize) {
         self.ended();
         let (file, tuples) = (&self.bytes, self.tuples);
@@ -142,22 +154,26 @@ impl Deposit {
         let mut out = vec![0; file.len()];
         let normal = normalise(file, &mut out).expect("a normal form");
         assert_eq!((normal.tuples, normal.compared), (tuples, compared));
+        let told = told(file).expect("its settings");
+        assert_eq!((told.tuples, told.compared), (tuples, compared));
         let parents = ask(file, ping).expect("its parents");
         assert_eq!((parents.tuples, parents.compared), (tuples, compared));
         assert!(compared <= usize::from(CHANNELS) * tuples);
     }
 
-    /// Refused by the check, the normaliser and questions alike.
+    /// Refused by the check, the normaliser, the settings and questions alike.
     pub fn refused(mut self, code: Code, place: usize) {
         let file = self.ended();
         let refusal = Refusal { code, place };
         assert_eq!(check(file), Err(refusal));
         assert_eq!(normalise(file, &mut []), Err(refusal));
+        assert_eq!(settings(file), Err(refusal));
         assert_eq!(ask(file, place), Err(refusal));
     }
 }
 
-fn header(channel: u16) -> PingHeader {
+/// What a ping of a channel has before its samples, all else 0.
+pub fn header(channel: u16) -> PingHeader {
     PingHeader {
         software_channel_identifier: SoftwareChannel(channel),
         ..PingHeader::default()

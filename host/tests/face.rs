@@ -59,7 +59,7 @@ fn example_of(call: &str) -> String {
     examples.find(shows).expect("an example")
 }
 
-/// Both examples, as a function that is handed what they need.
+/// All examples, each as a function that is handed what it needs.
 #[test]
 fn the_examples() {
     let first = example_of("check");
@@ -69,6 +69,7 @@ fn the_examples() {
     let file = "const uint8_t *file, size_t length";
     for (example, handed) in [
         (first, file.to_string()),
+        (example_of("settings"), file.to_string()),
         (example_of("salvage"), format!("{file}, FILE *to")),
     ] {
         let source = format!(
@@ -303,6 +304,26 @@ const SALVAGE: [&str; 9] = [
 #[test]
 fn salvage() {
     prints("salvage", &SALVAGE);
+}
+
+/// What settings.c prints, by 02: the lengths of the tuples give the places. Compared are a
+/// channel's sounder and the channel of three pings, two thresholds and one attitude.
+const SETTINGS: [&str; 8] = [
+    "ping at 244: threshold at 0, attitude at 0",
+    "ping at 360: threshold at 280, attitude at 324",
+    "ping at 432: threshold at 280, attitude at 396",
+    "tuples 12, length 3, compared 7",
+    "refused 19 at 0, nothing written",
+    "refused 19 at 0, nothing written",
+    "refused 19 at 0, nothing written",
+    "refused 2 at 0, nothing written",
+];
+
+/// Which settings held at each ping, asked in C with what the header says to lend, and
+/// with less.
+#[test]
+fn settings() {
+    prints("settings", &SETTINGS);
 }
 
 fn hexadecimal(bytes: &[u8]) -> String {

@@ -3,7 +3,6 @@
 
 use crate::deposit::{Deposit, CHANNELS, ORDERS, SOUNDERS};
 use crate::json;
-use crate::known::two_bytes;
 use crate::pings::printed;
 use crate::room::{hac, run, Room};
 use hac::*;
@@ -38,11 +37,6 @@ fn type_at(file: &[u8], place: usize) -> u16 {
         Step::Tuple { tuple, .. } => tuple.kind,
         step => panic!("no tuple at {place}: {step:?}"),
     }
-}
-
-/// Another type for the tuple at a place.
-fn retype(deposit: &mut Deposit, order: Order, place: usize, kind: u16) {
-    deposit.bytes[place + 4..place + 6].copy_from_slice(&two_bytes(order, kind));
 }
 
 /// A tuple put to a file, and the type that it gets in the place of its own.
@@ -194,7 +188,7 @@ fn the_type_tells_the_maker() {
         let place = deposit.channel_by(maker, 1, 5);
         deposit.ping_u32(1);
         let (_, kind) = types_of(other(maker));
-        retype(&mut deposit, order, place, kind);
+        deposit.retype(place, kind);
         deposit.refused(Code::NoParent, place);
     }
 }
@@ -314,7 +308,7 @@ fn unlisted_types_of_other_makers() {
         for (put, kind) in more {
             let mut deposit = begun.clone();
             let place = put(&mut deposit);
-            retype(&mut deposit, order, place, kind);
+            deposit.retype(place, kind);
             let file = deposit.ended();
             assert!(check(file).is_ok(), "{kind}");
             let refusal = Refusal {
@@ -341,7 +335,7 @@ fn unfit_lengths() {
             let mut deposit = Deposit::begun(order);
             deposit.sounder_by(Maker::Simrad, 5, 1);
             let place = put(&mut deposit);
-            retype(&mut deposit, order, place, kind);
+            deposit.retype(place, kind);
             deposit.refused(Code::Unfit, place);
         }
     }

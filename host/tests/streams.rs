@@ -37,6 +37,8 @@ fn standard_input() {
     let place = known.pings()[0].place.to_string();
     assert_eq!(fed(&["parents", "-", &place], &known.bytes).status, 0);
     assert_eq!(fed(&["samples", "-", &place], &known.bytes).status, 0);
+    let ran = fed(&["settings", "-"], &known.bytes);
+    assert_eq!((ran.status, ran.lines().len()), (0, known.pings().len()));
 
     let out = room.at("out.hac");
     let path = out.to_str().expect("a plain name");
@@ -141,12 +143,13 @@ fn closed_output() {
     let known = Known::sample("cruise-lsb");
     let path = known.path.to_str().expect("a plain name");
     let place = known.pings()[0].place.to_string();
-    let commands: [&[&str]; 6] = [
+    let commands: [&[&str]; 7] = [
         &["check", path],
         &["check", "--json", path, path],
         &["walk", path],
         &["parents", path, &place],
         &["samples", path, &place],
+        &["settings", path],
         &["--help"],
     ];
     for arguments in commands {
@@ -197,7 +200,7 @@ fn closed_while_waiting() {
 #[test]
 fn full_output() {
     let path = Known::sample("cruise-lsb").path;
-    for command in ["check", "walk"] {
+    for command in ["check", "walk", "settings"] {
         let full = File::options()
             .write(true)
             .open("/dev/full")

@@ -7,6 +7,7 @@ mod of_narrow_writers;
 mod of_pings;
 mod of_records;
 mod of_salvage;
+mod of_settings;
 mod of_wide_writers;
 
 use layout::Answer;

@@ -33,6 +33,14 @@ pub use frame::Walk;
 pub use intake::Asked;
 pub use intake::ask;
 
+// settings(file, pings, thresholds, attitudes): which settings held at each listed ping, in file order, an entry of all three slices for
+// each: its place, the place of the last threshold before it for its channel, and that of the last attitude before it for its channel or
+// for all; 0 for none. File order decides, and clocks don't. Refuses as the check does, then by 19 at 0 where one of the slices is short.
+// Accepts with the file's tuples, the number of pings as the length, and the identifiers compared. Promise: `SettingsTold`,
+// crates/settings/specs/Settings.antt; what the rows mean, and that they hang on nothing behind a ping: `Settings`,
+// crates/settings/specs/Governing.antt.
+pub use settings::settings;
+
 // Pings are of seven kinds. With values: U-32 (10000) and U-16 (10030) uncompressed, C-32 (10010), C-16 (10040) and CE-16 (10050)
 // compressed. With angles, uncompressed: U-32-16-angles (10001) and U-16-angles (10031).
 

@@ -20,6 +20,7 @@ pub enum Task {
     Walk { back: bool },
     Parents { place: usize },
     Samples { place: usize },
+    Settings,
 }
 
 impl Task {
@@ -27,7 +28,9 @@ impl Task {
     pub fn out(&self) -> Option<&Path> {
         match self {
             Task::Normal { out } | Task::Salvage { out } => Some(out),
-            Task::Walk { .. } | Task::Parents { .. } | Task::Samples { .. } => None,
+            Task::Walk { .. } | Task::Parents { .. } | Task::Samples { .. } | Task::Settings => {
+                None
+            }
         }
     }
 }
@@ -117,6 +120,7 @@ impl Sorted {
             "walk" => rest.one(|_| Ok(Task::Walk { back: self.back })),
             "parents" => rest.one(|rest| rest.place().map(|place| Task::Parents { place })),
             "samples" => rest.one(|rest| rest.place().map(|place| Task::Samples { place })),
+            "settings" => rest.one(|_| Ok(Task::Settings)),
             _ => Err(format!("{} is no command", shown(&word))),
         }
     }

@@ -1,5 +1,5 @@
-//! The command `hac`: HAC recordings checked, walked, linked, read, brought to their
-//! normal form and salvaged, by the proved library.
+//! The command `hac`: HAC recordings checked, walked, linked, asked which settings held at
+//! each ping, read, brought to their normal form and salvaged, by the proved library.
 
 #![forbid(unsafe_code)]
 
@@ -16,6 +16,7 @@ mod parents;
 mod progress;
 mod salvage;
 mod samples;
+mod settings;
 mod shown;
 mod stop;
 mod summary;
@@ -48,6 +49,10 @@ HAC fisheries recordings: checked, walked, brought to their normal form, salvage
                             ping of angles number, alongship, athwartship; behind
                             them the ping's length, runs counted, where it ends in
                             silence
+  hac settings FILE         the settings that held at each ping: the ping's place,
+                            channel and number, then the place of the last threshold
+                            before it for its channel and that of the last attitude
+                            before it for its channel or for all, - for none
 
   --json       one object a line
   --help       this page

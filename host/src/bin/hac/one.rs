@@ -5,7 +5,7 @@ use crate::input::{self, Input};
 use crate::output::{say, say_verdict, Broken, Output};
 use crate::stop::Stop;
 use crate::verdict::{Status, Verdict};
-use crate::{normal, out, parents, salvage, samples, walk};
+use crate::{normal, out, parents, salvage, samples, settings, walk};
 use hac::Walk;
 
 pub fn run(input: &Input, task: &Task, output: &mut Output) -> Result<(), Broken> {
@@ -42,9 +42,11 @@ fn tell(input: &Input, verdict: &Verdict, output: &mut Output) -> Result<(), Bro
 fn judged_from(task: &Task) -> Walk {
     match task {
         Task::Samples { place } => Walk { at: *place },
-        Task::Normal { .. } | Task::Salvage { .. } | Task::Walk { .. } | Task::Parents { .. } => {
-            Walk::START
-        }
+        Task::Normal { .. }
+        | Task::Salvage { .. }
+        | Task::Walk { .. }
+        | Task::Parents { .. }
+        | Task::Settings => Walk::START,
     }
 }
 
@@ -66,5 +68,6 @@ fn perform(
         Task::Walk { back } => walk::run(bytes, *back, output),
         Task::Parents { place } => parents::run(bytes, *place, output),
         Task::Samples { place } => samples::run(bytes, *place, output),
+        Task::Settings => settings::run(bytes, output),
     }
 }

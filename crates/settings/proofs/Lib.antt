@@ -1,0 +1,5 @@
+pub mod Roles
+pub mod Holds
+pub mod Governing
+pub mod Fills
+pub mod Answers
