@@ -10,6 +10,7 @@
 pub mod answer;
 pub mod check;
 pub mod content;
+pub mod corrections;
 pub mod gen;
 pub mod kinds;
 pub mod layout;
@@ -30,6 +31,7 @@ pub mod words;
 pub use answer::{Answer, Reply};
 pub use check::check;
 pub use content::{content, Entry};
+pub use corrections::{corrected, Corrected, WhichFile};
 pub use kinds::{Family, PingKind};
 pub use links::{DocumentId, Maker, SoftwareChannel, TransceiverNumber};
 pub use normal::normalise;

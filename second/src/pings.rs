@@ -22,7 +22,7 @@ pub struct PingHeader {
 }
 
 impl PingHeader {
-    fn take(tuple: &[u8], order: Order) -> PingHeader {
+    pub(crate) fn take(tuple: &[u8], order: Order) -> PingHeader {
         PingHeader {
             time_fraction: two_at(order, tuple, 6),
             time_cpu_ansi_c_standard_time: four_at(order, tuple, 8),
@@ -41,6 +41,11 @@ impl PingHeader {
         put_four(order, tuple, 16, self.ping_number);
         put_four(order, tuple, 20, self.detected_bottom_range as u32);
     }
+}
+
+/// A ping's attribute, which is signed and stands just before the backlink.
+pub(crate) fn attribute(tuple: &[u8], order: Order) -> i32 {
+    four_at(order, tuple, tuple.len() - TAIL) as i32
 }
 
 /// What a ping says besides its samples.
@@ -64,7 +69,7 @@ impl Ping {
         let Found { tuple, order, kind } = found;
         let ping = Ping {
             header: PingHeader::take(tuple, order),
-            tuple_attribute: four_at(order, tuple, tuple.len() - TAIL) as i32,
+            tuple_attribute: attribute(tuple, order),
             kind,
             values: found.values(place)?,
             length: ping_length(tuple, kind, order),

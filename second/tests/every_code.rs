@@ -1,5 +1,5 @@
-//! Every code from 1 to 27 is really given by something, but for 10, which
-//! request c of 02 took away.
+//! Every code is really given by something: those from 1 to 27, but for 10, which
+//! request c of 02 took away, and 31, request k's.
 
 mod common;
 
@@ -7,7 +7,7 @@ use common::{lent, seed, tuples_found};
 use second::gen::{big_limit, file_case};
 use second::pings::{read_samples, write_c32, write_u32, Ping, PingHeader};
 use second::programs::normalise_tuple;
-use second::{check, normalise, parents, salvage, Order, SoftwareChannel};
+use second::{check, corrected, normalise, parents, salvage, Order, SoftwareChannel};
 use std::collections::BTreeSet;
 
 /// The codes that calls give for a file, at the places of its tuples too.
@@ -26,6 +26,7 @@ fn codes(file: &[u8]) -> Vec<u32> {
         ]);
     }
     codes.push(parents(file, 4).map_or_else(|refusal| refusal.code, |_| 0));
+    codes.push(corrected(file, file, SoftwareChannel(0), 0).answer.code);
     codes.push(salvage(file, &mut [], &mut []).map_or_else(|refusal| refusal.code, |_| 0));
     codes
 }
@@ -61,5 +62,6 @@ fn every_code_is_seen() {
             seen.insert(write_c32(&header, 0, numbers, values, length, Order::Lsb, out).code);
         }
     }
-    assert_eq!(seen, (0..=27).filter(|code| *code != 10).collect());
+    let codes = (0..=27).filter(|code| *code != 10);
+    assert_eq!(seen, codes.chain([31]).collect());
 }

@@ -787,24 +787,34 @@ fn bad_mark(rng: &mut Rng, mut bytes: Vec<u8>) -> Vec<u8> {
 
 /// A file with one fault of a kind, and the answer that its rule tells.
 pub fn fault(rng: &mut Rng, kind: Kind) -> Case {
-    let mut drafts = sound_drafts(rng, &Wish::any());
+    let drafts = sound_drafts(rng, &Wish::any());
     let style = Style::any(rng);
+    fault_in(rng, kind, drafts, style).unwrap_or_else(|| fault(rng, Kind::Backlink))
+}
+
+/// The file of sound drafts with one fault of a kind, and the answer that its rule tells;
+/// none where the drafts don't allow the kind.
+pub(super) fn fault_in(
+    rng: &mut Rng,
+    kind: Kind,
+    mut drafts: Vec<Draft>,
+    style: Style,
+) -> Option<Case> {
     let name = format!("damaged-{}-{}", kind.name(), style.name());
-    if is_local(kind) {
-        let mut at = somewhere(&drafts, rng);
-        if [Kind::PassesEnd, Kind::Size, Kind::Backlink].contains(&kind) && rng.chance(10) {
-            at = 0;
-        }
-        // The end of file has everything declared before it.
-        if spoil(&mut drafts.clone(), at, kind, &mut rng.clone()).is_none() {
-            at = drafts.len() - 1;
-        }
-        return match spoil(&mut drafts, at, kind, rng) {
-            Some(offender) => local_case(name, render(&drafts, &style, rng), offender, kind),
-            None => fault(rng, Kind::Backlink),
-        };
+    if !is_local(kind) {
+        return Some(whole_file_fault(rng, kind, drafts, style, name));
     }
-    whole_file_fault(rng, kind, drafts, style, name)
+    let mut at = somewhere(&drafts, rng);
+    if [Kind::PassesEnd, Kind::Size, Kind::Backlink].contains(&kind) && rng.chance(10) {
+        at = 0;
+    }
+    // The end of file has everything declared before it.
+    if spoil(&mut drafts.clone(), at, kind, &mut rng.clone()).is_none() {
+        at = drafts.len() - 1;
+    }
+    let offender = spoil(&mut drafts, at, kind, rng)?;
+    let rendered = render(&drafts, &style, rng);
+    Some(local_case(name, rendered, offender, kind))
 }
 
 fn whole_file_fault(

@@ -1,10 +1,11 @@
 //! A seeded generator of cases: sound files, some of them of settings, damaged ones, by
-//! rule, blindly and as disks do it, limit cases, pairs of files, and lines for the two
-//! programs.
+//! rule, blindly and as disks do it, limit cases, pairs of files, pairs of a deposit and its
+//! corrections, and lines for the two programs.
 //!
 //! It has an encoder of its own, so that a fault of the library's writers or
 //! tables shows against it. A case is a function of its seed and its number.
 
+mod corrections;
 mod disk;
 mod draft;
 mod faults;
@@ -15,6 +16,7 @@ mod settings;
 mod sound;
 mod vessels;
 
+pub use corrections::{correction_case, CorrectionCase, Question};
 pub use disk::{disk_fault, DiskFault, DISK_FAULTS};
 pub use draft::{render, Body, Draft, Patch, Piece, PingStyle, Rendered, Style};
 pub use faults::{fault, noise, random_damage, two_faults, Kind, Spot, FAULT_KINDS, LONG_KIND};

@@ -599,7 +599,7 @@ impl Plan {
         }
     }
 
-    fn add_other(&mut self, rng: &mut Rng) {
+    pub fn add_other(&mut self, rng: &mut Rng) {
         let channel = self.any_channel(rng);
         let draft = match (rng.below(8), channel) {
             (0, _) => position(rng),
