@@ -1,6 +1,6 @@
-/* HAC fisheries recordings: checked, walked both ways, linked, asked which settings held at each ping, read, written, brought to
-   one normal form and salvaged. The C face of the proved library, for C99 and C++. `host/archive` makes the archive to link with,
-   target/archive/libarchive.a.
+/* HAC fisheries recordings: checked, walked both ways, linked, asked which settings held at each ping, searched for a ping with
+   corrections beside the deposit, read, written, brought to one normal form and salvaged. The C face of the proved library, for C99
+   and C++. `host/archive` makes the archive to link with, target/archive/libarchive.a.
 
    A slice is a pointer and a length in elements. `file` is a whole file, of any bytes; `place` is a byte offset in it. `answer`
    is lent for what a call says: entries 0 to 4 are the code, the place, the number of tuples, the length written and the number
@@ -9,7 +9,8 @@
 
    - Each call has a least number of entries, HAC_.._ENTRIES. Where `entries` is less it returns HAC_NO_ROOM and writes nothing.
    - Accepted: code 0, place 0, tuples, length, compared, then the fields. Entries behind the call's own stay as they were.
-   - Refused: code, place, 0, 0, 0. All other entries, and all other lent memory, stay as they were.
+   - Refused: code, place, 0, 0, 0; of hac_find_ping, which takes two files, the mark of the refused one too. All other entries,
+     and all other lent memory, stay as they were.
    - A signed field is told as its pattern in its own width: (int32_t)answer[HAC_PING_DETECTED_BOTTOM_RANGE] is a ping's bottom.
    - No pointer may be null, even where the length is 0. Lent memory must not overlap anything else that is handed over.
    - Calls share nothing: any number of threads may call at once.
@@ -64,7 +65,8 @@ enum {
 /* ---- codes: what a call returns, and what answer[HAC_CODE] holds; HAC_UNFIT is also a reader's for a type not asked for.
 
    23, 24 and 25 are about the samples of a ping. Their place is the byte of the first offender, for the check, the question, the
-   settings, the normal forms and all readers of a ping alike, whatever place these are handed. With i counted from 0:
+   settings, the search for a ping, the normal forms and all readers of a ping alike, whatever place these are handed. With i
+   counted from 0:
    - 23: the first sample number that isn't above the one before it, i the place of its sample. U-32 and U-32-16-angles: at
      ping + 24 + 8 i; U-16: ping + 24 + 4 i; U-16-angles: ping + 24 + 6 i.
    - 24: the first word outside the limits, i its place among the words. C-32: at ping + 28 + 4 i; C-16 and CE-16: ping + 28 + 2 i.
@@ -86,7 +88,7 @@ enum {
    readers of samples, angles and records fill; for every call, entries of `answer`.
 
    21, 22 and 26 are ping writers' alone, 21 and 26 those of C-32, C-16 and CE-16: hac_write_c32 says more. 27 is hac_salvage's
-   alone. */
+   alone, 31 hac_find_ping's. 28, 29 and 30 stand for nothing. */
 enum {
     HAC_ACCEPTED = 0,
     HAC_OVER_LIMIT = 1,          /* file over the limit */
@@ -116,7 +118,8 @@ enum {
     HAC_MISCOUNTED = 25,         /* number of samples wrong */
     HAC_SHORT_LENGTH = 26,       /* writer of words: a ping's length under its last sample number plus 2, or 0 where it has
                                     no samples */
-    HAC_SHORT_TABLE = 27         /* table of ranges too short */
+    HAC_SHORT_TABLE = 27,        /* table of ranges too short */
+    HAC_NOT_HELD = 31            /* neither file holds the ping */
 };
 
 /* ---- type codes of the pings; those of the records stand in hac_records.h: HAC_TYPE_NAVIGATION .. */
@@ -140,8 +143,8 @@ enum {
     HAC_CODE = 0,
     HAC_PLACE = 1,
     HAC_TUPLES = 2,  /* a check, a question, settings and the normaliser: those of the file; a salvage: those kept; a reader, a
-                        writer: 1 */
-    HAC_LENGTH = 3,  /* bytes or samples written, or pings told; else 0 */
+                        writer, a ping found: 1 */
+    HAC_LENGTH = 3,  /* bytes or samples written, pings told, or the bytes of the ping found; else 0 */
     HAC_COMPARED = 4 /* hac_check, hac_ask, hac_settings and hac_normalise: identifiers compared, as said above; else 0 */
 };
 
@@ -221,6 +224,50 @@ enum { HAC_SETTINGS_ENTRIES = 5 };
 
 uint8_t hac_settings(const uint8_t *file, size_t length, size_t *pings, size_t pings_length, size_t *thresholds,
     size_t thresholds_length, size_t *attitudes, size_t attitudes_length, uint64_t *answer, size_t entries);
+
+/* ---- corrections beside the deposit: the ping of a software channel and a ping number, from a corrections file where it has one
+   with attribute 1, and from the deposit otherwise.
+
+   Both are whole files that the check accepts, in either byte order each. A ping is one of all seven kinds; a tuple of a type that
+   isn't listed is none. In file order it is
+   - the first ping of the corrections with this channel, this number and attribute 1 (TR: an edited tuple), whether the deposit
+     has such a ping or not;
+   - where the corrections have none, the first ping of the deposit with this channel and this number, whatever its attribute.
+   A ping of the corrections with another attribute corrects nothing. Channels are the numbers that pings have: what either file
+   declares of a channel isn't compared.
+
+   Nothing is copied, and neither file is written to: the mark tells which of them the ping is in, HAC_FOUND_PLACE where its tuple
+   starts there, HAC_LENGTH how many bytes it has, frame and all. hac_read_ping, hac_read_samples and hac_read_angles take that
+   file and that place.
+
+   Refused by the deposit's own refusal, with HAC_MARK_DEPOSIT; then by that of the corrections, with HAC_MARK_CORRECTIONS; each is
+   the check's, with its place in that file. Then by 31 at 0 where neither holds the ping, with HAC_MARK_NEITHER. So six entries
+   are written of a refusal, and HAC_FOUND_PLACE stays.
+
+       uint64_t answer[HAC_FIND_PING_ENTRIES];
+       if (hac_find_ping(deposit, deposit_length, corrections, corrections_length, channel, number, answer, HAC_FIND_PING_ENTRIES)
+           == HAC_ACCEPTED) {
+           bool corrected = answer[HAC_FOUND_MARK] == HAC_MARK_CORRECTIONS;
+           printf("%s, bytes at %lu, length %lu\n", corrected ? "corrections" : "deposit",
+               (unsigned long)answer[HAC_FOUND_PLACE], (unsigned long)answer[HAC_LENGTH]);
+           fwrite((corrected ? corrections : deposit) + answer[HAC_FOUND_PLACE], 1, (size_t)answer[HAC_LENGTH], to);
+       }
+*/
+enum { HAC_FIND_PING_ENTRIES = 7 };
+
+enum {
+    HAC_FOUND_MARK = 5, /* which file the ping is in, or which one is refused: HAC_MARK_NEITHER .. */
+    HAC_FOUND_PLACE = 6 /* where the ping's tuple starts in that file; told with a ping alone */
+};
+
+enum {
+    HAC_MARK_NEITHER = 0,
+    HAC_MARK_DEPOSIT = 1,
+    HAC_MARK_CORRECTIONS = 2
+};
+
+uint8_t hac_find_ping(const uint8_t *deposit, size_t deposit_length, const uint8_t *corrections, size_t corrections_length,
+    uint16_t channel, uint32_t number, uint64_t *answer, size_t entries);
 
 /* ---- the normal form of a file. Refused as the check does; then 18, 20, 19. Length: the bytes written. */
 enum { HAC_NORMALISE_ENTRIES = 5 };

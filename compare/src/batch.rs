@@ -348,6 +348,11 @@ impl Batch {
         self.tally.met_in_settings(what);
     }
 
+    /// Notes what corrections met.
+    pub fn met_in_corrections(&mut self, what: String) {
+        self.tally.met_in_corrections(what);
+    }
+
     /// Notes that a channel of this maker named a sounder of the other.
     pub fn other_maker(&mut self, channel: Maker) {
         self.tally.other_maker(channel);

@@ -1,6 +1,7 @@
 //! The cases of a seed: of one in so many all is compared, of the others little.
 
 use crate::batch::Batch;
+use crate::corrections::{self, compare_pairs};
 use crate::files::{self, compare_file, compare_whole, Places};
 use crate::pings::{self, compare_limit_pings, compare_pings};
 use crate::records::{self, compare_long_texts, compare_records};
@@ -29,7 +30,8 @@ const WRITERS: u64 = 0x5EC0_4D57_0817_E455;
 pub fn given() -> Vec<Given> {
     let all = files::GIVEN.into_iter().chain(pings::GIVEN);
     let all = all.chain(records::GIVEN).chain(salvage::GIVEN);
-    all.chain(settings::GIVEN).collect()
+    let all = all.chain(settings::GIVEN);
+    all.chain(corrections::GIVEN).collect()
 }
 
 /// So many cases are compared in full, of a number of cases asked for.
@@ -68,12 +70,13 @@ fn light_index(light: u64) -> u64 {
     TURN * turn + at + u64::from(at >= LIMIT)
 }
 
-/// The files of a case, and every writer.
+/// The files of a case, pairs of a deposit and its corrections, and every writer.
 fn full_case(batch: &mut Batch, seed: u64, index: u64, places: Places) -> io::Result<()> {
     let mut rng = Rng::of_case(seed ^ WRITERS, index);
     compare_files(batch, seed, index, |batch, case| {
         compare_file(batch, case, places, &mut rng)
     })?;
+    compare_pairs(batch, seed, index)?;
     batch.about = format!("seed {seed}, case {index}, writers");
     for _ in 0..WRITES {
         compare_records(batch, &mut rng)?;

@@ -1,8 +1,10 @@
 //! What is compared of a file: the check, the walks, pings and records read at many
-//! places, settings, salvage, and the normal form.
+//! places, settings, a ping looked for in it and another beside it, salvage, and the normal
+//! form.
 
 use crate::answers::{five, reply_numbers};
 use crate::batch::{Batch, File, FILLED, HALF_FILLED};
+use crate::corrections::compare_beside;
 use crate::exports::{export, Export};
 use crate::kinds::header_numbers;
 use crate::records;
@@ -234,6 +236,7 @@ pub fn compare_file(
         one_tuple(batch, file.bytes)?;
     }
     compare_settings(batch, &mut file, Tries::All)?;
+    compare_beside(batch, &mut file)?;
     compare_salvage(batch, &mut file)?;
     compare_normal(batch, export("normalise"), normalise, &mut file)
 }

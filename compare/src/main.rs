@@ -12,6 +12,7 @@ mod answers;
 mod batch;
 mod boundary;
 mod cases;
+mod corrections;
 mod exports;
 mod files;
 mod kinds;
@@ -22,6 +23,7 @@ mod runner;
 mod salvage;
 mod settings;
 mod tally;
+mod walked;
 mod writing;
 
 use batch::Batch;

@@ -6,9 +6,10 @@ use crate::answers::five;
 use crate::batch::{Batch, File, ENTRY_FILLED};
 use crate::exports::export;
 use crate::tally::Given;
+use crate::walked::walked;
 use second::kinds::KINDS;
 use second::layout::{ATTITUDE, THRESHOLD};
-use second::walk::{forward, Step, Tuple};
+use second::walk::Tuple;
 use second::{settings, Answer, Order, PingKind, SoftwareChannel};
 use std::collections::{BTreeSet, HashMap};
 use std::io;
@@ -22,8 +23,7 @@ pub const GIVEN: [Given; 1] = [Given::new(
 )
 .comparing(0)];
 
-/// The place of the first tuple, and what the lengths of all are multiples of.
-const FIRST: u64 = 4;
+/// What the lengths of all tuples are multiples of.
 const STEP: usize = 4;
 
 /// Where a ping, a threshold and an attitude have their clock and their channel.
@@ -218,13 +218,8 @@ struct Seen {
 impl Seen {
     fn of(file: &[u8]) -> Seen {
         let mut seen = Seen::default();
-        let Some(order) = Order::of(file) else {
-            return seen;
-        };
-        let mut at = FIRST;
-        while let Step::Tuple { tuple, next } = forward(file, at) {
+        for (order, tuple) in walked(file) {
             seen.take(file, order, &tuple);
-            at = next;
         }
         seen
     }

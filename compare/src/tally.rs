@@ -1,17 +1,17 @@
 //! What was compared: how often each export was called, which codes it gave, how
 //! many identifiers it told as compared, which records were met and which files, and
-//! what salvage and settings met in these.
+//! what salvage, settings and corrections met in these.
 
 use crate::exports::{Export, EXPORTS};
 use crate::kinds::KINDS;
-use crate::{salvage, settings};
+use crate::{corrections, salvage, settings};
 use second::kinds::{Kind, KINDS as PING_KINDS};
 use second::layout::{CHANNEL_LIMIT, FILE_LIMIT};
 use second::{Maker, Order, PingKind};
 use std::collections::BTreeMap;
 
-/// The codes of 01 and 02, and 0 for acceptance.
-const CODES: usize = 28;
+/// The codes of 01 and 02, and 0 for acceptance; some of the numbers stand for none.
+const CODES: usize = 32;
 
 /// The most identifiers that one search compares. Only a number above it shows
 /// that searches among many were added up.
@@ -157,6 +157,9 @@ impl Met {
     }
 }
 
+/// Tells all that has to be met.
+type Wanted = fn() -> Vec<String>;
+
 /// Of the files that begin with one of the marks.
 #[derive(Clone, Default)]
 struct Marked {
@@ -179,9 +182,10 @@ pub struct Tally {
     other_maker: [u64; 2],
     /// In the order of the kinds of ping.
     pings: [Pings; PING_KINDS.len()],
-    /// What salvage met, and what settings met.
+    /// What salvage met, what settings met, and what corrections did.
     salvage: Met,
     settings: Met,
+    corrections: Met,
     pub cases: u64,
     files: u64,
     bytes: u64,
@@ -198,6 +202,7 @@ impl Default for Tally {
             pings: Default::default(),
             salvage: Met::default(),
             settings: Met::default(),
+            corrections: Met::default(),
             cases: 0,
             files: 0,
             bytes: 0,
@@ -247,6 +252,11 @@ impl Tally {
     /// Counts what settings met.
     pub fn met_in_settings(&mut self, what: String) {
         self.settings.note(what);
+    }
+
+    /// Counts what corrections met.
+    pub fn met_in_corrections(&mut self, what: String) {
+        self.corrections.note(what);
     }
 
     /// Of each kind of ping and each deed how often it was done, without a length and with
@@ -306,6 +316,7 @@ impl Tally {
         }
         self.salvage.add(&other.salvage);
         self.settings.add(&other.settings);
+        self.corrections.add(&other.corrections);
         let sums = self.pings.as_flattened_mut().as_flattened_mut();
         for (sum, times) in sums
             .iter_mut()
@@ -317,8 +328,8 @@ impl Tally {
 
     /// In words, a line each: cases and files; each export's calls with the codes
     /// that they gave and the identifiers compared; the records; the channels that
-    /// named a sounder of the other maker; the pings of each kind; what salvage and
-    /// settings met.
+    /// named a sounder of the other maker; the pings of each kind; what salvage,
+    /// settings and corrections met.
     pub fn tell(&self) -> Vec<String> {
         let [lsb, msb] = &self.marked;
         let calls: u64 = self.exports.iter().map(Count::calls).sum();
@@ -360,8 +371,7 @@ impl Tally {
             };
             lines.push(format!("{name} {what} {}{lengths}", without + with));
         }
-        lines.push(self.salvage.tell("salvage"));
-        lines.push(self.settings.tell("settings"));
+        lines.extend(self.all_met().map(|(call, met, _)| met.tell(call)));
         lines
     }
 
@@ -406,8 +416,8 @@ impl Tally {
 
     /// What was not compared: codes that no call gave; what an export or a record
     /// never did; files at the limit and past it in either order; a sounder of the
-    /// other maker named by a channel of either; pings of each kind; what salvage and
-    /// settings have to meet.
+    /// other maker named by a channel of either; pings of each kind; what salvage,
+    /// settings and corrections have to meet.
     pub fn missing(&self, given: &[Given]) -> Vec<String> {
         let mut missing = Vec::new();
         for (export, count) in EXPORTS.iter().zip(&self.exports) {
@@ -444,9 +454,18 @@ impl Tally {
                 }
             }
         }
-        missing.extend(self.salvage.never("salvage", salvage::wanted()));
-        missing.extend(self.settings.never("settings", settings::wanted()));
+        let never = |(call, met, wanted): (_, &Met, Wanted)| met.never(call, wanted());
+        missing.extend(self.all_met().into_iter().flat_map(never));
         missing
+    }
+
+    /// What was met, by the name of those who met it, and what they have to meet.
+    fn all_met(&self) -> [(&'static str, &Met, Wanted); 3] {
+        [
+            ("salvage", &self.salvage, salvage::wanted),
+            ("settings", &self.settings, settings::wanted),
+            ("corrections", &self.corrections, corrections::wanted),
+        ]
     }
 }
 

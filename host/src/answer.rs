@@ -7,7 +7,8 @@ use std::fmt;
 macro_rules! codes {
     ($($number:literal $code:ident $words:literal)*) => {
         /// The rule that was broken. Document 01 has them in a table; 02 put 23, 24 and
-        /// 25 in the place of 10, which is no longer given, and added 26 and 27.
+        /// 25 in the place of 10, which is no longer given, and added 26, 27 and 31. 28, 29
+        /// and 30 stand for nothing.
         #[derive(Clone, Copy, Debug, PartialEq, Eq, PartialOrd, Ord, Hash)]
         pub enum Code {
             $(#[doc = concat!(stringify!($number), ": ", $words, ".")] $code = $number,)*
@@ -62,6 +63,7 @@ codes! {
     25 Miscounted "number of samples wrong"
     26 ShortLength "writer of words: a ping's length under its last sample number plus 2, or 0 where it has no samples"
     27 ShortTable "table of ranges too short"
+    31 NotHeld "neither file holds the ping"
 }
 
 impl Code {
@@ -100,15 +102,16 @@ mod tests {
     use super::*;
 
     #[test]
-    fn numbers_run_from_1_to_27_without_10() {
+    fn numbers_run_from_1_to_27_without_10_and_31_follows() {
         let numbers: Vec<u8> = Code::ALL.iter().map(|code| code.number()).collect();
-        assert_eq!(numbers, (1..=9).chain(11..=27).collect::<Vec<u8>>());
+        let run = (1..=9).chain(11..=27);
+        assert_eq!(numbers, run.chain([31]).collect::<Vec<u8>>());
         for &code in Code::ALL {
             assert_eq!(Code::of(code.number()), Some(code));
         }
-        assert_eq!(Code::of(0), None);
-        assert_eq!(Code::of(10), None);
-        assert_eq!(Code::of(28), None);
+        for number in [0, 10, 28, 29, 30, 32] {
+            assert_eq!(Code::of(number), None);
+        }
     }
 
     #[test]

@@ -16,17 +16,33 @@ use crate::answer::{Code, Refusal};
 const _: () = assert!(usize::BITS == u64::BITS);
 
 /// The entries that an accepted call answers with, or its refusal.
-pub(crate) type Answer<const ENTRIES: usize> = Result<[u64; ENTRIES], Refusal>;
+pub(crate) type Answer<const ENTRIES: usize> = Result<[u64; ENTRIES], Refused>;
+
+/// A refusal, and the mark that a call which takes two files tells with it; 0 of all others.
+pub(crate) struct Refused {
+    pub refusal: Refusal,
+    pub mark: u64,
+}
+
+impl From<Refused> for Refusal {
+    fn from(refused: Refused) -> Refusal {
+        refused.refusal
+    }
+}
 
 /// Lends a call its answer and tells what it says.
 fn answered<const ENTRIES: usize>(call: impl FnOnce(*mut u64, usize) -> u8) -> Answer<ENTRIES> {
     let mut answer = [0; ENTRIES];
     match call(answer.as_mut_ptr(), ENTRIES) {
         0 => Ok(answer),
-        number => Err(Refusal {
-            code: Code::of(number).expect("the archive gives the codes of 01 and 02 alone"),
-            place: answer[HAC_PLACE] as usize,
-        }),
+        number => {
+            let code = Code::of(number).expect("the archive gives the codes of 01 and 02 alone");
+            let place = answer[HAC_PLACE] as usize;
+            Err(Refused {
+                refusal: Refusal { code, place },
+                mark: answer.get(HAC_FOUND_MARK).copied().unwrap_or_default(),
+            })
+        }
     }
 }
 

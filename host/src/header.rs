@@ -135,6 +135,7 @@ fn declarations() {
     };
     assert_eq!(entries("check"), Some(5));
     assert_eq!(entries("settings"), Some(5));
+    assert_eq!(entries("find_ping"), Some(7));
     assert_eq!(entries("salvage"), Some(7));
     assert_eq!(entries("read_ping"), Some(16));
     assert_eq!(entries("read_record"), Some(7));

@@ -1,12 +1,12 @@
 //! HAC fisheries recordings: checked, walked both ways, linked, asked which settings
-//! held at each ping, read, written, brought to one normal form and salvaged, by the
-//! proved library.
+//! held at each ping, searched for a ping with corrections beside the deposit, read,
+//! written, brought to one normal form and salvaged, by the proved library.
 //!
 //! A file is a slice of bytes and may hold anything; a place is a byte offset
 //! in it. Every call accepts, or gives a [`Refusal`]: the first rule broken, in
 //! document 01's order, in which 02's codes follow, 23 to 25 in the place of 10,
-//! 26 behind 21, 27 before 19. A refused call leaves lent memory as it was; an
-//! accepted one leaves what stands past what it wrote.
+//! 26 behind 21, 27 before 19, 31 behind all. A refused call leaves lent memory as it
+//! was; an accepted one leaves what stands past what it wrote.
 //!
 //! ```
 //! use hac::{Navigation, Order};
@@ -41,6 +41,7 @@ mod table;
 mod answer;
 #[allow(unsafe_code)]
 mod call;
+mod corrections;
 mod field;
 mod file;
 #[cfg(test)]
@@ -56,6 +57,7 @@ mod wrong;
 
 // All that a module has to offer, so that a further call is said in its module alone.
 pub use answer::*;
+pub use corrections::*;
 pub use field::*;
 pub use file::*;
 pub use normal::*;

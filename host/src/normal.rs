@@ -30,14 +30,14 @@ impl Normal {
 /// Writes a file's normal form into lent memory. Refuses as [`crate::check`]
 /// does; then by 18, 20, 19.
 pub fn normalise(file: &[u8], out: &mut [u8]) -> Result<Normal, Refusal> {
-    call::normalise(file, out).map(Normal::of)
+    Ok(Normal::of(call::normalise(file, out)?))
 }
 
 /// Writes the normal form of a mark and one tuple into lent memory: the mark
 /// alone for a tuple of the index class. Refuses by 1, 2; 3, 5, 3, 6, 9, 8, 11 at
 /// 4; 23, 24, 25 at their bytes; 15 for bytes behind the tuple; 18; 19.
 pub fn normalise_tuple(file: &[u8], out: &mut [u8]) -> Result<Normal, Refusal> {
-    call::normalise_tuple(file, out).map(Normal::of)
+    Ok(Normal::of(call::normalise_tuple(file, out)?))
 }
 
 /// A normal form is less than so many times as long as its file: at the most a word

@@ -81,7 +81,7 @@ impl Walk {
 fn step<const ENTRIES: usize>(answer: call::Answer<ENTRIES>) -> Step {
     let answer = match answer {
         Ok(answer) => answer,
-        Err(refusal) => return Step::Refused(refusal),
+        Err(refused) => return Step::Refused(refused.into()),
     };
     if answer[HAC_TUPLES] == 0 {
         return Step::End;

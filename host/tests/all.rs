@@ -4,6 +4,7 @@
 
 mod arguments;
 mod check;
+mod corrections;
 mod damage;
 mod deposit;
 mod face;

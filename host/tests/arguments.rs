@@ -13,7 +13,7 @@ fn help_and_version() {
         let ran = run(&mut hac(arguments));
         assert_eq!((ran.status, ran.err.as_str()), (0, ""));
         for command in [
-            "check", "normal", "salvage", "walk", "parents", "samples", "settings",
+            "check", "normal", "salvage", "walk", "parents", "samples", "settings", "ping",
         ] {
             assert!(ran.out.contains(&format!("hac {command} ")), "{command}");
         }
@@ -36,7 +36,7 @@ fn bad_use() {
     let room = Room::new();
     let known = Known::sample("cruise-lsb");
     let file = known.path.to_str().expect("a plain name");
-    let uses: [&[&str]; 20] = [
+    let uses: [&[&str]; 24] = [
         &[],
         &["judge"],
         &["judge", file],
@@ -57,9 +57,43 @@ fn bad_use() {
         &["settings", file, "4"],
         &["settings", file, "--back"],
         &["settings", file, "-o", "out.hac"],
+        &["check", file, "--corrections", file],
+        &["samples", file, "4", "--samples"],
+        &["walk", file, "--corrections"],
+        &["settings", file, "--samples"],
     ];
     for arguments in uses {
         is_bad_use(&room, arguments);
+    }
+}
+
+/// The same of the command that may take two files.
+#[test]
+fn bad_use_of_ping() {
+    let room = Room::new();
+    let known = Known::sample("cruise-lsb");
+    let file = known.path.to_str().expect("a plain name");
+    let uses: [&[&str]; 17] = [
+        &[],
+        &[file],
+        &[file, "1"],
+        &[file, "1", "1", "1"],
+        &[file, "65536", "1"],
+        &[file, "-1", "1"],
+        &[file, "one", "1"],
+        &[file, "", "1"],
+        &[file, "1", "4294967296"],
+        &[file, "1", "1.5"],
+        &[file, "1", "1", "--back"],
+        &[file, "1", "1", "-o"],
+        &[file, "1", "1", "-o", "-"],
+        &[file, "1", "1", "--corrections"],
+        &["1", "1", "--corrections", file],
+        &[file, "1", "1", "--corrections", file, "--corrections", file],
+        &["-", "1", "1", "--corrections", "-"],
+    ];
+    for arguments in uses {
+        is_bad_use(&room, &[&["ping"], arguments].concat());
     }
 }
 
@@ -94,7 +128,7 @@ fn no_files() {
     let folder = room.path().to_str().expect("a plain name");
     let none = room.at("none.hac");
     let none = none.to_str().expect("a plain name");
-    let uses: [&[&str]; 11] = [
+    let uses: [&[&str]; 14] = [
         &["check", none],
         &["walk", folder],
         &["walk", none],
@@ -102,6 +136,9 @@ fn no_files() {
         &["samples", folder, "4"],
         &["settings", none],
         &["settings", folder],
+        &["ping", none, "1", "1"],
+        &["ping", folder, "1", "1", "--corrections", none],
+        &["ping", none, "1", "1", "-o", "out.hac"],
         &["normal", none, "-o", "out.hac"],
         &["normal", folder, "-o", "out.hac"],
         &["salvage", none, "-o", "out.hac"],

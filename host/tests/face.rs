@@ -67,9 +67,13 @@ fn the_examples() {
         assert!(first.contains(&format!("hac_{call}(")), "{call}");
     }
     let file = "const uint8_t *file, size_t length";
+    let two_files = "const uint8_t *deposit, size_t deposit_length, \
+                     const uint8_t *corrections, size_t corrections_length, \
+                     uint16_t channel, uint32_t number, FILE *to";
     for (example, handed) in [
         (first, file.to_string()),
         (example_of("settings"), file.to_string()),
+        (example_of("find_ping"), two_files.to_string()),
         (example_of("salvage"), format!("{file}, FILE *to")),
     ] {
         let source = format!(
@@ -324,6 +328,26 @@ const SETTINGS: [&str; 8] = [
 #[test]
 fn settings() {
     prints("settings", &SETTINGS);
+}
+
+/// What corrections.c prints, by 02: the lengths of the tuples give the places. The first ping
+/// of either file stands at 244 and has 36 bytes; what is left of the end of file that is cut
+/// starts at 352.
+const CORRECTIONS: [&str; 8] = [
+    "ping 1: mark 1, place 244, tuples 1, length 36, compared 0, attribute 0",
+    "ping 2: mark 2, place 280, tuples 1, length 36, compared 0, attribute 1",
+    "ping 3: mark 1, place 316, tuples 1, length 36, compared 0, attribute 0",
+    "ping 4: mark 2, place 316, tuples 1, length 36, compared 0, attribute 1",
+    "refused 31 at 0, mark 0, 0 0 0, place left",
+    "refused 3 at 352, mark 1, 0 0 0, place left",
+    "refused 3 at 352, mark 2, 0 0 0, place left",
+    "refused 2 at 0, mark 1, 0 0 0, place left",
+];
+
+/// Pings of two files, asked for in C.
+#[test]
+fn corrections() {
+    prints("corrections", &CORRECTIONS);
 }
 
 fn hexadecimal(bytes: &[u8]) -> String {

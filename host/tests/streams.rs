@@ -39,6 +39,15 @@ fn standard_input() {
     assert_eq!(fed(&["samples", "-", &place], &known.bytes).status, 0);
     let ran = fed(&["settings", "-"], &known.bytes);
     assert_eq!((ran.status, ran.lines().len()), (0, known.pings().len()));
+    let path = known.path.to_str().expect("a plain name");
+    for arguments in [
+        &["ping", "-", "1", "1"][..],
+        &["ping", "-", "1", "1", "--corrections", path],
+        &["ping", path, "1", "1", "--corrections", "-"],
+    ] {
+        let ran = fed(arguments, &known.bytes);
+        assert_eq!((ran.status, ran.lines().len()), (0, 2), "{arguments:?}");
+    }
 
     let out = room.at("out.hac");
     let path = out.to_str().expect("a plain name");
@@ -143,13 +152,14 @@ fn closed_output() {
     let known = Known::sample("cruise-lsb");
     let path = known.path.to_str().expect("a plain name");
     let place = known.pings()[0].place.to_string();
-    let commands: [&[&str]; 7] = [
+    let commands: [&[&str]; 8] = [
         &["check", path],
         &["check", "--json", path, path],
         &["walk", path],
         &["parents", path, &place],
         &["samples", path, &place],
         &["settings", path],
+        &["ping", path, "1", "1", "--samples"],
         &["--help"],
     ];
     for arguments in commands {

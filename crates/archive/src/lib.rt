@@ -2,6 +2,7 @@
 // entries: code, place, tuples, length and identifiers compared, then, where it accepts, what it found; it hands the code back too.
 // Where fewer entries are lent than it may tell it does nothing and hands 19 back. include/hac.h says all this to those who call.
 mod handed;
+mod of_corrections;
 mod of_files;
 mod of_narrow_writers;
 mod of_pings;

@@ -41,6 +41,21 @@ pub use intake::ask;
 // crates/settings/specs/Governing.antt.
 pub use settings::settings;
 
+// find_ping(deposit, corrections, channel, number): where the ping of a channel and a number stands: the first in file order in the
+// corrections with attribute 1, else the first in the deposit, whatever its attribute; its place and its length. Refuses, each with its
+// file's mark, as the check of the deposit does, then as that of the corrections; then by 31 at 0 where neither holds it. Promise:
+// `PingFound`, crates/corrections/specs/Corrections.antt.
+// corrected(deposit, corrections, channel, number, mark, code, place): the same ping's own bytes, as a part of the file that it is from:
+// nothing is copied. Tells the mark of that file (DEPOSIT, CORRECTIONS), code 0 and place 0; or a refusal's mark, code and place, with an
+// empty part. Promise: `CorrectedBy`, there; what a part is, and when which file wins: `Corrections`,
+// crates/corrections/specs/Parts.antt.
+pub use corrections::CORRECTIONS;
+pub use corrections::DEPOSIT;
+pub use corrections::Found;
+pub use corrections::NEITHER;
+pub use corrections::corrected;
+pub use corrections::find_ping;
+
 // Pings are of seven kinds. With values: U-32 (10000) and U-16 (10030) uncompressed, C-32 (10010), C-16 (10040) and CE-16 (10050)
 // compressed. With angles, uncompressed: U-32-16-angles (10001) and U-16-angles (10031).
 

@@ -2,8 +2,11 @@
 
 use crate::input::{Input, STANDARD};
 use crate::shown::shown;
-use std::ffi::OsString;
+use hac::SoftwareChannel;
+use std::ffi::{OsStr, OsString};
+use std::mem;
 use std::path::{Path, PathBuf};
+use std::str::FromStr;
 use std::vec;
 
 pub enum Command {
@@ -21,6 +24,7 @@ pub enum Task {
     Parents { place: usize },
     Samples { place: usize },
     Settings,
+    Ping(Wanted),
 }
 
 impl Task {
@@ -31,8 +35,29 @@ impl Task {
             Task::Walk { .. } | Task::Parents { .. } | Task::Samples { .. } | Task::Settings => {
                 None
             }
+            Task::Ping(wanted) => wanted.out.as_deref(),
         }
     }
+
+    /// The input that it takes beside its own, if it takes one.
+    pub fn beside(&self) -> Option<&Input> {
+        match self {
+            Task::Ping(wanted) => wanted.corrections.as_ref(),
+            _ => None,
+        }
+    }
+}
+
+/// A ping that is looked for in a deposit, and what is to be told of it.
+pub struct Wanted {
+    /// The corrections beside the deposit.
+    pub corrections: Option<Input>,
+    pub channel: SoftwareChannel,
+    pub number: u32,
+    /// Its samples, too.
+    pub samples: bool,
+    /// Where its own bytes go.
+    pub out: Option<PathBuf>,
 }
 
 pub struct Arguments {
@@ -52,7 +77,10 @@ impl Arguments {
 }
 
 /// The commands that write a file.
-const WRITING: [&str; 2] = ["normal", "salvage"];
+const WRITING: [&str; 3] = ["normal", "salvage", "ping"];
+
+/// What is wrong where standard input is named twice.
+const READ_ONCE: &str = "standard input can be read but once";
 
 /// The arguments, options apart from the rest.
 #[derive(Default)]
@@ -60,6 +88,8 @@ struct Sorted {
     rest: Vec<OsString>,
     json: bool,
     back: bool,
+    samples: bool,
+    corrections: Option<OsString>,
     out: Option<OsString>,
     help: bool,
     version: bool,
@@ -74,6 +104,8 @@ impl Sorted {
                 Some("--back") => sorted.back = true,
                 Some("--help") => sorted.help = true,
                 Some("--version") => sorted.version = true,
+                Some("--samples") => sorted.samples = true,
+                Some("--corrections") => sorted.take_corrections(words.next())?,
                 Some("-o") => sorted.take_out(words.next())?,
                 Some("--") => sorted.rest.extend(words.by_ref()),
                 Some("-") => sorted.rest.push(word),
@@ -97,22 +129,43 @@ impl Sorted {
         }
     }
 
-    fn command(self) -> Result<Command, String> {
+    fn take_corrections(&mut self, file: Option<OsString>) -> Result<(), String> {
+        let file = file.ok_or("no FILE behind --corrections")?;
+        match self.corrections.replace(file) {
+            None => Ok(()),
+            Some(_) => Err("more than one --corrections".into()),
+        }
+    }
+
+    /// Sees to it that a command gets no other's options.
+    fn must_fit(&self, command: &str) -> Result<(), String> {
+        let only = |option: &str, commands: &str| Err(format!("{option} is for {commands} alone"));
+        if self.back && command != "walk" {
+            return only("--back", "hac walk");
+        }
+        if self.out.is_some() && !WRITING.contains(&command) {
+            return only("-o", "hac normal, hac salvage and hac ping");
+        }
+        if self.samples && command != "ping" {
+            return only("--samples", "hac ping");
+        }
+        if self.corrections.is_some() && command != "ping" {
+            return only("--corrections", "hac ping");
+        }
+        Ok(())
+    }
+
+    fn command(mut self) -> Result<Command, String> {
         if self.help {
             return Ok(Command::Help);
         }
         if self.version {
             return Ok(Command::Version);
         }
-        let mut rest = Rest(self.rest.into_iter());
+        let mut rest = Rest(mem::take(&mut self.rest).into_iter());
         let word = rest.0.next().ok_or("no command")?;
         let name = word.to_str().unwrap_or_default();
-        if self.back && name != "walk" {
-            return Err("--back is for hac walk alone".into());
-        }
-        if self.out.is_some() && !WRITING.contains(&name) {
-            return Err("-o is for hac normal and hac salvage alone".into());
-        }
+        self.must_fit(name)?;
         match name {
             "check" => rest.check(),
             "normal" => rest.writing(self.out, |out| Task::Normal { out }),
@@ -121,6 +174,7 @@ impl Sorted {
             "parents" => rest.one(|rest| rest.place().map(|place| Task::Parents { place })),
             "samples" => rest.one(|rest| rest.place().map(|place| Task::Samples { place })),
             "settings" => rest.one(|_| Ok(Task::Settings)),
+            "ping" => rest.ping(self),
             _ => Err(format!("{} is no command", shown(&word))),
         }
     }
@@ -134,7 +188,7 @@ impl Rest {
         let inputs: Vec<Input> = self.0.map(Input::of).collect();
         let standard = inputs.iter().filter(|input| **input == Input::Standard);
         if standard.count() > 1 {
-            return Err("standard input can be read but once".into());
+            return Err(READ_ONCE.into());
         }
         if inputs.is_empty() {
             return Err("no FILE".into());
@@ -165,9 +219,32 @@ impl Rest {
         self.one(|_| Ok(task(out.into())))
     }
 
+    /// The ping's command, which may take a second input.
+    fn ping(self, options: Sorted) -> Result<Command, String> {
+        let standard = |word: Option<&OsStr>| word.is_some_and(|word| word == STANDARD);
+        let deposit = self.0.as_slice().first().map(OsString::as_os_str);
+        if standard(deposit) && standard(options.corrections.as_deref()) {
+            return Err(READ_ONCE.into());
+        }
+        self.one(|rest| {
+            Ok(Task::Ping(Wanted {
+                corrections: options.corrections.map(Input::of),
+                channel: SoftwareChannel(rest.number("CHANNEL", "channel")?),
+                number: rest.number("NUMBER", "ping number")?,
+                samples: options.samples,
+                out: options.out.map(PathBuf::from),
+            }))
+        })
+    }
+
     fn place(&mut self) -> Result<usize, String> {
-        let word = self.0.next().ok_or("no PLACE")?;
-        let place = word.to_str().and_then(|word| word.parse().ok());
-        place.ok_or_else(|| format!("{} is no place", shown(&word)))
+        self.number("PLACE", "place")
+    }
+
+    /// The next word, as the number that it has to be.
+    fn number<N: FromStr>(&mut self, missing: &str, what: &str) -> Result<N, String> {
+        let word = self.0.next().ok_or_else(|| format!("no {missing}"))?;
+        let number = word.to_str().and_then(|word| word.parse().ok());
+        number.ok_or_else(|| format!("{} is no {what}", shown(&word)))
     }
 }

@@ -1,5 +1,6 @@
 //! The command `hac`: HAC recordings checked, walked, linked, asked which settings held at
-//! each ping, read, brought to their normal form and salvaged, by the proved library.
+//! each ping, searched for a ping with corrections beside them, read, brought to their
+//! normal form and salvaged, by the proved library.
 
 #![forbid(unsafe_code)]
 
@@ -13,6 +14,7 @@ mod one;
 mod out;
 mod output;
 mod parents;
+mod ping;
 mod progress;
 mod salvage;
 mod samples;
@@ -53,6 +55,13 @@ HAC fisheries recordings: checked, walked, brought to their normal form, salvage
                             channel and number, then the place of the last threshold
                             before it for its channel and that of the last attitude
                             before it for its channel or for all, - for none
+  hac ping DEPOSIT [--corrections FILE] CHANNEL NUMBER
+                            the ping of a software channel and a ping number: the
+                            first in FILE with attribute 1, else the first in
+                            DEPOSIT; which file it is from, its kind, place, bytes
+                            and fields; with --samples its samples behind them,
+                            as hac samples prints them; with -o OUT its own bytes
+                            are written to OUT, whole or not at all
 
   --json       one object a line
   --help       this page

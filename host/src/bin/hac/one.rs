@@ -1,11 +1,11 @@
-//! The commands that take one input.
+//! The commands that take one input, and at most another one beside it.
 
 use crate::arguments::Task;
 use crate::input::{self, Input};
 use crate::output::{say, say_verdict, Broken, Output};
 use crate::stop::Stop;
 use crate::verdict::{Status, Verdict};
-use crate::{normal, out, parents, salvage, samples, settings, walk};
+use crate::{normal, out, parents, ping, salvage, samples, settings, walk};
 use hac::Walk;
 
 pub fn run(input: &Input, task: &Task, output: &mut Output) -> Result<(), Broken> {
@@ -18,6 +18,7 @@ pub fn run(input: &Input, task: &Task, output: &mut Output) -> Result<(), Broken
             tell(input, &verdict, output)
         }
         Err(Stop::Unread(error)) => tell(input, &error.into(), output),
+        Err(Stop::Beside(verdict)) => tell(task.beside().unwrap_or(input), &verdict, output),
         Err(Stop::Fault(fault)) => {
             output.worsen(Status::Unread);
             say(fault);
@@ -46,7 +47,8 @@ fn judged_from(task: &Task) -> Walk {
         | Task::Salvage { .. }
         | Task::Walk { .. }
         | Task::Parents { .. }
-        | Task::Settings => Walk::START,
+        | Task::Settings
+        | Task::Ping(_) => Walk::START,
     }
 }
 
@@ -69,5 +71,6 @@ fn perform(
         Task::Parents { place } => parents::run(bytes, *place, output),
         Task::Samples { place } => samples::run(bytes, *place, output),
         Task::Settings => settings::run(bytes, output),
+        Task::Ping(wanted) => ping::run(input, bytes, wanted, output),
     }
 }

@@ -1,6 +1,7 @@
 //! Why a command ends before its end.
 
 use crate::output::Broken;
+use crate::verdict::Verdict;
 use hac::Refusal;
 use std::io;
 
@@ -10,6 +11,8 @@ pub enum Stop {
     Refused(Refusal),
     /// Its input couldn't be read.
     Unread(io::Error),
+    /// What came of the input beside it.
+    Beside(Verdict),
     /// Something else, in words.
     Fault(String),
 }

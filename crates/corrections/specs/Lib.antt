@@ -1,0 +1,3 @@
+pub mod Corrections
+pub mod Parts
+pub mod inner
