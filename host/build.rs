@@ -11,6 +11,7 @@ use std::{env, fs};
 
 fn main() {
     link();
+    name_toolchain();
     if let Err(why) = make_calls() {
         println!("cargo::error={why}");
     }
@@ -32,6 +33,14 @@ fn link() {
     } else {
         println!("cargo::error=target/archive/libarchive.a is missing: run host/archive");
     }
+}
+
+/// Tells the command which toolchain proved and made the archive, as host/archive noted it.
+fn name_toolchain() {
+    let path = folder("CARGO_MANIFEST_DIR").join("../target/archive/toolchain");
+    println!("cargo::rerun-if-changed={}", path.display());
+    let toolchain = fs::read_to_string(&path).unwrap_or("unknown".into());
+    println!("cargo::rustc-env=HAC_TOOLCHAIN={}", toolchain.trim());
 }
 
 /// Writes calls.rs, which src/call.rs takes in.

@@ -1,7 +1,8 @@
 //! Good and bad use.
 
-use crate::known::{accepted, Known};
+use crate::known::{accepted, repository, Known};
 use crate::room::{hac, run, Room};
+use std::fs;
 
 #[test]
 fn help_and_version() {
@@ -19,8 +20,9 @@ fn help_and_version() {
         }
     }
     let ran = run(&mut hac(["--version"]));
-    let version = concat!("hac ", env!("CARGO_PKG_VERSION"), "\n");
-    assert_eq!((ran.status, ran.out.as_str()), (0, version));
+    let toolchain = fs::read_to_string(repository("target/archive/toolchain")).expect("its name");
+    let version = concat!("hac ", env!("CARGO_PKG_VERSION"), ", proved and made by ");
+    assert_eq!((ran.status, ran.out), (0, format!("{version}{toolchain}")));
 }
 
 /// Bad use: status 2, one line on standard error, and nothing is done.

@@ -61,6 +61,11 @@ fn deposits(room: &Room) -> BTreeMap<PathBuf, Expected> {
     deposits
 }
 
+/// A thousand deposits' paths, in order.
+pub fn thousand_paths(room: &Room) -> Vec<PathBuf> {
+    deposits(room).into_keys().collect()
+}
+
 fn line(path: &Path, expected: &Expected) -> String {
     let path = path.display();
     match expected {

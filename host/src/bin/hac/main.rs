@@ -65,7 +65,7 @@ HAC fisheries recordings: checked, walked, brought to their normal form, salvage
 
   --json       one object a line
   --help       this page
-  --version    the program's version
+  --version    the version of program and library, and the toolchain that proved it
   --           no options behind it
   -            as FILE: standard input
 
@@ -76,7 +76,12 @@ Exit status: 0 accepted, 1 refused, 2 not a file or bad use; of many files 2 if
 any couldn't be read, else 1 if any was refused. Of hac salvage: 0 everything was
 kept, 3 something was lost; with 1 and 2 OUT isn't written.";
 
-const VERSION: &str = concat!("hac ", env!("CARGO_PKG_VERSION"));
+const VERSION: &str = concat!(
+    "hac ",
+    env!("CARGO_PKG_VERSION"),
+    ", proved and made by ",
+    env!("HAC_TOOLCHAIN")
+);
 
 fn run(command: Command, output: &mut Output) -> Result<(), Broken> {
     match command {
