@@ -67,6 +67,12 @@ impl Field for usize {
 /// Identifiers: the number that they are.
 macro_rules! identifiers {
     ($($identifier:ident)*) => {$(
+        impl From<$identifier> for i64 {
+            fn from(identifier: $identifier) -> i64 {
+                identifier.0.into()
+            }
+        }
+
         impl Field for $identifier {
             fn of(pattern: u64) -> $identifier {
                 $identifier(Field::of(pattern))

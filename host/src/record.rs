@@ -144,3 +144,55 @@ macro_rules! define {
 }
 
 records!(define);
+
+/// A field of a record that is a number.
+#[derive(Clone, Copy, Debug)]
+pub struct RecordField {
+    /// TR's name.
+    pub name: &'static str,
+    /// The number that its pattern, as [`read_record`] gives it, stands for.
+    pub number: fn(u32) -> i64,
+}
+
+/// What stands in a record.
+#[derive(Clone, Copy, Debug)]
+pub struct RecordFields {
+    /// Its fields, in the order of its numbers.
+    pub numbers: &'static [RecordField],
+    /// The name of the characters that stand beside them, where it has some.
+    pub text: Option<&'static str>,
+}
+
+macro_rules! name {
+    ($(
+        $(#[$about:meta])*
+        $record:ident = $type:ident
+            => ($($beside:ident)?)
+            <= $(($characters:ident))? $([$zeros:literal])?
+        { $($field:ident: $kind:ty,)* }
+    )*) => {
+        /// The fields of the record of a type, for those who read one without knowing which;
+        /// none where the type is no record's.
+        ///
+        /// ```
+        /// let fields = hac::record_fields(hac::Navigation::CODE).expect("a record");
+        /// let heading = fields.numbers[3];
+        /// assert_eq!(heading.name, "heading");
+        /// assert_eq!((heading.number)(0xFC77), -905);
+        /// ```
+        pub fn record_fields(code: u16) -> Option<RecordFields> {
+            match code {
+                $(types::$type => Some(RecordFields {
+                    numbers: &[$(RecordField {
+                        name: stringify!($field),
+                        number: |pattern| <$kind>::of(pattern.into()).into(),
+                    }),*],
+                    text: [$(stringify!($beside))?].first().copied(),
+                }),)*
+                _ => None,
+            }
+        }
+    };
+}
+
+records!(name);
