@@ -20,6 +20,7 @@ mod names;
 mod normal;
 mod pings;
 mod progress;
+mod record_command;
 mod records;
 mod room;
 mod salvage;

@@ -14,7 +14,8 @@ fn help_and_version() {
         let ran = run(&mut hac(arguments));
         assert_eq!((ran.status, ran.err.as_str()), (0, ""));
         for command in [
-            "check", "normal", "salvage", "walk", "parents", "samples", "settings", "ping",
+            "check", "normal", "salvage", "walk", "parents", "samples", "record", "settings",
+            "ping",
         ] {
             assert!(ran.out.contains(&format!("hac {command} ")), "{command}");
         }
@@ -38,7 +39,7 @@ fn bad_use() {
     let room = Room::new();
     let known = Known::sample("cruise-lsb");
     let file = known.path.to_str().expect("a plain name");
-    let uses: [&[&str]; 24] = [
+    let uses: [&[&str]; 28] = [
         &[],
         &["judge"],
         &["judge", file],
@@ -55,6 +56,10 @@ fn bad_use() {
         &["samples", file, "-1"],
         &["samples", file, "4", "4"],
         &["samples", file, "18446744073709551616"],
+        &["record", file],
+        &["record", file, "here"],
+        &["record", file, "4", "4"],
+        &["record", file, "4", "--samples"],
         &["settings"],
         &["settings", file, "4"],
         &["settings", file, "--back"],
@@ -130,12 +135,14 @@ fn no_files() {
     let folder = room.path().to_str().expect("a plain name");
     let none = room.at("none.hac");
     let none = none.to_str().expect("a plain name");
-    let uses: [&[&str]; 14] = [
+    let uses: [&[&str]; 16] = [
         &["check", none],
         &["walk", folder],
         &["walk", none],
         &["parents", none, "4"],
         &["samples", folder, "4"],
+        &["record", none, "4"],
+        &["record", folder, "4"],
         &["settings", none],
         &["settings", folder],
         &["ping", none, "1", "1"],

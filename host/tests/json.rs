@@ -130,6 +130,7 @@ fn number(rest: &mut Rest) -> Value {
         digits.push(c);
     }
     if let Some((whole, decimals)) = digits.split_once('.') {
+        let whole = whole.strip_prefix('-').unwrap_or(whole);
         let both = [whole, decimals].map(|part| part.parse::<u32>().is_ok());
         assert_eq!(both, [true, true], "digits on both sides of a point");
         return Value::Decimal(digits);

@@ -88,6 +88,12 @@ pub fn plain(tuple: &Tuple) -> Vec<u8> {
     by_row(tuple, row_of(tuple.kind())).plain
 }
 
+/// The numbers of a record's tuple, the attribute last, and its characters.
+pub fn told(tuple: &Tuple) -> (Vec<i64>, Vec<u8>) {
+    let told = by_row(tuple, row_of(tuple.kind()));
+    (told.numbers, told.characters)
+}
+
 fn row_of(kind: u16) -> &'static str {
     let found = ROWS.iter().find(|(code, _)| *code == kind);
     found.expect("a record's type").1

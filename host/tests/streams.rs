@@ -152,12 +152,13 @@ fn closed_output() {
     let known = Known::sample("cruise-lsb");
     let path = known.path.to_str().expect("a plain name");
     let place = known.pings()[0].place.to_string();
-    let commands: [&[&str]; 8] = [
+    let commands: [&[&str]; 9] = [
         &["check", path],
         &["check", "--json", path, path],
         &["walk", path],
         &["parents", path, &place],
         &["samples", path, &place],
+        &["record", path, &place],
         &["settings", path],
         &["ping", path, "1", "1", "--samples"],
         &["--help"],

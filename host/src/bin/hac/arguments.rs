@@ -23,6 +23,7 @@ pub enum Task {
     Walk { back: bool },
     Parents { place: usize },
     Samples { place: usize },
+    Record { place: usize },
     Settings,
     Ping(Wanted),
 }
@@ -32,9 +33,11 @@ impl Task {
     pub fn out(&self) -> Option<&Path> {
         match self {
             Task::Normal { out } | Task::Salvage { out } => Some(out),
-            Task::Walk { .. } | Task::Parents { .. } | Task::Samples { .. } | Task::Settings => {
-                None
-            }
+            Task::Walk { .. }
+            | Task::Parents { .. }
+            | Task::Samples { .. }
+            | Task::Record { .. }
+            | Task::Settings => None,
             Task::Ping(wanted) => wanted.out.as_deref(),
         }
     }
@@ -173,6 +176,7 @@ impl Sorted {
             "walk" => rest.one(|_| Ok(Task::Walk { back: self.back })),
             "parents" => rest.one(|rest| rest.place().map(|place| Task::Parents { place })),
             "samples" => rest.one(|rest| rest.place().map(|place| Task::Samples { place })),
+            "record" => rest.one(|rest| rest.place().map(|place| Task::Record { place })),
             "settings" => rest.one(|_| Ok(Task::Settings)),
             "ping" => rest.ping(self),
             _ => Err(format!("{} is no command", shown(&word))),

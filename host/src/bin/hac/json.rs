@@ -17,6 +17,7 @@ impl Number for u16 {}
 impl Number for i16 {}
 impl Number for u32 {}
 impl Number for i32 {}
+impl Number for i64 {}
 impl Number for usize {}
 
 impl Object {

@@ -6,6 +6,7 @@
 
 mod arguments;
 mod check;
+mod decimal;
 mod files;
 mod input;
 mod json;
@@ -16,12 +17,14 @@ mod output;
 mod parents;
 mod ping;
 mod progress;
+mod record;
 mod salvage;
 mod samples;
 mod settings;
 mod shown;
 mod stop;
 mod summary;
+mod units;
 mod verdict;
 mod walk;
 mod whole;
@@ -51,6 +54,9 @@ HAC fisheries recordings: checked, walked, brought to their normal form, salvage
                             ping of angles number, alongship, athwartship; behind
                             them the ping's length, runs counted, where it ends in
                             silence
+  hac record FILE PLACE     the tuple at a place: each field under TR's name, the stored
+                            number, and beside it the value in its unit where TR has
+                            one; of an unlisted tuple how many raw bytes it has
   hac settings FILE         the settings that held at each ping: the ping's place,
                             channel and number, then the place of the last threshold
                             before it for its channel and that of the last attitude

@@ -5,7 +5,7 @@ use crate::input::{self, Input};
 use crate::output::{say, say_verdict, Broken, Output};
 use crate::stop::Stop;
 use crate::verdict::{Status, Verdict};
-use crate::{normal, out, parents, ping, salvage, samples, settings, walk};
+use crate::{normal, out, parents, ping, record, salvage, samples, settings, walk};
 use hac::Walk;
 
 pub fn run(input: &Input, task: &Task, output: &mut Output) -> Result<(), Broken> {
@@ -39,10 +39,10 @@ fn tell(input: &Input, verdict: &Verdict, output: &mut Output) -> Result<(), Bro
     Ok(())
 }
 
-/// Where a task's judging begins: a ping's reader looks at its place alone.
+/// Where a task's judging begins: a tuple's reader looks at its place alone.
 fn judged_from(task: &Task) -> Walk {
     match task {
-        Task::Samples { place } => Walk { at: *place },
+        Task::Samples { place } | Task::Record { place } => Walk { at: *place },
         Task::Normal { .. }
         | Task::Salvage { .. }
         | Task::Walk { .. }
@@ -70,6 +70,7 @@ fn perform(
         Task::Walk { back } => walk::run(bytes, *back, output),
         Task::Parents { place } => parents::run(bytes, *place, output),
         Task::Samples { place } => samples::run(bytes, *place, output),
+        Task::Record { place } => record::run(bytes, *place, output),
         Task::Settings => settings::run(bytes, output),
         Task::Ping(wanted) => ping::run(input, bytes, wanted, output),
     }
