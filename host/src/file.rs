@@ -47,8 +47,8 @@ impl Order {
         self == Order::Msb
     }
 
-    /// The order of a file that begins with a mark.
-    pub(crate) fn of(file: &[u8]) -> Order {
+    /// The order of a file that begins with a mark, as every accepted one does.
+    pub fn of(file: &[u8]) -> Order {
         if file.starts_with(&Order::Msb.mark()) {
             Order::Msb
         } else {
