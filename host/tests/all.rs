@@ -26,6 +26,7 @@ mod room;
 mod salvage;
 mod scale;
 mod settings;
+mod show;
 mod streams;
 mod walk;
 mod wrong;

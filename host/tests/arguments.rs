@@ -14,8 +14,8 @@ fn help_and_version() {
         let ran = run(&mut hac(arguments));
         assert_eq!((ran.status, ran.err.as_str()), (0, ""));
         for command in [
-            "check", "normal", "salvage", "walk", "parents", "samples", "record", "settings",
-            "ping",
+            "check", "show", "normal", "salvage", "walk", "parents", "samples", "record",
+            "settings", "ping",
         ] {
             assert!(ran.out.contains(&format!("hac {command} ")), "{command}");
         }
@@ -39,7 +39,7 @@ fn bad_use() {
     let room = Room::new();
     let known = Known::sample("cruise-lsb");
     let file = known.path.to_str().expect("a plain name");
-    let uses: [&[&str]; 28] = [
+    let uses: [&[&str]; 32] = [
         &[],
         &["judge"],
         &["judge", file],
@@ -48,6 +48,10 @@ fn bad_use() {
         &["check", "--fast", file],
         &["check", "--back", file],
         &["check", "-o", "out.hac", file],
+        &["show"],
+        &["show", "-", file, "-"],
+        &["show", "--back", file],
+        &["show", "-o", "out.hac", file],
         &["walk"],
         &["walk", file, file],
         &["walk", "-x"],
@@ -135,8 +139,9 @@ fn no_files() {
     let folder = room.path().to_str().expect("a plain name");
     let none = room.at("none.hac");
     let none = none.to_str().expect("a plain name");
-    let uses: [&[&str]; 16] = [
+    let uses: [&[&str]; 17] = [
         &["check", none],
+        &["show", none],
         &["walk", folder],
         &["walk", none],
         &["parents", none, "4"],

@@ -152,9 +152,11 @@ fn closed_output() {
     let known = Known::sample("cruise-lsb");
     let path = known.path.to_str().expect("a plain name");
     let place = known.pings()[0].place.to_string();
-    let commands: [&[&str]; 9] = [
+    let commands: [&[&str]; 11] = [
         &["check", path],
         &["check", "--json", path, path],
+        &["show", path],
+        &["show", "--json", path, path],
         &["walk", path],
         &["parents", path, &place],
         &["samples", path, &place],
@@ -181,11 +183,14 @@ fn closed_amid_many() {
     }
     let (reader, writer) = io::pipe().expect("a pipe");
     drop(reader);
-    let ran = run(hac(["check"])
-        .arg(room.path())
-        .stdout(writer)
-        .stderr(Stdio::piped()));
-    assert_eq!((ran.status, ran.err.as_str()), (1, ""));
+    for command in ["check", "show"] {
+        let writer = writer.try_clone().expect("the same pipe");
+        let ran = run(hac([command])
+            .arg(room.path())
+            .stdout(writer)
+            .stderr(Stdio::piped()));
+        assert_eq!((ran.status, ran.err.as_str()), (1, ""));
+    }
 }
 
 /// An input that keeps the program waiting keeps it no longer than its reader.
@@ -211,7 +216,7 @@ fn closed_while_waiting() {
 #[test]
 fn full_output() {
     let path = Known::sample("cruise-lsb").path;
-    for command in ["check", "walk", "settings"] {
+    for command in ["check", "show", "walk", "settings"] {
         let full = File::options()
             .write(true)
             .open("/dev/full")

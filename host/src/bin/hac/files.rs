@@ -1,4 +1,4 @@
-//! The files that a check is over: those named, and those in folders named.
+//! The files that a check or a show is over: those named, and those in folders named.
 
 use crate::input::Input;
 use std::fs::{self, FileType};

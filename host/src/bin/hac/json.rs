@@ -43,6 +43,14 @@ impl Object {
         self.member(key, Text(value))
     }
 
+    /// A text, or null where there is none.
+    pub fn text_or_null(self, key: &str, value: Option<&str>) -> Object {
+        match value {
+            Some(value) => self.text(key, value),
+            None => self.member(key, "null"),
+        }
+    }
+
     pub fn object(self, key: &str, value: Object) -> Object {
         self.member(key, value)
     }
@@ -107,6 +115,8 @@ mod tests {
             .number("n", -5)
             .number_or_null("p", Some(5))
             .number_or_null("q", None::<u32>)
+            .text_or_null("t", Some("u"))
+            .text_or_null("v", None)
             .object("o", inner)
             .list("e", [].into_iter())
             .list(
@@ -116,6 +126,7 @@ mod tests {
             .name("file", OsStr::from_bytes(b"x\xff"));
         let line =
             "{\"a\\\"b\\\\\":\"\\u001b[2J\\u000a\\u202e\u{e9}\",\"n\":-5,\"p\":5,\"q\":null,\
+                    \"t\":\"u\",\"v\":null,\
                     \"o\":{\"13\":2},\"e\":[],\"l\":[{\"m\":0},{\"m\":1}],\"file\":\"x\u{fffd}\",\"file_bytes\":\"78ff\"}";
         assert_eq!(object.to_string(), line);
     }

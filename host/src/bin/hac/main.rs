@@ -1,19 +1,23 @@
-//! The command `hac`: HAC recordings checked, walked, linked, asked which settings held at
-//! each ping, searched for a ping with corrections beside them, read, brought to their
-//! normal form and salvaged, by the proved library.
+//! The command `hac`: HAC recordings checked, shown on a page, walked, linked, asked which
+//! settings held at each ping, searched for a ping with corrections beside them, read,
+//! brought to their normal form and salvaged, by the proved library.
 
 #![forbid(unsafe_code)]
 
 mod arguments;
 mod check;
+mod contents;
 mod decimal;
 mod files;
 mod input;
 mod json;
+mod many;
+mod moment;
 mod normal;
 mod one;
 mod out;
 mod output;
+mod page;
 mod parents;
 mod ping;
 mod progress;
@@ -21,6 +25,7 @@ mod record;
 mod salvage;
 mod samples;
 mod settings;
+mod show;
 mod shown;
 mod stop;
 mod summary;
@@ -36,11 +41,14 @@ use std::process::ExitCode;
 use verdict::Status;
 
 const HELP: &str = "\
-HAC fisheries recordings: checked, walked, brought to their normal form, salvaged.
+HAC fisheries recordings: checked, shown, walked, brought to their normal form, salvaged.
 
   hac check FILE..          is each file accepted? How many tuples has it, and how
                             many identifiers are compared while it is linked? A
                             folder stands for all files in it and below.
+  hac show FILE..           what each file holds: sounders and channels, with their
+                            pings and samples, times, positions and how many other
+                            tuples; files and folders as hac check takes them
   hac normal FILE -o OUT    writes a file's normal form to OUT, whole or not at all
   hac salvage FILE -o OUT   writes the mark and the sound tuples of a damaged file to
                             OUT, whole or not at all, and tells what was lost, how
@@ -94,6 +102,7 @@ fn run(command: Command, output: &mut Output) -> Result<(), Broken> {
         Command::Help => output.line(HELP)?,
         Command::Version => output.line(VERSION)?,
         Command::Check { inputs } => check::run(inputs, output)?,
+        Command::Show { inputs } => show::run(inputs, output)?,
         Command::One { input, task } => one::run(&input, &task, output)?,
     }
     output.flush()
