@@ -22,6 +22,7 @@ mod progress;
 mod records;
 mod room;
 mod salvage;
+mod same;
 mod settings;
 mod streams;
 mod walk;

@@ -13,7 +13,7 @@ fn help_and_version() {
         let ran = run(&mut hac(arguments));
         assert_eq!((ran.status, ran.err.as_str()), (0, ""));
         for command in [
-            "check", "normal", "salvage", "walk", "parents", "samples", "settings", "ping",
+            "check", "same", "normal", "salvage", "walk", "parents", "samples", "settings", "ping",
         ] {
             assert!(ran.out.contains(&format!("hac {command} ")), "{command}");
         }
@@ -36,7 +36,7 @@ fn bad_use() {
     let room = Room::new();
     let known = Known::sample("cruise-lsb");
     let file = known.path.to_str().expect("a plain name");
-    let uses: [&[&str]; 24] = [
+    let uses: [&[&str]; 27] = [
         &[],
         &["judge"],
         &["judge", file],
@@ -45,6 +45,9 @@ fn bad_use() {
         &["check", "--fast", file],
         &["check", "--back", file],
         &["check", "-o", "out.hac", file],
+        &["same"],
+        &["same", "-", file, "-"],
+        &["same", file, "-o", "out.hac"],
         &["walk"],
         &["walk", file, file],
         &["walk", "-x"],

@@ -11,7 +11,7 @@ use std::thread;
 use std::time::{Duration, Instant};
 
 /// Runs the program with some bytes for its standard input.
-fn fed(arguments: &[&str], bytes: &[u8]) -> Ran {
+pub fn fed(arguments: &[&str], bytes: &[u8]) -> Ran {
     let mut child: Child = hac(arguments)
         .stdin(Stdio::piped())
         .stdout(Stdio::piped())
@@ -152,8 +152,9 @@ fn closed_output() {
     let known = Known::sample("cruise-lsb");
     let path = known.path.to_str().expect("a plain name");
     let place = known.pings()[0].place.to_string();
-    let commands: [&[&str]; 8] = [
+    let commands: [&[&str]; 9] = [
         &["check", path],
+        &["same", path],
         &["check", "--json", path, path],
         &["walk", path],
         &["parents", path, &place],
@@ -210,7 +211,7 @@ fn closed_while_waiting() {
 #[test]
 fn full_output() {
     let path = Known::sample("cruise-lsb").path;
-    for command in ["check", "walk", "settings"] {
+    for command in ["check", "same", "walk", "settings"] {
         let full = File::options()
             .write(true)
             .open("/dev/full")

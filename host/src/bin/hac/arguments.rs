@@ -13,6 +13,7 @@ pub enum Command {
     Help,
     Version,
     Check { inputs: Vec<Input> },
+    Same { inputs: Vec<Input> },
     One { input: Input, task: Task },
 }
 
@@ -167,7 +168,8 @@ impl Sorted {
         let name = word.to_str().unwrap_or_default();
         self.must_fit(name)?;
         match name {
-            "check" => rest.check(),
+            "check" => rest.many().map(|inputs| Command::Check { inputs }),
+            "same" => rest.many().map(|inputs| Command::Same { inputs }),
             "normal" => rest.writing(self.out, |out| Task::Normal { out }),
             "salvage" => rest.writing(self.out, |out| Task::Salvage { out }),
             "walk" => rest.one(|_| Ok(Task::Walk { back: self.back })),
@@ -184,7 +186,8 @@ impl Sorted {
 struct Rest(vec::IntoIter<OsString>);
 
 impl Rest {
-    fn check(self) -> Result<Command, String> {
+    /// Inputs alone, at least one.
+    fn many(self) -> Result<Vec<Input>, String> {
         let inputs: Vec<Input> = self.0.map(Input::of).collect();
         let standard = inputs.iter().filter(|input| **input == Input::Standard);
         if standard.count() > 1 {
@@ -193,7 +196,7 @@ impl Rest {
         if inputs.is_empty() {
             return Err("no FILE".into());
         }
-        Ok(Command::Check { inputs })
+        Ok(inputs)
     }
 
     /// A command on one input, with nothing behind its task.

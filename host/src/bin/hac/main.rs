@@ -1,12 +1,14 @@
-//! The command `hac`: HAC recordings checked, walked, linked, asked which settings held at
-//! each ping, searched for a ping with corrections beside them, read, brought to their
-//! normal form and salvaged, by the proved library.
+//! The command `hac`: HAC recordings checked, compared with each other, walked, linked, asked
+//! which settings held at each ping, searched for a ping with corrections beside them, read,
+//! brought to their normal form and salvaged, by the proved library.
 
 #![forbid(unsafe_code)]
 
 mod arguments;
 mod check;
+mod digest;
 mod files;
+mod groups;
 mod input;
 mod json;
 mod normal;
@@ -18,6 +20,7 @@ mod ping;
 mod progress;
 mod report;
 mod salvage;
+mod same;
 mod samples;
 mod settings;
 mod shown;
@@ -35,11 +38,13 @@ use std::process::ExitCode;
 use verdict::Status;
 
 const HELP: &str = "\
-HAC fisheries recordings: checked, walked, brought to their normal form, salvaged.
+HAC fisheries recordings: checked, compared, walked, brought to their normal form, salvaged.
 
   hac check FILE..          is each file accepted? How many tuples has it, and how
                             many identifiers are compared while it is linked? A
                             folder stands for all files in it and below.
+  hac same FILE..           which files have the same content, however they are
+                            spelled? A line a group, then what is refused, by code.
   hac normal FILE -o OUT    writes a file's normal form to OUT, whole or not at all
   hac salvage FILE -o OUT   writes the mark and the sound tuples of a damaged file to
                             OUT, whole or not at all, and tells what was lost, how
@@ -75,8 +80,9 @@ Where a ping's samples are wrong a refusal also says which one; pairs and words
 count from 0.
 
 Exit status: 0 accepted, 1 refused, 2 not a file or bad use; of many files 2 if
-any couldn't be read, else 1 if any was refused. Of hac salvage: 0 everything was
-kept, 3 something was lost; with 1 and 2 OUT isn't written.";
+any couldn't be read, else 1 if any was refused. Of hac same: 2 if any couldn't be
+read, else 1 if two are the same, else 0. Of hac salvage: 0 everything was kept, 3
+something was lost; with 1 and 2 OUT isn't written.";
 
 const VERSION: &str = concat!("hac ", env!("CARGO_PKG_VERSION"));
 
@@ -85,6 +91,7 @@ fn run(command: Command, output: &mut Output) -> Result<(), Broken> {
         Command::Help => output.line(HELP)?,
         Command::Version => output.line(VERSION)?,
         Command::Check { inputs } => check::run(inputs, output)?,
+        Command::Same { inputs } => same::run(inputs, output)?,
         Command::One { input, task } => one::run(&input, &task, output)?,
     }
     output.flush()

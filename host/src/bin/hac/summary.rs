@@ -15,9 +15,14 @@ pub struct Summary {
 }
 
 impl Summary {
+    /// Counts files that were accepted.
+    pub fn accept(&mut self, count: usize) {
+        self.accepted += count;
+    }
+
     pub fn count(&mut self, verdict: &Verdict) {
         match verdict {
-            Verdict::Accepted(_) => self.accepted += 1,
+            Verdict::Accepted(_) => self.accept(1),
             Verdict::Refused(refusal, _) => *self.codes.entry(refusal.code).or_default() += 1,
             Verdict::Unread(_) => self.unread += 1,
         }
