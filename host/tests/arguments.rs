@@ -108,13 +108,12 @@ fn bad_use_of_out() {
     let file = known.path.to_str().expect("a plain name");
     let out = room.at("out.hac");
     let out = out.to_str().expect("a plain name");
-    let uses: [&[&str]; 7] = [
+    let uses: [&[&str]; 6] = [
         &[file],
         &[file, "-o"],
         &[file, "-o", out, "-o", out],
         &["-o", out],
         &[file, file, "-o", out],
-        &[file, "-o", "-"],
         &[file, "-o", out, "--back"],
     ];
     for command in ["normal", "salvage"] {
@@ -122,6 +121,9 @@ fn bad_use_of_out() {
             is_bad_use(&room, &[&[command], arguments].concat());
         }
     }
+    is_bad_use(&room, &["salvage", file, "-o", "-"]);
+    is_bad_use(&room, &["normal", file, "-o", "-", "--json"]);
+    is_bad_use(&room, &["normal", file, file, "-o", "-"]);
 }
 
 /// What is no file is said, with status 2.

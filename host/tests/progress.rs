@@ -24,7 +24,7 @@ const READ_WRITE: c_int = 2;
 const HUNG_UP: c_int = 5;
 
 /// Both ends of a terminal: what stands on its screen is read from the first.
-fn terminal() -> (File, File) {
+pub fn terminal() -> (File, File) {
     let mut name = [0; 64];
     // SAFETY: the descriptor is new and owned by the file alone; the name is
     // written into memory of the length told, and ended by a zero byte.
@@ -43,7 +43,7 @@ fn terminal() -> (File, File) {
 }
 
 /// All that a terminal is sent, until nobody holds its other end.
-fn sent(screen: File) -> String {
+pub fn sent(screen: File) -> String {
     watched(screen, |_| ())
 }
 

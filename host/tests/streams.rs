@@ -152,9 +152,10 @@ fn closed_output() {
     let known = Known::sample("cruise-lsb");
     let path = known.path.to_str().expect("a plain name");
     let place = known.pings()[0].place.to_string();
-    let commands: [&[&str]; 9] = [
+    let commands: [&[&str]; 10] = [
         &["check", path],
         &["same", path],
+        &["normal", path, "-o", "-"],
         &["check", "--json", path, path],
         &["walk", path],
         &["parents", path, &place],
@@ -211,13 +212,18 @@ fn closed_while_waiting() {
 #[test]
 fn full_output() {
     let path = Known::sample("cruise-lsb").path;
-    for command in ["check", "same", "walk", "settings"] {
+    for command in ["check", "same", "normal", "walk", "settings"] {
+        let options: &[&str] = match command {
+            "normal" => &["-o", "-"],
+            _ => &[],
+        };
         let full = File::options()
             .write(true)
             .open("/dev/full")
             .expect("a full device");
         let ran = run(hac([command])
             .arg(&path)
+            .args(options)
             .stdout(full)
             .stderr(Stdio::piped()));
         assert_eq!(ran.status, 2);

@@ -19,11 +19,22 @@ pub enum Command {
 
 /// What is done with one input.
 pub enum Task {
-    Normal { out: PathBuf },
-    Salvage { out: PathBuf },
-    Walk { back: bool },
-    Parents { place: usize },
-    Samples { place: usize },
+    /// To a file, or to standard output.
+    Normal {
+        out: Option<PathBuf>,
+    },
+    Salvage {
+        out: PathBuf,
+    },
+    Walk {
+        back: bool,
+    },
+    Parents {
+        place: usize,
+    },
+    Samples {
+        place: usize,
+    },
     Settings,
     Ping(Wanted),
 }
@@ -32,7 +43,8 @@ impl Task {
     /// The file that it writes, if it writes one.
     pub fn out(&self) -> Option<&Path> {
         match self {
-            Task::Normal { out } | Task::Salvage { out } => Some(out),
+            Task::Normal { out } => out.as_deref(),
+            Task::Salvage { out } => Some(out),
             Task::Walk { .. } | Task::Parents { .. } | Task::Samples { .. } | Task::Settings => {
                 None
             }
@@ -106,8 +118,8 @@ impl Sorted {
                 Some("--help") => sorted.help = true,
                 Some("--version") => sorted.version = true,
                 Some("--samples") => sorted.samples = true,
-                Some("--corrections") => sorted.take_corrections(words.next())?,
-                Some("-o") => sorted.take_out(words.next())?,
+                Some("--corrections") => take(&mut sorted.corrections, &word, words.next())?,
+                Some("-o") => take(&mut sorted.out, &word, words.next())?,
                 Some("--") => sorted.rest.extend(words.by_ref()),
                 Some("-") => sorted.rest.push(word),
                 _ if word.as_encoded_bytes().starts_with(b"-") => {
@@ -119,25 +131,6 @@ impl Sorted {
         Ok(sorted)
     }
 
-    fn take_out(&mut self, out: Option<OsString>) -> Result<(), String> {
-        let out = out.ok_or("no OUT behind -o")?;
-        if out == STANDARD {
-            return Err("OUT is a file, never standard output".into());
-        }
-        match self.out.replace(out) {
-            None => Ok(()),
-            Some(_) => Err("more than one OUT".into()),
-        }
-    }
-
-    fn take_corrections(&mut self, file: Option<OsString>) -> Result<(), String> {
-        let file = file.ok_or("no FILE behind --corrections")?;
-        match self.corrections.replace(file) {
-            None => Ok(()),
-            Some(_) => Err("more than one --corrections".into()),
-        }
-    }
-
     /// Sees to it that a command gets no other's options.
     fn must_fit(&self, command: &str) -> Result<(), String> {
         let only = |option: &str, commands: &str| Err(format!("{option} is for {commands} alone"));
@@ -146,6 +139,9 @@ impl Sorted {
         }
         if self.out.is_some() && !WRITING.contains(&command) {
             return only("-o", "hac normal, hac salvage and hac ping");
+        }
+        if command != "normal" && self.out.as_ref().is_some_and(|out| out == STANDARD) {
+            return only("-o -", "hac normal");
         }
         if self.samples && command != "ping" {
             return only("--samples", "hac ping");
@@ -170,7 +166,7 @@ impl Sorted {
         match name {
             "check" => rest.many().map(|inputs| Command::Check { inputs }),
             "same" => rest.many().map(|inputs| Command::Same { inputs }),
-            "normal" => rest.writing(self.out, |out| Task::Normal { out }),
+            "normal" => rest.normal(self),
             "salvage" => rest.writing(self.out, |out| Task::Salvage { out }),
             "walk" => rest.one(|_| Ok(Task::Walk { back: self.back })),
             "parents" => rest.one(|rest| rest.place().map(|place| Task::Parents { place })),
@@ -179,6 +175,20 @@ impl Sorted {
             "ping" => rest.ping(self),
             _ => Err(format!("{} is no command", shown(&word))),
         }
+    }
+}
+
+/// Takes the word behind an option, which may stand there once.
+fn take(
+    taken: &mut Option<OsString>,
+    option: &OsStr,
+    word: Option<OsString>,
+) -> Result<(), String> {
+    let option = shown(option);
+    let word = word.ok_or_else(|| format!("nothing behind {option}"))?;
+    match taken.replace(word) {
+        None => Ok(()),
+        Some(_) => Err(format!("more than one {option}")),
     }
 }
 
@@ -220,6 +230,17 @@ impl Rest {
     ) -> Result<Command, String> {
         let out = out.ok_or("no -o OUT")?;
         self.one(|_| Ok(task(out.into())))
+    }
+
+    /// The normal form, to a file or to standard output.
+    fn normal(self, options: Sorted) -> Result<Command, String> {
+        match options.out {
+            Some(out) if out == STANDARD => match options.json {
+                true => Err("--json and -o - both take standard output".into()),
+                false => self.one(|_| Ok(Task::Normal { out: None })),
+            },
+            out => self.writing(out, |out| Task::Normal { out: Some(out) }),
+        }
     }
 
     /// The ping's command, which may take a second input.

@@ -1,7 +1,7 @@
 //! `hac check`: many files judged on all cores, and told in their order.
 
 use crate::files::{self, Entry};
-use crate::input::{self, Input};
+use crate::input::Input;
 use crate::output::{Broken, Output};
 use crate::progress::Progress;
 use crate::report::Report;
@@ -40,12 +40,8 @@ fn judge_all(entries: &Arc<Vec<Entry>>, report: &mut Report) -> Result<(), Broke
 }
 
 fn judge(entry: &Entry, bytes: &mut Vec<u8>) -> Verdict {
-    if let Some(fault) = &entry.fault {
-        return Verdict::Unread(fault.clone());
-    }
-    let file = entry.input.open();
-    match file.and_then(|file| input::read(&file, bytes)) {
+    match entry.read(bytes) {
         Ok(()) => Verdict::of(bytes),
-        Err(error) => error.into(),
+        Err(verdict) => verdict,
     }
 }

@@ -1,14 +1,10 @@
 //! Deposits whose digests agree, compared byte for byte.
 
 use crate::files::Entry;
-use crate::input::{self, Input};
 use crate::progress::Progress;
 use crate::spread::Spread;
 use crate::verdict::Verdict;
-use hac::Walk;
 use std::collections::BTreeMap;
-use std::fs::File;
-use std::io;
 use std::sync::Arc;
 
 /// A deposit's bytes in normal form.
@@ -27,29 +23,12 @@ impl Deposits {
         if let Some(form) = self.held.get(&at) {
             return Ok(form.clone());
         }
-        let made = form(&self.entries[at]).map_err(|verdict| match verdict {
+        let made = self.entries[at].normal_form();
+        made.map_err(|verdict| match verdict {
             Verdict::Unread(why) => why,
             _ => "changed while it was compared".into(),
-        });
-        made.map(|(form, _)| form)
+        })
     }
-}
-
-/// A file's normal form, and whether it can be read but once; or why it has none.
-pub fn form(entry: &Entry) -> Result<(Form, bool), Verdict> {
-    if let Some(fault) = &entry.fault {
-        return Err(Verdict::Unread(fault.clone()));
-    }
-    let file = entry.input.open()?;
-    let mut bytes = Vec::new();
-    input::read(&file, &mut bytes)?;
-    let form = hac::normal_form(&bytes)
-        .map_err(|refusal| Verdict::refused(&bytes, Walk::START, refusal))?;
-    Ok((form, reads_once(&entry.input, &file)?))
-}
-
-fn reads_once(input: &Input, file: &File) -> io::Result<bool> {
-    Ok(*input == Input::Standard || !file.metadata()?.is_file())
 }
 
 /// What comparing has found, by places in the list of deposits.
@@ -164,6 +143,7 @@ fn compare(deposits: &Deposits, pair: Pair, held: &mut Option<(usize, Form)>) ->
 #[cfg(test)]
 mod tests {
     use super::*;
+    use crate::input::Input;
     use std::path::PathBuf;
 
     /// Deposits of which the forms are held, and others that aren't there.

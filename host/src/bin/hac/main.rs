@@ -45,7 +45,8 @@ HAC fisheries recordings: checked, compared, walked, brought to their normal for
                             folder stands for all files in it and below.
   hac same FILE..           which files have the same content, however they are
                             spelled? A line a group, then what is refused, by code.
-  hac normal FILE -o OUT    writes a file's normal form to OUT, whole or not at all
+  hac normal FILE -o OUT    writes a file's normal form to OUT, whole or not at all;
+                            where OUT is - to standard output
   hac salvage FILE -o OUT   writes the mark and the sound tuples of a damaged file to
                             OUT, whole or not at all, and tells what was lost, how
                             many tuples of each type are kept, and what the check
@@ -80,9 +81,9 @@ Where a ping's samples are wrong a refusal also says which one; pairs and words
 count from 0.
 
 Exit status: 0 accepted, 1 refused, 2 not a file or bad use; of many files 2 if
-any couldn't be read, else 1 if any was refused. Of hac same: 2 if any couldn't be
-read, else 1 if two are the same, else 0. Of hac salvage: 0 everything was kept, 3
-something was lost; with 1 and 2 OUT isn't written.";
+any couldn't be read, else 1 if any was refused. Of hac same: 2 if any
+couldn't be read, else 1 if two are the same, else 0. Of hac salvage: 0 everything
+was kept, 3 something was lost; with 1 and 2 OUT isn't written.";
 
 const VERSION: &str = concat!("hac ", env!("CARGO_PKG_VERSION"));
 

@@ -59,8 +59,9 @@ impl<'a> Report<'a> {
     ) -> Result<(), Broken> {
         self.progress.hide();
         // behind what was printed, where both go to one terminal
-        self.output.flush()?;
+        let flushed = self.output.flush();
         say();
+        flushed?;
         match self.output.json {
             true => self.output.line(object()),
             false => Ok(()),

@@ -3,7 +3,7 @@
 
 use crate::digest::{Digest, Key};
 use crate::files::{self, Entry};
-use crate::groups::{form, Deposits, Form, Groups};
+use crate::groups::{Deposits, Form, Groups};
 use crate::input::Input;
 use crate::json::Object;
 use crate::output::{Broken, Output};
@@ -89,9 +89,17 @@ impl Prints {
 }
 
 fn printed(entry: &Entry, key: &Key) -> Printed {
-    let (form, reads_once) = form(entry)?;
+    let form = entry.normal_form()?;
     let print = (form.len(), key.digest(&form));
-    Ok((print, reads_once.then_some(form)))
+    Ok((print, reads_once(&entry.input).then_some(form)))
+}
+
+/// A pipe that was read through may even keep a second reader waiting.
+fn reads_once(input: &Input) -> bool {
+    match input {
+        Input::Standard => true,
+        Input::Path(path) => !path.is_file(),
+    }
 }
 
 /// A line a group, by its first deposit.
