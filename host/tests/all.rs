@@ -17,6 +17,7 @@ mod makers;
 mod many;
 mod names;
 mod normal;
+mod normals;
 mod pings;
 mod progress;
 mod records;

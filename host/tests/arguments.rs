@@ -126,6 +126,28 @@ fn bad_use_of_out() {
     is_bad_use(&room, &["normal", file, file, "-o", "-"]);
 }
 
+/// The same of the command that writes many.
+#[test]
+fn bad_use_of_folder() {
+    let room = Room::new();
+    let known = Known::sample("cruise-lsb");
+    let file = known.path.to_str().expect("a plain name");
+    let uses: [&[&str]; 9] = [
+        &["normal", "-d", "."],
+        &["normal", file, "-d"],
+        &["normal", file, "-d", ".", "-d", "."],
+        &["normal", file, "-d", ".", "-o", "out.hac"],
+        &["normal", file, "-d", ".", "-o", "-"],
+        &["normal", "-", "-d", "."],
+        &["salvage", file, "-d", "."],
+        &["check", file, "-d", "."],
+        &["same", file, "-d", "."],
+    ];
+    for arguments in uses {
+        is_bad_use(&room, arguments);
+    }
+}
+
 /// What is no file is said, with status 2.
 #[test]
 fn no_files() {

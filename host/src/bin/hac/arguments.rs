@@ -12,9 +12,21 @@ use std::vec;
 pub enum Command {
     Help,
     Version,
-    Check { inputs: Vec<Input> },
-    Same { inputs: Vec<Input> },
-    One { input: Input, task: Task },
+    Check {
+        inputs: Vec<Input>,
+    },
+    Same {
+        inputs: Vec<Input>,
+    },
+    /// The normal forms of many, to a folder.
+    Normals {
+        inputs: Vec<Input>,
+        folder: PathBuf,
+    },
+    One {
+        input: Input,
+        task: Task,
+    },
 }
 
 /// What is done with one input.
@@ -104,6 +116,7 @@ struct Sorted {
     samples: bool,
     corrections: Option<OsString>,
     out: Option<OsString>,
+    folder: Option<OsString>,
     help: bool,
     version: bool,
 }
@@ -120,6 +133,7 @@ impl Sorted {
                 Some("--samples") => sorted.samples = true,
                 Some("--corrections") => take(&mut sorted.corrections, &word, words.next())?,
                 Some("-o") => take(&mut sorted.out, &word, words.next())?,
+                Some("-d") => take(&mut sorted.folder, &word, words.next())?,
                 Some("--") => sorted.rest.extend(words.by_ref()),
                 Some("-") => sorted.rest.push(word),
                 _ if word.as_encoded_bytes().starts_with(b"-") => {
@@ -142,6 +156,9 @@ impl Sorted {
         }
         if command != "normal" && self.out.as_ref().is_some_and(|out| out == STANDARD) {
             return only("-o -", "hac normal");
+        }
+        if self.folder.is_some() && command != "normal" {
+            return only("-d", "hac normal");
         }
         if self.samples && command != "ping" {
             return only("--samples", "hac ping");
@@ -232,15 +249,25 @@ impl Rest {
         self.one(|_| Ok(task(out.into())))
     }
 
-    /// The normal form, to a file or to standard output.
+    /// The normal form of one input, or those of many.
     fn normal(self, options: Sorted) -> Result<Command, String> {
-        match options.out {
-            Some(out) if out == STANDARD => match options.json {
+        match (options.out, options.folder) {
+            (Some(_), Some(_)) => Err("-o OUT and -d FOLDER exclude each other".into()),
+            (None, Some(folder)) => self.normals(folder.into()),
+            (Some(out), None) if out == STANDARD => match options.json {
                 true => Err("--json and -o - both take standard output".into()),
                 false => self.one(|_| Ok(Task::Normal { out: None })),
             },
-            out => self.writing(out, |out| Task::Normal { out: Some(out) }),
+            (out, None) => self.writing(out, |out| Task::Normal { out: Some(out) }),
         }
+    }
+
+    fn normals(self, folder: PathBuf) -> Result<Command, String> {
+        let inputs = self.many()?;
+        if inputs.contains(&Input::Standard) {
+            return Err("standard input has no file name to write under".into());
+        }
+        Ok(Command::Normals { inputs, folder })
     }
 
     /// The ping's command, which may take a second input.

@@ -12,6 +12,7 @@ mod groups;
 mod input;
 mod json;
 mod normal;
+mod normals;
 mod one;
 mod out;
 mod output;
@@ -47,6 +48,9 @@ HAC fisheries recordings: checked, compared, walked, brought to their normal for
                             spelled? A line a group, then what is refused, by code.
   hac normal FILE -o OUT    writes a file's normal form to OUT, whole or not at all;
                             where OUT is - to standard output
+  hac normal FILE.. -d FOLDER
+                            writes the normal form of each file to FOLDER, under the
+                            file's own name, whole or not at all
   hac salvage FILE -o OUT   writes the mark and the sound tuples of a damaged file to
                             OUT, whole or not at all, and tells what was lost, how
                             many tuples of each type are kept, and what the check
@@ -81,7 +85,7 @@ Where a ping's samples are wrong a refusal also says which one; pairs and words
 count from 0.
 
 Exit status: 0 accepted, 1 refused, 2 not a file or bad use; of many files 2 if
-any couldn't be read, else 1 if any was refused. Of hac same: 2 if any
+any couldn't be read or written, else 1 if any was refused. Of hac same: 2 if any
 couldn't be read, else 1 if two are the same, else 0. Of hac salvage: 0 everything
 was kept, 3 something was lost; with 1 and 2 OUT isn't written.";
 
@@ -93,6 +97,7 @@ fn run(command: Command, output: &mut Output) -> Result<(), Broken> {
         Command::Version => output.line(VERSION)?,
         Command::Check { inputs } => check::run(inputs, output)?,
         Command::Same { inputs } => same::run(inputs, output)?,
+        Command::Normals { inputs, folder } => normals::run(inputs, &folder, output)?,
         Command::One { input, task } => one::run(&input, &task, output)?,
     }
     output.flush()
