@@ -135,6 +135,27 @@ fn among_the_lines() {
     assert_eq!(status.code(), Some(1));
 }
 
+/// Deposits that are sorted are read, and those that may be the same are compared.
+#[test]
+fn of_two_readings() {
+    let room = Room::new();
+    thousand(&room);
+    let (screen, end) = terminal();
+    let mut command = hac(["same"]);
+    let child = command
+        .arg(room.path())
+        .stdout(Stdio::null())
+        .stderr(end)
+        .spawn();
+    drop(command);
+    let sent = sent(screen);
+    let status = child.expect("the program starts").wait().expect("its end");
+    assert!(sent.starts_with(&format!("\r0 of {DEPOSITS} files read")));
+    assert!(sent.contains(" files compared"), "{sent:?}");
+    assert_eq!(left(&sent), [""]);
+    assert_eq!(status.code(), Some(1));
+}
+
 /// While one input keeps it waiting, the line is rewritten some ten times a second
 /// at the most.
 #[test]

@@ -9,9 +9,10 @@ use hac::types::{PING_C, POSITION};
 use hac::{normal_form, Code, FILE_LIMIT, TUPLE_LIMIT, VALUE_LIMIT};
 use std::ffi::OsStr;
 use std::fs;
+use std::io;
 use std::os::unix::ffi::OsStrExt;
 use std::path::{Path, PathBuf};
-use std::process::Command;
+use std::process::{Command, Stdio};
 use std::thread;
 
 /// Runs `hac same`.
@@ -145,6 +146,23 @@ fn unread() {
     assert_eq!(objects[0].text("outcome"), "unread");
     assert_eq!(objects[2].get("summary").number("unread"), 2);
     assert_eq!((ran.status, ran.err.lines().count()), (2, 2));
+}
+
+/// Nobody reads standard output: no complaint, and the status as if somebody did.
+#[test]
+fn closed_output() {
+    let room = Room::new();
+    let path = Known::sample("cruise-lsb").path;
+    let none = room.at("none.hac");
+    for (other, status) in [(&path, 1), (&none, 2)] {
+        let (reader, writer) = io::pipe().expect("a pipe");
+        drop(reader);
+        let mut command = hac(["same"]);
+        command.args([&path, &path, other]).stderr(Stdio::piped());
+        let ran = run(command.stdout(writer));
+        assert_eq!(ran.status, status);
+        assert!(!ran.err.contains("standard output"), "{}", ran.err);
+    }
 }
 
 /// Groups, then what is refused, then the summary; a name that is no UTF-8 exactly, too.

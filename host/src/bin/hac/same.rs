@@ -20,7 +20,11 @@ use std::sync::Arc;
 pub fn run(inputs: Vec<Input>, output: &mut Output) -> Result<(), Broken> {
     let entries = Arc::new(files::list(inputs).entries);
     let mut report = Report::new(Progress::over(entries.len(), "read"), output);
-    let Prints { classes, held, not } = Prints::of(&entries, &mut report.progress);
+    let Prints {
+        classes,
+        held,
+        formless,
+    } = Prints::of(&entries, &mut report.progress);
     report.progress.hide();
     let deposits = Deposits {
         entries: entries.clone(),
@@ -29,13 +33,14 @@ pub fn run(inputs: Vec<Input>, output: &mut Output) -> Result<(), Broken> {
     let classes = classes.into_values().collect();
     let Groups { same, gone } = Groups::of(&Arc::new(deposits), classes);
     let gone = gone.into_iter();
-    let not: BTreeMap<usize, Verdict> = gone
+    let formless: BTreeMap<usize, Verdict> = gone
         .map(|(at, why)| (at, Verdict::Unread(why)))
-        .chain(not)
+        .chain(formless)
         .collect();
-    report.summary.accept(entries.len() - not.len());
+    report.output.worsen(status(&same, &formless));
+    report.summary.accept(entries.len() - formless.len());
     tell_same(&entries, &same, &mut report)?;
-    tell_not(&entries, not, &mut report)?;
+    tell_formless(&entries, formless, &mut report)?;
     report.summarise(&[("groups", same.len())])
 }
 
@@ -50,7 +55,7 @@ struct Prints {
     /// The normal forms of those that can be read but once.
     held: BTreeMap<usize, Form>,
     /// What has no normal form.
-    not: BTreeMap<usize, Verdict>,
+    formless: BTreeMap<usize, Verdict>,
 }
 
 /// The print of one deposit, and its normal form where it is held.
@@ -82,7 +87,7 @@ impl Prints {
                 self.held.extend(held.map(|form| (at, form)));
             }
             Err(verdict) => {
-                self.not.insert(at, verdict);
+                self.formless.insert(at, verdict);
             }
         }
     }
@@ -102,6 +107,19 @@ fn reads_once(input: &Input) -> bool {
     }
 }
 
+/// What couldn't be read may be the same as another, whatever the rest is. A refused file is
+/// the same as none.
+fn status(same: &BTreeMap<usize, Vec<usize>>, formless: &BTreeMap<usize, Verdict>) -> Status {
+    let is_unread = |verdict: &Verdict| verdict.status() == Status::Unread;
+    if formless.values().any(is_unread) {
+        Status::Unread
+    } else if same.is_empty() {
+        Status::Accepted
+    } else {
+        Status::Refused
+    }
+}
+
 /// A line a group, by its first deposit.
 fn tell_same(
     entries: &[Entry],
@@ -109,7 +127,6 @@ fn tell_same(
     report: &mut Report,
 ) -> Result<(), Broken> {
     for group in same.values() {
-        report.output.worsen(Status::Refused);
         let names = group.iter().map(|at| entries[*at].input.name());
         let names: Vec<&OsStr> = names.collect();
         let shown: Vec<String> = names.iter().map(|name| shown(name)).collect();
@@ -121,18 +138,14 @@ fn tell_same(
 }
 
 /// What has no normal form: by its code what was refused, then what couldn't be read.
-fn tell_not(
+fn tell_formless(
     entries: &[Entry],
-    not: BTreeMap<usize, Verdict>,
+    formless: BTreeMap<usize, Verdict>,
     report: &mut Report,
 ) -> Result<(), Broken> {
-    let mut not: Vec<(usize, Verdict)> = not.into_iter().collect();
-    not.sort_by_key(|(_, verdict)| rank(verdict));
-    for (at, verdict) in not {
-        // a refused file isn't the same as any other
-        if verdict.status() == Status::Unread {
-            report.output.worsen(Status::Unread);
-        }
+    let mut formless: Vec<(usize, Verdict)> = formless.into_iter().collect();
+    formless.sort_by_key(|(_, verdict)| rank(verdict));
+    for (at, verdict) in formless {
         report.verdict(&entries[at].input, &verdict)?;
     }
     Ok(())
