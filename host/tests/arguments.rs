@@ -14,7 +14,7 @@ fn help_and_version() {
         let ran = run(&mut hac(arguments));
         assert_eq!((ran.status, ran.err.as_str()), (0, ""));
         for command in [
-            "check", "show", "normal", "salvage", "walk", "parents", "samples", "record",
+            "check", "show", "same", "normal", "salvage", "walk", "parents", "samples", "record",
             "settings", "ping",
         ] {
             assert!(ran.out.contains(&format!("hac {command} ")), "{command}");
@@ -39,7 +39,7 @@ fn bad_use() {
     let room = Room::new();
     let known = Known::sample("cruise-lsb");
     let file = known.path.to_str().expect("a plain name");
-    let uses: [&[&str]; 32] = [
+    let uses: [&[&str]; 35] = [
         &[],
         &["judge"],
         &["judge", file],
@@ -52,6 +52,9 @@ fn bad_use() {
         &["show", "-", file, "-"],
         &["show", "--back", file],
         &["show", "-o", "out.hac", file],
+        &["same"],
+        &["same", "-", file, "-"],
+        &["same", file, "-o", "out.hac"],
         &["walk"],
         &["walk", file, file],
         &["walk", "-x"],
@@ -116,19 +119,43 @@ fn bad_use_of_out() {
     let file = known.path.to_str().expect("a plain name");
     let out = room.at("out.hac");
     let out = out.to_str().expect("a plain name");
-    let uses: [&[&str]; 7] = [
+    let uses: [&[&str]; 6] = [
         &[file],
         &[file, "-o"],
         &[file, "-o", out, "-o", out],
         &["-o", out],
         &[file, file, "-o", out],
-        &[file, "-o", "-"],
         &[file, "-o", out, "--back"],
     ];
     for command in ["normal", "salvage"] {
         for arguments in uses {
             is_bad_use(&room, &[&[command], arguments].concat());
         }
+    }
+    is_bad_use(&room, &["salvage", file, "-o", "-"]);
+    is_bad_use(&room, &["normal", file, "-o", "-", "--json"]);
+    is_bad_use(&room, &["normal", file, file, "-o", "-"]);
+}
+
+/// The same of the command that writes many.
+#[test]
+fn bad_use_of_folder() {
+    let room = Room::new();
+    let known = Known::sample("cruise-lsb");
+    let file = known.path.to_str().expect("a plain name");
+    let uses: [&[&str]; 9] = [
+        &["normal", "-d", "."],
+        &["normal", file, "-d"],
+        &["normal", file, "-d", ".", "-d", "."],
+        &["normal", file, "-d", ".", "-o", "out.hac"],
+        &["normal", file, "-d", ".", "-o", "-"],
+        &["normal", "-", "-d", "."],
+        &["salvage", file, "-d", "."],
+        &["check", file, "-d", "."],
+        &["same", file, "-d", "."],
+    ];
+    for arguments in uses {
+        is_bad_use(&room, arguments);
     }
 }
 

@@ -4,9 +4,10 @@
 use crate::damage::{self, long_ping, Draft};
 use crate::json;
 use crate::known::{e3, e4, vector, Known, COMPARED, NORMAL, SPELLINGS};
+use crate::progress::{sent, terminal};
 use crate::room::{hac, run, Ran, Room};
 use hac::*;
-use std::fs;
+use std::fs::{self, File};
 use std::os::unix::fs::{symlink, FileTypeExt};
 use std::path::Path;
 use std::process::{Command, Stdio};
@@ -256,6 +257,61 @@ fn the_input_itself() {
         assert_eq!(fs::read(&input).expect("the input"), bytes);
         assert_eq!(room.names(), names);
     }
+}
+
+/// On standard output the form stands alone.
+#[test]
+fn to_standard_output() {
+    let expected = Known::sample(NORMAL).bytes;
+    for name in SPELLINGS {
+        let known = Known::sample(name);
+        let mut from_file = hac(["normal", "-o", "-"]);
+        from_file.arg(&known.path);
+        let mut from_standard = hac(["normal", "-", "-o", "-"]);
+        from_standard.stdin(File::open(&known.path).expect("a sample"));
+        for mut command in [from_file, from_standard] {
+            let output = command.output().expect("the program runs");
+            assert_eq!(output.stdout, expected, "{name}");
+            assert_eq!((output.status.code(), output.stderr.len()), (Some(0), 0));
+        }
+    }
+}
+
+/// Of what is refused, or can't be read, nothing goes out.
+#[test]
+fn nothing_to_standard_output() {
+    let room = Room::new();
+    for copy in damage::all(&Known::sample("cruise-lsb")) {
+        let path = room.put("in.hac", &copy.bytes);
+        let ran = run(hac(["normal", "-o", "-"]).arg(&path));
+        assert_eq!(ran.status, 1, "{}", copy.name);
+        says_of(&ran, &path);
+    }
+    let none = room.at("none.hac");
+    let ran = run(hac(["normal", "-o", "-"]).arg(&none));
+    assert_eq!(ran.status, 2);
+    says_of(&ran, &none);
+}
+
+/// Standard output isn't the input either, and no terminal: its bytes could steer it.
+#[test]
+fn standard_output_that_takes_no_file() {
+    let room = Room::new();
+    let bytes = Known::sample("cruise-lsb").bytes;
+    let input = room.put("in.hac", &bytes);
+    let behind = File::options().append(true).open(&input);
+    let mut command = hac(["normal", "-o", "-"]);
+    command.arg(&input).stderr(Stdio::piped());
+    let ran = run(command.stdout(behind.expect("the input")));
+    assert_eq!(ran.status, 2);
+    assert!(ran.err.starts_with("hac: standard output: "), "{}", ran.err);
+    assert_eq!(fs::read(&input).expect("the input"), bytes);
+    let (screen, end) = terminal();
+    let ran = run(command.stdout(end));
+    drop(command);
+    assert_eq!(ran.status, 2);
+    assert!(ran.err.starts_with("hac: standard output: "), "{}", ran.err);
+    assert_eq!(sent(screen), "");
 }
 
 /// Folders that can't be written, for whoever runs this, and things that are no

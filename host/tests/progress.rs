@@ -24,7 +24,7 @@ const READ_WRITE: c_int = 2;
 const HUNG_UP: c_int = 5;
 
 /// Both ends of a terminal: what stands on its screen is read from the first.
-fn terminal() -> (File, File) {
+pub fn terminal() -> (File, File) {
     let mut name = [0; 64];
     // SAFETY: the descriptor is new and owned by the file alone; the name is
     // written into memory of the length told, and ended by a zero byte.
@@ -43,7 +43,7 @@ fn terminal() -> (File, File) {
 }
 
 /// All that a terminal is sent, until nobody holds its other end.
-fn sent(screen: File) -> String {
+pub fn sent(screen: File) -> String {
     watched(screen, |_| ())
 }
 
@@ -132,6 +132,27 @@ fn among_the_lines() {
     assert!(sent.starts_with(&shown(0)), "{sent:?}");
     lines.push(String::new());
     assert_eq!(left(&sent), lines);
+    assert_eq!(status.code(), Some(1));
+}
+
+/// Deposits that are sorted are read, and those that may be the same are compared.
+#[test]
+fn of_two_readings() {
+    let room = Room::new();
+    thousand(&room);
+    let (screen, end) = terminal();
+    let mut command = hac(["same"]);
+    let child = command
+        .arg(room.path())
+        .stdout(Stdio::null())
+        .stderr(end)
+        .spawn();
+    drop(command);
+    let sent = sent(screen);
+    let status = child.expect("the program starts").wait().expect("its end");
+    assert!(sent.starts_with(&format!("\r0 of {DEPOSITS} files read")));
+    assert!(sent.contains(" files compared"), "{sent:?}");
+    assert_eq!(left(&sent), [""]);
     assert_eq!(status.code(), Some(1));
 }
 

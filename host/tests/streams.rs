@@ -11,7 +11,7 @@ use std::thread;
 use std::time::{Duration, Instant};
 
 /// Runs the program with some bytes for its standard input.
-fn fed(arguments: &[&str], bytes: &[u8]) -> Ran {
+pub fn fed(arguments: &[&str], bytes: &[u8]) -> Ran {
     let mut child: Child = hac(arguments)
         .stdin(Stdio::piped())
         .stdout(Stdio::piped())
@@ -152,8 +152,10 @@ fn closed_output() {
     let known = Known::sample("cruise-lsb");
     let path = known.path.to_str().expect("a plain name");
     let place = known.pings()[0].place.to_string();
-    let commands: [&[&str]; 11] = [
+    let commands: [&[&str]; 13] = [
         &["check", path],
+        &["same", path],
+        &["normal", path, "-o", "-"],
         &["check", "--json", path, path],
         &["show", path],
         &["show", "--json", path, path],
@@ -216,13 +218,18 @@ fn closed_while_waiting() {
 #[test]
 fn full_output() {
     let path = Known::sample("cruise-lsb").path;
-    for command in ["check", "show", "walk", "settings"] {
+    for command in ["check", "show", "same", "normal", "walk", "settings"] {
+        let options: &[&str] = match command {
+            "normal" => &["-o", "-"],
+            _ => &[],
+        };
         let full = File::options()
             .write(true)
             .open("/dev/full")
             .expect("a full device");
         let ran = run(hac([command])
             .arg(&path)
+            .args(options)
             .stdout(full)
             .stderr(Stdio::piped()));
         assert_eq!(ran.status, 2);

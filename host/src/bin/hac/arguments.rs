@@ -12,19 +12,47 @@ use std::vec;
 pub enum Command {
     Help,
     Version,
-    Check { inputs: Vec<Input> },
-    Show { inputs: Vec<Input> },
-    One { input: Input, task: Task },
+    Check {
+        inputs: Vec<Input>,
+    },
+    Show {
+        inputs: Vec<Input>,
+    },
+    Same {
+        inputs: Vec<Input>,
+    },
+    /// The normal forms of many, to a folder.
+    Normals {
+        inputs: Vec<Input>,
+        folder: PathBuf,
+    },
+    One {
+        input: Input,
+        task: Task,
+    },
 }
 
 /// What is done with one input.
 pub enum Task {
-    Normal { out: PathBuf },
-    Salvage { out: PathBuf },
-    Walk { back: bool },
-    Parents { place: usize },
-    Samples { place: usize },
-    Record { place: usize },
+    /// To a file, or to standard output.
+    Normal {
+        out: Option<PathBuf>,
+    },
+    Salvage {
+        out: PathBuf,
+    },
+    Walk {
+        back: bool,
+    },
+    Parents {
+        place: usize,
+    },
+    Samples {
+        place: usize,
+    },
+    Record {
+        place: usize,
+    },
     Settings,
     Ping(Wanted),
 }
@@ -33,7 +61,8 @@ impl Task {
     /// The file that it writes, if it writes one.
     pub fn out(&self) -> Option<&Path> {
         match self {
-            Task::Normal { out } | Task::Salvage { out } => Some(out),
+            Task::Normal { out } => out.as_deref(),
+            Task::Salvage { out } => Some(out),
             Task::Walk { .. }
             | Task::Parents { .. }
             | Task::Samples { .. }
@@ -95,6 +124,7 @@ struct Sorted {
     samples: bool,
     corrections: Option<OsString>,
     out: Option<OsString>,
+    folder: Option<OsString>,
     help: bool,
     version: bool,
 }
@@ -109,8 +139,9 @@ impl Sorted {
                 Some("--help") => sorted.help = true,
                 Some("--version") => sorted.version = true,
                 Some("--samples") => sorted.samples = true,
-                Some("--corrections") => sorted.take_corrections(words.next())?,
-                Some("-o") => sorted.take_out(words.next())?,
+                Some("--corrections") => take(&mut sorted.corrections, &word, words.next())?,
+                Some("-o") => take(&mut sorted.out, &word, words.next())?,
+                Some("-d") => take(&mut sorted.folder, &word, words.next())?,
                 Some("--") => sorted.rest.extend(words.by_ref()),
                 Some("-") => sorted.rest.push(word),
                 _ if word.as_encoded_bytes().starts_with(b"-") => {
@@ -122,25 +153,6 @@ impl Sorted {
         Ok(sorted)
     }
 
-    fn take_out(&mut self, out: Option<OsString>) -> Result<(), String> {
-        let out = out.ok_or("no OUT behind -o")?;
-        if out == STANDARD {
-            return Err("OUT is a file, never standard output".into());
-        }
-        match self.out.replace(out) {
-            None => Ok(()),
-            Some(_) => Err("more than one OUT".into()),
-        }
-    }
-
-    fn take_corrections(&mut self, file: Option<OsString>) -> Result<(), String> {
-        let file = file.ok_or("no FILE behind --corrections")?;
-        match self.corrections.replace(file) {
-            None => Ok(()),
-            Some(_) => Err("more than one --corrections".into()),
-        }
-    }
-
     /// Sees to it that a command gets no other's options.
     fn must_fit(&self, command: &str) -> Result<(), String> {
         let only = |option: &str, commands: &str| Err(format!("{option} is for {commands} alone"));
@@ -149,6 +161,12 @@ impl Sorted {
         }
         if self.out.is_some() && !WRITING.contains(&command) {
             return only("-o", "hac normal, hac salvage and hac ping");
+        }
+        if command != "normal" && self.out.as_ref().is_some_and(|out| out == STANDARD) {
+            return only("-o -", "hac normal");
+        }
+        if self.folder.is_some() && command != "normal" {
+            return only("-d", "hac normal");
         }
         if self.samples && command != "ping" {
             return only("--samples", "hac ping");
@@ -171,9 +189,10 @@ impl Sorted {
         let name = word.to_str().unwrap_or_default();
         self.must_fit(name)?;
         match name {
-            "check" => rest.inputs().map(|inputs| Command::Check { inputs }),
-            "show" => rest.inputs().map(|inputs| Command::Show { inputs }),
-            "normal" => rest.writing(self.out, |out| Task::Normal { out }),
+            "check" => rest.many().map(|inputs| Command::Check { inputs }),
+            "show" => rest.many().map(|inputs| Command::Show { inputs }),
+            "same" => rest.many().map(|inputs| Command::Same { inputs }),
+            "normal" => rest.normal(self),
             "salvage" => rest.writing(self.out, |out| Task::Salvage { out }),
             "walk" => rest.one(|_| Ok(Task::Walk { back: self.back })),
             "parents" => rest.one(|rest| rest.place().map(|place| Task::Parents { place })),
@@ -186,12 +205,26 @@ impl Sorted {
     }
 }
 
+/// Takes the word behind an option, which may stand there once.
+fn take(
+    taken: &mut Option<OsString>,
+    option: &OsStr,
+    word: Option<OsString>,
+) -> Result<(), String> {
+    let option = shown(option);
+    let word = word.ok_or_else(|| format!("nothing behind {option}"))?;
+    match taken.replace(word) {
+        None => Ok(()),
+        Some(_) => Err(format!("more than one {option}")),
+    }
+}
+
 /// What is left behind a command.
 struct Rest(vec::IntoIter<OsString>);
 
 impl Rest {
-    /// The inputs of a command that takes many.
-    fn inputs(self) -> Result<Vec<Input>, String> {
+    /// Inputs alone, at least one.
+    fn many(self) -> Result<Vec<Input>, String> {
         let inputs: Vec<Input> = self.0.map(Input::of).collect();
         let standard = inputs.iter().filter(|input| **input == Input::Standard);
         if standard.count() > 1 {
@@ -224,6 +257,27 @@ impl Rest {
     ) -> Result<Command, String> {
         let out = out.ok_or("no -o OUT")?;
         self.one(|_| Ok(task(out.into())))
+    }
+
+    /// The normal form of one input, or those of many.
+    fn normal(self, options: Sorted) -> Result<Command, String> {
+        match (options.out, options.folder) {
+            (Some(_), Some(_)) => Err("-o OUT and -d FOLDER exclude each other".into()),
+            (None, Some(folder)) => self.normals(folder.into()),
+            (Some(out), None) if out == STANDARD => match options.json {
+                true => Err("--json and -o - both take standard output".into()),
+                false => self.one(|_| Ok(Task::Normal { out: None })),
+            },
+            (out, None) => self.writing(out, |out| Task::Normal { out: Some(out) }),
+        }
+    }
+
+    fn normals(self, folder: PathBuf) -> Result<Command, String> {
+        let inputs = self.many()?;
+        if inputs.contains(&Input::Standard) {
+            return Err("standard input has no file name to write under".into());
+        }
+        Ok(Command::Normals { inputs, folder })
     }
 
     /// The ping's command, which may take a second input.

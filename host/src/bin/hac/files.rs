@@ -1,14 +1,16 @@
-//! The files that a check or a show is over: those named, and those in folders named.
+//! The files that a command on many is over: those named, and those in folders named.
 
-use crate::input::Input;
+use crate::input::{self, Input};
+use crate::verdict::Verdict;
+use hac::Walk;
 use std::fs::{self, FileType};
 use std::io;
 use std::path::{Path, PathBuf};
 
-/// A file to check.
+/// A file to read.
 pub struct Entry {
     pub input: Input,
-    /// Why it can't be checked, where that is known already.
+    /// Why it can't be read, where that is known already.
     pub fault: Option<String>,
 }
 
@@ -18,6 +20,21 @@ impl Entry {
             input: Input::Path(path),
             fault: Some(why.to_string()),
         }
+    }
+
+    /// Reads the file into memory, in the place of what is there, or tells why not.
+    pub fn read(&self, bytes: &mut Vec<u8>) -> Result<(), Verdict> {
+        if let Some(fault) = &self.fault {
+            return Err(Verdict::Unread(fault.clone()));
+        }
+        Ok(input::read(&self.input.open()?, bytes)?)
+    }
+
+    /// The file's normal form, or why it has none.
+    pub fn normal_form(&self) -> Result<Vec<u8>, Verdict> {
+        let mut bytes = Vec::new();
+        self.read(&mut bytes)?;
+        hac::normal_form(&bytes).map_err(|refusal| Verdict::refused(&bytes, Walk::START, refusal))
     }
 }
 

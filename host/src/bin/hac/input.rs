@@ -54,7 +54,7 @@ pub fn read(file: &File, bytes: &mut Vec<u8>) -> io::Result<()> {
 }
 
 /// What tells a file from all others, whatever it is called.
-#[derive(PartialEq, Eq)]
+#[derive(PartialEq, Eq, Hash)]
 pub struct Identity {
     device: u64,
     inode: u64,

@@ -57,7 +57,12 @@ impl Object {
 
     /// A list of objects.
     pub fn list(self, key: &str, values: impl Iterator<Item = Object>) -> Object {
-        let values: Vec<String> = values.map(|value| value.to_string()).collect();
+        self.values(key, values.map(|value| value.to_string()))
+    }
+
+    /// A list of values that are spelled already.
+    fn values(self, key: &str, values: impl Iterator<Item = String>) -> Object {
+        let values: Vec<String> = values.collect();
         self.member(key, format_args!("[{}]", values.join(",")))
     }
 
@@ -66,13 +71,36 @@ impl Object {
     pub fn name(self, key: &str, name: &OsStr) -> Object {
         match name.to_str() {
             Some(name) => self.text(key, name),
-            None => {
-                let digits: String = name.as_bytes().iter().map(|b| format!("{b:02x}")).collect();
-                self.text(key, &name.to_string_lossy())
-                    .text(&format!("{key}_bytes"), &digits)
-            }
+            None => self
+                .text(key, &name.to_string_lossy())
+                .text(&format!("{key}_bytes"), &digits(name)),
         }
     }
+
+    /// A list of names. Where one is no UTF-8 another list stands beside it, with those
+    /// that are exact in hexadecimal and null for the others.
+    pub fn names(self, key: &str, names: &[&OsStr]) -> Object {
+        let near = names.iter().map(|name| quoted(&name.to_string_lossy()));
+        let object = self.values(key, near);
+        if names.iter().all(|name| name.to_str().is_some()) {
+            return object;
+        }
+        let exact = names.iter().map(|name| match name.to_str() {
+            Some(_) => "null".into(),
+            None => quoted(&digits(name)),
+        });
+        object.values(&format!("{key}_bytes"), exact)
+    }
+}
+
+fn quoted(text: &str) -> String {
+    Text(text).to_string()
+}
+
+/// The bytes of a name, in hexadecimal.
+fn digits(name: &OsStr) -> String {
+    let bytes = name.as_bytes().iter();
+    bytes.map(|byte| format!("{byte:02x}")).collect()
 }
 
 impl Display for Object {
@@ -123,11 +151,14 @@ mod tests {
                 "l",
                 [0, 1].into_iter().map(|n| Object::default().number("m", n)),
             )
-            .name("file", OsStr::from_bytes(b"x\xff"));
+            .name("file", OsStr::from_bytes(b"x\xff"))
+            .names("plain", &["y", "\"z"].map(OsStr::new))
+            .names("s", &[&b"y"[..], b"x\xff"].map(OsStr::from_bytes));
         let line =
             "{\"a\\\"b\\\\\":\"\\u001b[2J\\u000a\\u202e\u{e9}\",\"n\":-5,\"p\":5,\"q\":null,\
                     \"t\":\"u\",\"v\":null,\
-                    \"o\":{\"13\":2},\"e\":[],\"l\":[{\"m\":0},{\"m\":1}],\"file\":\"x\u{fffd}\",\"file_bytes\":\"78ff\"}";
+                    \"o\":{\"13\":2},\"e\":[],\"l\":[{\"m\":0},{\"m\":1}],\"file\":\"x\u{fffd}\",\"file_bytes\":\"78ff\",\
+                    \"plain\":[\"y\",\"\\\"z\"],\"s\":[\"y\",\"x\u{fffd}\"],\"s_bytes\":[null,\"78ff\"]}";
         assert_eq!(object.to_string(), line);
     }
 }

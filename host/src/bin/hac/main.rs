@@ -1,6 +1,7 @@
-//! The command `hac`: HAC recordings checked, shown on a page, walked, linked, asked which
-//! settings held at each ping, searched for a ping with corrections beside them, read,
-//! brought to their normal form and salvaged, by the proved library.
+//! The command `hac`: HAC recordings checked, shown on a page, compared with each other,
+//! walked, linked, asked which settings held at each ping, searched for a ping with
+//! corrections beside them, read, brought to their normal form and salvaged, by the proved
+//! library.
 
 #![forbid(unsafe_code)]
 
@@ -8,12 +9,14 @@ mod arguments;
 mod check;
 mod contents;
 mod decimal;
+mod digest;
 mod files;
+mod groups;
 mod input;
 mod json;
-mod many;
 mod moment;
 mod normal;
+mod normals;
 mod one;
 mod out;
 mod output;
@@ -22,11 +25,14 @@ mod parents;
 mod ping;
 mod progress;
 mod record;
+mod report;
 mod salvage;
+mod same;
 mod samples;
 mod settings;
 mod show;
 mod shown;
+mod spread;
 mod stop;
 mod summary;
 mod units;
@@ -41,7 +47,8 @@ use std::process::ExitCode;
 use verdict::Status;
 
 const HELP: &str = "\
-HAC fisheries recordings: checked, shown, walked, brought to their normal form, salvaged.
+HAC fisheries recordings: checked, shown, compared, walked, brought to their normal form,
+salvaged.
 
   hac check FILE..          is each file accepted? How many tuples has it, and how
                             many identifiers are compared while it is linked? A
@@ -49,7 +56,13 @@ HAC fisheries recordings: checked, shown, walked, brought to their normal form, 
   hac show FILE..           what each file holds: sounders and channels, with their
                             pings and samples, times, positions and how many other
                             tuples; files and folders as hac check takes them
-  hac normal FILE -o OUT    writes a file's normal form to OUT, whole or not at all
+  hac same FILE..           which files have the same content, however they are
+                            spelled? A line a group, then what is refused, by code.
+  hac normal FILE -o OUT    writes a file's normal form to OUT, whole or not at all;
+                            where OUT is - to standard output
+  hac normal FILE.. -d FOLDER
+                            writes the normal form of each file to FOLDER, under the
+                            file's own name, whole or not at all
   hac salvage FILE -o OUT   writes the mark and the sound tuples of a damaged file to
                             OUT, whole or not at all, and tells what was lost, how
                             many tuples of each type are kept, and what the check
@@ -87,8 +100,9 @@ Where a ping's samples are wrong a refusal also says which one; pairs and words
 count from 0.
 
 Exit status: 0 accepted, 1 refused, 2 not a file or bad use; of many files 2 if
-any couldn't be read, else 1 if any was refused. Of hac salvage: 0 everything was
-kept, 3 something was lost; with 1 and 2 OUT isn't written.";
+any couldn't be read or written, else 1 if any was refused. Of hac same: 2 if any
+couldn't be read, else 1 if two are the same, else 0. Of hac salvage: 0 everything
+was kept, 3 something was lost; with 1 and 2 OUT isn't written.";
 
 const VERSION: &str = concat!(
     "hac ",
@@ -103,6 +117,8 @@ fn run(command: Command, output: &mut Output) -> Result<(), Broken> {
         Command::Version => output.line(VERSION)?,
         Command::Check { inputs } => check::run(inputs, output)?,
         Command::Show { inputs } => show::run(inputs, output)?,
+        Command::Same { inputs } => same::run(inputs, output)?,
+        Command::Normals { inputs, folder } => normals::run(inputs, &folder, output)?,
         Command::One { input, task } => one::run(&input, &task, output)?,
     }
     output.flush()

@@ -63,9 +63,12 @@ fn perform(
     if let Some(out) = task.out() {
         out::must_differ(&file, out)?;
     }
+    if let Task::Normal { out: None } = task {
+        out::must_take_bytes(&file)?;
+    }
     input::read(&file, bytes)?;
     match task {
-        Task::Normal { out } => normal::run(input, bytes, out, output),
+        Task::Normal { out } => normal::run(input, bytes, out.as_deref(), output),
         Task::Salvage { out } => salvage::run(input, bytes, out, output),
         Task::Walk { back } => walk::run(bytes, *back, output),
         Task::Parents { place } => parents::run(bytes, *place, output),

@@ -75,6 +75,11 @@ impl Output {
         }
     }
 
+    /// What is no text.
+    pub fn bytes(&mut self, bytes: &[u8]) -> Result<(), Broken> {
+        self.to.write_all(bytes).map_err(Broken)
+    }
+
     pub fn flush(&mut self) -> Result<(), Broken> {
         self.to.flush().map_err(Broken)
     }

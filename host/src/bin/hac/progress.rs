@@ -1,4 +1,4 @@
-//! How far a long check has come, on a terminal.
+//! How far long work has come, on a terminal.
 
 use std::io::{self, IsTerminal, Write};
 use std::time::{Duration, Instant};
@@ -9,6 +9,8 @@ pub const PAUSE: Duration = Duration::from_millis(100);
 /// One line on standard error that is written over and over.
 pub struct Progress {
     total: usize,
+    /// What is done with the files.
+    done: &'static str,
     shows: bool,
     last: Option<Instant>,
     /// The characters that stand there now.
@@ -18,20 +20,21 @@ pub struct Progress {
 impl Progress {
     /// Progress over so many files, shown where there is a terminal and more than
     /// one file.
-    pub fn over(total: usize) -> Progress {
+    pub fn over(total: usize, done: &'static str) -> Progress {
         Progress {
             total,
+            done,
             shows: total > 1 && io::stderr().is_terminal(),
             last: None,
             width: 0,
         }
     }
 
-    pub fn show(&mut self, done: usize) {
+    pub fn show(&mut self, count: usize) {
         if !self.shows || self.last.is_some_and(|last| last.elapsed() < PAUSE) {
             return;
         }
-        let line = format!("{done} of {} files checked", self.total);
+        let line = format!("{count} of {} files {}", self.total, self.done);
         print(&format!("\r{line}"));
         self.width = line.len();
         self.last = Some(Instant::now());

@@ -29,6 +29,12 @@ impl From<Refusal> for Stop {
     }
 }
 
+impl From<String> for Stop {
+    fn from(fault: String) -> Stop {
+        Stop::Fault(fault)
+    }
+}
+
 /// An error in reading the input; other errors are told in words.
 impl From<io::Error> for Stop {
     fn from(error: io::Error) -> Stop {

@@ -15,9 +15,14 @@ pub struct Summary {
 }
 
 impl Summary {
+    /// Counts files that were accepted.
+    pub fn accept(&mut self, count: usize) {
+        self.accepted += count;
+    }
+
     pub fn count(&mut self, verdict: &Verdict) {
         match verdict {
-            Verdict::Accepted(_) => self.accepted += 1,
+            Verdict::Accepted(_) => self.accept(1),
             Verdict::Refused(refusal, _) => *self.codes.entry(refusal.code).or_default() += 1,
             Verdict::Unread(_) => self.unread += 1,
         }
@@ -31,16 +36,21 @@ impl Summary {
         self.accepted + self.refused() + self.unread
     }
 
-    pub fn tell(&self, output: &mut Output) -> Result<(), Broken> {
+    /// Tells it, and behind it what else was counted: names, with how many.
+    pub fn tell(&self, others: &[(&str, usize)], output: &mut Output) -> Result<(), Broken> {
+        let behind = others.iter();
+        let behind: String = behind
+            .map(|(name, count)| format!(", {name} {count}"))
+            .collect();
         output.tell(
             format_args!(
-                "files {}, accepted {}, refused {}, not read {}",
+                "files {}, accepted {}, refused {}, not read {}{behind}",
                 self.files(),
                 self.accepted,
                 self.refused(),
                 self.unread
             ),
-            || Object::default().object("summary", self.object()),
+            || Object::default().object("summary", self.object(others)),
         )?;
         if output.json {
             return Ok(());
@@ -51,16 +61,19 @@ impl Summary {
         Ok(())
     }
 
-    fn object(&self) -> Object {
+    fn object(&self, others: &[(&str, usize)]) -> Object {
         let codes = self.codes.iter();
         let codes = codes.fold(Object::default(), |codes, (code, count)| {
             codes.number(&code.number().to_string(), *count)
         });
-        Object::default()
+        let counts = Object::default()
             .number("files", self.files())
             .number("accepted", self.accepted)
             .number("refused", self.refused())
-            .number("unread", self.unread)
-            .object("codes", codes)
+            .number("unread", self.unread);
+        let counts = others
+            .iter()
+            .fold(counts, |counts, (name, count)| counts.number(name, *count));
+        counts.object("codes", codes)
     }
 }

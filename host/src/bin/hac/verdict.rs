@@ -10,6 +10,7 @@ use std::io;
 #[derive(Clone, Copy, Debug, PartialEq, Eq, PartialOrd, Ord)]
 pub enum Status {
     Accepted = 0,
+    /// Refused; of `hac same`, two that are the same.
     Refused = 1,
     /// Not a file, or bad use.
     Unread = 2,
