@@ -10,6 +10,9 @@ use crate::walk::{Step, Walk};
 /// The most bytes of a file, and of a normal form.
 pub const FILE_LIMIT: usize = 16_777_216;
 
+/// The least bytes of a tuple.
+pub const TUPLE_LEAST: usize = 16;
+
 /// The most bytes of a tuple.
 pub const TUPLE_LIMIT: usize = 262_144;
 
@@ -73,6 +76,17 @@ impl Order {
     }
 }
 
+/// The number of two bytes at a place of a file, and that of four; none past its end.
+pub(crate) fn two_at(file: &[u8], place: usize) -> Option<u16> {
+    let bytes = file.get(place..)?.first_chunk()?;
+    Some(Order::of(file).two(*bytes))
+}
+
+pub(crate) fn four_at(file: &[u8], place: usize) -> Option<u32> {
+    let bytes = file.get(place..)?.first_chunk()?;
+    Some(Order::of(file).four(*bytes))
+}
+
 /// What is counted in a file that the check accepts.
 #[derive(Clone, Copy, Debug, PartialEq, Eq)]
 pub struct Counts {
@@ -88,7 +102,7 @@ pub struct Counts {
 
 /// Checks a whole file and counts in it. Refuses by 1, 2; tuple by tuple 4, 3, 5,
 /// 3, 6, 7, 9, 8, 12, 14, 13, 11, 23, 24, 25; behind the end of file 15, 16, 17.
-/// [`crate::wrong_sample`] tells more of 23, 24 and 25.
+/// [`crate::advice()`] tells more of each.
 pub fn check(file: &[u8]) -> Result<Counts, Refusal> {
     let answer = call::check(file)?;
     Ok(Counts {

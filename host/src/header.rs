@@ -7,7 +7,7 @@
 mod calls;
 
 use crate::{types, Code, PingKind, CHANNEL_LIMIT, FILE_LIMIT, FIRST_PLACE, REMARK};
-use crate::{SOUNDER_LIMIT, TUPLE_LIMIT, VALUE_LIMIT};
+use crate::{SOUNDER_LIMIT, TUPLE_LEAST, TUPLE_LIMIT, VALUE_LIMIT};
 use calls::Header;
 
 const CALLS: &str = include_str!("../../include/hac.h");
@@ -71,6 +71,7 @@ fn limits_and_pings() {
     let header = header();
     for (name, number) in [
         ("FILE_LIMIT", FILE_LIMIT),
+        ("TUPLE_LEAST", TUPLE_LEAST),
         ("TUPLE_LIMIT", TUPLE_LIMIT),
         ("VALUE_LIMIT", VALUE_LIMIT),
         ("SOUNDER_LIMIT", SOUNDER_LIMIT),

@@ -38,6 +38,7 @@
 #[macro_use]
 mod table;
 
+mod advice;
 mod answer;
 #[allow(unsafe_code)]
 mod call;
@@ -56,6 +57,7 @@ mod walk;
 mod wrong;
 
 // All that a module has to offer, so that a further call is said in its module alone.
+pub use advice::*;
 pub use answer::*;
 pub use corrections::*;
 pub use field::*;

@@ -45,6 +45,44 @@ listed! {
     65535 SIGNATURE "signature"
 }
 
+/// The classes that a recording has a tuple of each of, of a listed type or not, and what
+/// these are called.
+pub(crate) const NEEDED: [(RangeInclusive<u16>, &str); 4] = [
+    (20..=29, "position"),
+    (100..=999, "echosounder"),
+    (1000..=9999, "channel"),
+    (10000..=10099, "ping"),
+];
+
+/// The lengths that fit a listed type, the first of them where there are more; none of a
+/// type that isn't listed, which any length fits.
+pub(crate) const fn fitting(code: u16) -> Option<&'static str> {
+    Some(match code {
+        RUN_START | RUN_END => "20",
+        SIGNATURE => "24",
+        NAVIGATION => "28",
+        POSITION | ATTITUDE => "36",
+        THRESHOLD => "44",
+        SOUNDER => "72",
+        EK500_SOUNDER => "80",
+        CHANNEL | EK500_CHANNEL => "108",
+        EVENT | FILE_END => "24, 28, 32 ..",
+        PING_U16 => "36, 40, 44 ..",
+        PING_C | PING_C16 | PING_CE16 => "40, 44, 48 ..",
+        PING_U | PING_U32_16_ANGLES => "40, 48, 56 ..",
+        PING_U16_ANGLES => "40, 44, 52, 56 ..",
+        _ => return None,
+    })
+}
+
+/// What a tuple of a type is called; of one that isn't listed with its number.
+pub(crate) fn called(code: u16) -> String {
+    match fitting(code) {
+        Some(_) => name(code).into(),
+        None => format!("{} type {code}", name(code)),
+    }
+}
+
 /// Who made a sounder, and so its channels: a channel names a sounder of its own maker.
 #[derive(Clone, Copy, Debug, PartialEq, Eq, Hash)]
 pub enum Maker {

@@ -1,7 +1,7 @@
 //! Which sample of a ping a refusal is about.
 
 use crate::answer::{Code, Refusal};
-use crate::file::Order;
+use crate::file::{four_at, two_at};
 use crate::ping::{read_ping, PingKind};
 use crate::walk::{Tuple, Walk};
 use std::fmt;
@@ -104,6 +104,12 @@ pub fn wrong_sample(file: &[u8], from: Walk, refusal: Refusal) -> Option<WrongSa
     })
 }
 
+/// How many values, or samples, a ping of a fitting length has; none of a tuple that is no
+/// listed ping.
+pub(crate) fn values(file: &[u8], ping: Tuple) -> Option<usize> {
+    Some(Stored::of(file, ping)?.values())
+}
+
 impl<'a> Stored<'a> {
     /// None of a tuple that is no listed ping.
     fn of(file: &'a [u8], ping: Tuple) -> Option<Stored<'a>> {
@@ -143,17 +149,45 @@ impl<'a> Stored<'a> {
     /// A count that is wrong with the last two bytes of a C-16 or CE-16 ping and without
     /// them leaves these a word.
     fn miscounted(self, place: usize) -> SampleFault {
-        let words = self.words_up_to(self.ping.place + self.ping.length - BEHIND);
         SampleFault::Miscounted {
             said: four(self.file, place),
-            found: words.filter(|word| !self.is_run(*word)).count(),
+            found: self.values_up_to(self.end()),
         }
+    }
+
+    /// Where the ping's pairs or words end.
+    fn end(self) -> usize {
+        self.ping.place + self.ping.length - BEHIND
+    }
+
+    /// How many pairs it has, or words that are no runs. The last two bytes of a C-16 or
+    /// CE-16 ping are a space where the number of samples is right without them alone.
+    fn values(self) -> usize {
+        let all = self.values_up_to(self.end());
+        match PingKind::of_type(self.ping.kind) {
+            Some(PingKind::C32) => all,
+            Some(PingKind::C16 | PingKind::Ce16) => {
+                let said = four(self.file, self.ping.place + PAIRS);
+                let unspaced = self.values_up_to(self.end() - self.width);
+                match said as usize == unspaced {
+                    true => unspaced,
+                    false => all,
+                }
+            }
+            _ => (self.end() - self.ping.place - PAIRS) / self.step,
+        }
+    }
+
+    /// How many words before a place are no runs.
+    fn values_up_to(self, place: usize) -> usize {
+        let words = self.words_up_to(place);
+        words.filter(|word| !self.is_run(*word)).count()
     }
 
     /// The sample number or the word at a place.
     fn number(self, place: usize) -> u32 {
         match self.width {
-            2 => two(self.file, place).into(),
+            2 => two_at(self.file, place).expect("two bytes").into(),
             _ => four(self.file, place),
         }
     }
@@ -181,15 +215,9 @@ impl<'a> Stored<'a> {
     }
 }
 
-/// The number of two bytes at a place, and that of four.
-fn two(file: &[u8], place: usize) -> u16 {
-    let bytes = file[place..place + 2].try_into().expect("two bytes");
-    Order::of(file).two(bytes)
-}
-
+/// The number of four bytes at a place of a ping.
 fn four(file: &[u8], place: usize) -> u32 {
-    let bytes = file[place..place + 4].try_into().expect("four bytes");
-    Order::of(file).four(bytes)
+    four_at(file, place).expect("four bytes")
 }
 
 impl fmt::Display for WrongSample {
