@@ -2,6 +2,7 @@
 //! copies of them that are damaged by rule. Known answers come from documents 01
 //! and 02 and from the samples' lines.
 
+mod advice;
 mod arguments;
 mod check;
 mod corrections;

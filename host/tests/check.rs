@@ -90,8 +90,8 @@ fn one_accepted_file() {
     assert_eq!((ran.status, ran.out, ran.err), (0, line, String::new()));
 }
 
-/// One refused file: its line has the code, its words and the place, then which
-/// sample is wrong, if one is, and nothing stands behind it.
+/// One refused file: its line has the code, its words and the place, then what the
+/// refusal is about, and nothing stands behind it.
 #[test]
 fn one_refused_file() {
     let room = Room::new();
@@ -104,7 +104,7 @@ fn one_refused_file() {
             path.display(),
             copy.code,
             copy.place,
-            copy.sample
+            copy.advice
         );
         assert_eq!((ran.status, ran.out, ran.err), (1, line, String::new()));
     }
@@ -133,7 +133,7 @@ fn objects() {
     assert_eq!(accepted.number("compared"), known::COMPARED as i128);
     assert_eq!(
         refused.keys(),
-        ["file", "outcome", "code", "words", "place"]
+        ["file", "outcome", "code", "words", "place", "advice"]
     );
     assert_eq!(refused.text("outcome"), "refused");
     assert_eq!(refused.number("code"), 4);
@@ -159,7 +159,11 @@ fn order_and_status() {
     let ran = run(hac(["check"]).args([&sound, &broken]));
     let lines = [
         format!("{}: {}", sound.display(), known::accepted(known.counts())),
-        format!("{}: refused, {}", broken.display(), refused(4, 4)),
+        format!(
+            "{}: refused, {}: nothing but a mark: ask for the recording",
+            broken.display(),
+            refused(4, 4)
+        ),
         "files 2, accepted 1, refused 1, not read 0".into(),
         format!("{:>8}  {}", 1, Code::NoEnd),
     ];

@@ -506,7 +506,7 @@ fn no_out() {
     assert_eq!(room.names(), before);
 }
 
-/// A refusal is said of the file that is refused, with the sample that is wrong, and as an
+/// A refusal is said of the file that is refused, with what it is about, and as an
 /// object on standard output too.
 #[test]
 fn refused_inputs() {
@@ -519,7 +519,7 @@ fn refused_inputs() {
             "hac: {}: refused, {code}, at {}{}\n",
             path.display(),
             copy.place,
-            copy.sample
+            copy.advice
         );
         for (deposit, corrections) in [(&path, &known.path), (&known.path, &path)] {
             let mut command = hac(["ping", "--json"]);

@@ -401,6 +401,11 @@ fn a_refusal_by_the_command() {
     let path = room.put("other.hac", deposit.ended());
     let ran = run(hac(["check"]).arg(&path));
     let words = "13: parent not declared earlier, or of the other maker";
-    let line = format!("{}: refused, {words}, at {place}\n", path.display());
+    let about = "channel Biosonics 1 names echosounder 1, which Simrad made, at 64: \
+                 name one of its own maker";
+    let line = format!(
+        "{}: refused, {words}, at {place}: {about}\n",
+        path.display()
+    );
     assert_eq!((ran.status, ran.out, ran.err), (1, line, String::new()));
 }

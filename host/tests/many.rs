@@ -33,7 +33,7 @@ fn masters() -> Vec<Master> {
     let damaged = damaged
         .filter(|copy| copy.bytes.len() < hac::TUPLE_LIMIT)
         .map(|copy| Master {
-            expected: Err((copy.code, copy.place, copy.sample)),
+            expected: Err((copy.code, copy.place, copy.advice)),
             bytes: copy.bytes,
         });
     sound.chain(damaged).collect()
@@ -70,9 +70,9 @@ fn line(path: &Path, expected: &Expected) -> String {
     let path = path.display();
     match expected {
         Ok(counts) => format!("{path}: {}", accepted(*counts)),
-        Err((code, place, sample)) => {
+        Err((code, place, advice)) => {
             let code = Code::of(*code).expect("a code");
-            format!("{path}: refused, {code}, at {place}{sample}")
+            format!("{path}: refused, {code}, at {place}{advice}")
         }
     }
 }
@@ -130,9 +130,10 @@ fn a_thousand_objects() {
                 assert_eq!(object.number("tuples"), *tuples as i128);
                 assert_eq!(object.number("compared"), *compared as i128);
             }
-            Err((code, place, _)) => {
+            Err((code, place, advice)) => {
                 assert_eq!(object.number("code"), (*code).into());
                 assert_eq!(object.number("place"), *place as i128);
+                assert_eq!(format!(": {}", object.text("advice")), *advice);
             }
         }
     }

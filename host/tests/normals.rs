@@ -98,7 +98,7 @@ fn refused() {
     let line = written(&from.join("b.hac"), &out.join("b.hac"));
     assert_eq!(ran.lines()[1], line);
     assert_eq!(ran.lines()[3], summary(3, 1));
-    assert!(ran.lines()[0].ends_with(", at 4") && ran.lines()[2].ends_with(", at 0"));
+    assert!(ran.lines()[0].contains(", at 4: ") && ran.lines()[2].contains(", at 0: "));
     assert_eq!((ran.status, ran.err.as_str()), (1, ""));
     assert_eq!(names(&out), [Path::new("b.hac")]);
     let mut command = hac(["normal", "--json", "-d"]);

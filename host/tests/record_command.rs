@@ -571,7 +571,7 @@ fn damaged_pings() {
     let room = Room::new();
     let known = Known::sample("cruise-lsb");
     let copies = damage::all(&known).into_iter();
-    let copies = copies.filter(|copy| !copy.sample.is_empty());
+    let copies = copies.filter(|copy| copy.is_in_samples());
     let mut seen = 0;
     for copy in copies {
         let path = room.put(copy.name, &copy.bytes);
@@ -580,7 +580,7 @@ fn damaged_pings() {
         let ran = record(&path, ping.place);
         let code = Code::of(copy.code).expect("a code");
         let (name, at) = (path.display(), copy.place);
-        let said = format!("hac: {name}: refused, {code}, at {at}{}\n", copy.sample);
+        let said = format!("hac: {name}: refused, {code}, at {at}{}\n", copy.advice);
         assert_eq!((ran.status, ran.out.as_str(), &ran.err), (1, "", &said));
         assert_eq!(record(&path, known.first(1000).place).status, 0);
         seen += 1;

@@ -108,12 +108,13 @@ fn refused() {
     let mut damaged = damage::all(&Known::sample("cruise-lsb"));
     damaged.retain(|copy| copy.bytes.len() < TUPLE_LIMIT);
     let copies = damaged.iter().rev();
-    let copies = copies.map(|copy| (copy.code, copy.bytes.clone(), copy.place, copy.sample));
-    let unturnable = (Code::Unturnable.number(), bytes, place, "");
-    for (nth, (code, bytes, place, sample)) in [unturnable].into_iter().chain(copies).enumerate() {
+    let copies = copies.map(|copy| (copy.code, copy.bytes.clone(), copy.place, copy.advice));
+    let advice = ": nobody knows how to turn type 5: a deposit in LSB order would be taken";
+    let unturnable = (Code::Unturnable.number(), bytes, place, advice);
+    for (nth, (code, bytes, place, advice)) in [unturnable].into_iter().chain(copies).enumerate() {
         let path = room.put(format!("{nth:04}.hac"), &bytes);
         let words = Code::of(code).expect("a code");
-        let line = format!("{}: refused, {words}, at {place}{sample}", path.display());
+        let line = format!("{}: refused, {words}, at {place}{advice}", path.display());
         expected.push((code, line));
     }
     let count = expected.len();

@@ -490,8 +490,8 @@ fn no_lines() {
     }
 }
 
-/// Of a refused file no line comes: the refusal is said on standard error, with the sample
-/// that is wrong, and as an object on standard output too.
+/// Of a refused file no line comes: the refusal is said on standard error, with what it
+/// is about, and as an object on standard output too.
 #[test]
 fn refused_inputs() {
     let room = Room::new();
@@ -499,7 +499,7 @@ fn refused_inputs() {
         let path = room.put(copy.name, &copy.bytes);
         let (name, place) = (path.display(), copy.place);
         let code = Code::of(copy.code).expect("a code");
-        let said = format!("hac: {name}: refused, {code}, at {place}{}\n", copy.sample);
+        let said = format!("hac: {name}: refused, {code}, at {place}{}\n", copy.advice);
         let ran = run(hac(["settings"]).arg(&path));
         assert_eq!((ran.status, ran.out.as_str(), &ran.err), (1, "", &said));
         let ran = run(hac(["settings", "--json"]).arg(&path));

@@ -10,6 +10,10 @@ use std::sync::mpsc;
 use std::thread;
 use std::time::{Duration, Instant};
 
+/// What is said of an empty input, and of one over the limit.
+const EMPTY: &str = "0 bytes, the mark alone has 4: no HAC recording";
+const OVER: &str = "more than 16777216 bytes: split the recording";
+
 /// Runs the program with some bytes for its standard input.
 pub fn fed(arguments: &[&str], bytes: &[u8]) -> Ran {
     let mut child: Child = hac(arguments)
@@ -58,7 +62,7 @@ fn standard_input() {
     assert_eq!(fs::read(&out).expect("OUT"), known.bytes);
 
     let ran = fed(&["check", "--", "-"], &[]);
-    let line = format!("-: refused, {}, at 0\n", Code::NoMark);
+    let line = format!("-: refused, {}, at 0: {EMPTY}\n", Code::NoMark);
     assert_eq!((ran.status, ran.out), (1, line));
 }
 
@@ -84,7 +88,8 @@ fn lines_as_they_become_ready() {
     let first = format!("{}: {}", known.path.display(), accepted(known.counts()));
     assert_eq!(next(), first);
     drop(child.stdin.take());
-    assert_eq!(next(), format!("-: refused, {}, at 0", Code::NoMark));
+    let line = format!("-: refused, {}, at 0: {EMPTY}", Code::NoMark);
+    assert_eq!(next(), line);
     assert_eq!(next(), "files 2, accepted 1, refused 1, not read 0");
     assert_eq!(child.wait().expect("its end").code(), Some(1));
 }
@@ -106,7 +111,8 @@ fn endless_input() {
         assert!(written <= hac::FILE_LIMIT + PIPE, "it reads on and on");
     }
     let ran: Ran = child.wait_with_output().expect("the program ends").into();
-    assert_eq!(ran.out, format!("-: refused, {}, at 0\n", Code::OverLimit));
+    let line = format!("-: refused, {}, at 0: {OVER}\n", Code::OverLimit);
+    assert_eq!(ran.out, line);
     assert_eq!(ran.status, 1);
 }
 
@@ -134,15 +140,18 @@ fn the_limit_itself() {
     let path = room.put("most.hac", &bytes);
     let ran = run(hac(["check"]).arg(&path));
     let line = format!(
-        "{}: refused, {}, at {length}\n",
+        "{}: refused, {}, at {length}: {} bytes behind the end of file tuple at 1356: \
+         cut the file there\n",
         path.display(),
-        Code::BehindEnd
+        Code::BehindEnd,
+        hac::FILE_LIMIT - length
     );
     assert_eq!(ran.out, line);
     bytes.push(0);
     let path = room.put("over.hac", &bytes);
     let ran = run(hac(["check"]).arg(&path));
-    let line = format!("{}: refused, {}, at 0\n", path.display(), Code::OverLimit);
+    let code = Code::OverLimit;
+    let line = format!("{}: refused, {code}, at 0: {OVER}\n", path.display());
     assert_eq!(ran.out, line);
 }
 

@@ -468,11 +468,13 @@ fn off_the_walk() {
     }
 }
 
-/// An object's members behind those that every refusal has.
+/// An object's members between those that every refusal has and the words on it.
 fn members(object: &Value) -> Vec<(&str, i128)> {
     let keys = object.keys();
     assert_eq!(keys[..5], ["file", "outcome", "code", "words", "place"]);
-    let members = keys[5..].iter().map(|key| (*key, object.number(key)));
+    let (last, numbers) = keys[5..].split_last().expect("a member");
+    assert_eq!(*last, "advice");
+    let members = numbers.iter().map(|key| (*key, object.number(key)));
     members.collect()
 }
 

@@ -2,7 +2,6 @@
 
 use crate::input::{self, Input};
 use crate::verdict::Verdict;
-use hac::Walk;
 use std::fs::{self, FileType};
 use std::io;
 use std::path::{Path, PathBuf};
@@ -34,7 +33,7 @@ impl Entry {
     pub fn normal_form(&self) -> Result<Vec<u8>, Verdict> {
         let mut bytes = Vec::new();
         self.read(&mut bytes)?;
-        hac::normal_form(&bytes).map_err(|refusal| Verdict::refused(&bytes, Walk::START, refusal))
+        hac::normal_form(&bytes).map_err(|refusal| Verdict::refused(&bytes, refusal))
     }
 }
 

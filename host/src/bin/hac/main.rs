@@ -96,8 +96,8 @@ salvaged.
   --           no options behind it
   -            as FILE: standard input
 
-Where a ping's samples are wrong a refusal also says which one; pairs and words
-count from 0.
+Behind the place a refusal of a file says in plain words what it is about; pairs
+and words of a ping count from 0.
 
 Exit status: 0 accepted, 1 refused, 2 not a file or bad use; of many files 2 if
 any couldn't be read or written, else 1 if any was refused. Of hac same: 2 if any

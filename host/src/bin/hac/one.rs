@@ -6,17 +6,14 @@ use crate::output::{say, say_verdict, Broken, Output};
 use crate::stop::Stop;
 use crate::verdict::{Status, Verdict};
 use crate::{normal, out, parents, ping, record, salvage, samples, settings, walk};
-use hac::Walk;
+use hac::{Advice, Refusal, Walk};
 
 pub fn run(input: &Input, task: &Task, output: &mut Output) -> Result<(), Broken> {
     let mut bytes = Vec::new();
     match perform(input, task, &mut bytes, output) {
         Ok(()) => Ok(()),
         Err(Stop::Broken(broken)) => Err(broken),
-        Err(Stop::Refused(refusal)) => {
-            let verdict = Verdict::refused(&bytes, judged_from(task), refusal);
-            tell(input, &verdict, output)
-        }
+        Err(Stop::Refused(refusal)) => tell(input, &refused(&bytes, task, refusal), output),
         Err(Stop::Unread(error)) => tell(input, &error.into(), output),
         Err(Stop::Beside(verdict)) => tell(task.beside().unwrap_or(input), &verdict, output),
         Err(Stop::Fault(fault)) => {
@@ -39,16 +36,20 @@ fn tell(input: &Input, verdict: &Verdict, output: &mut Output) -> Result<(), Bro
     Ok(())
 }
 
-/// Where a task's judging begins: a tuple's reader looks at its place alone.
-fn judged_from(task: &Task) -> Walk {
+/// A task's refusal. A tuple's reader looks at its place alone, and a walk refuses steps:
+/// neither is about the whole file.
+fn refused(file: &[u8], task: &Task, refusal: Refusal) -> Verdict {
     match task {
-        Task::Samples { place } | Task::Record { place } => Walk { at: *place },
+        Task::Samples { place } | Task::Record { place } => {
+            let wrong = hac::wrong_sample(file, Walk { at: *place }, refusal);
+            Verdict::Refused(refusal, wrong.map(Advice::from))
+        }
+        Task::Walk { .. } => Verdict::Refused(refusal, None),
         Task::Normal { .. }
         | Task::Salvage { .. }
-        | Task::Walk { .. }
         | Task::Parents { .. }
         | Task::Settings
-        | Task::Ping(_) => Walk::START,
+        | Task::Ping(_) => Verdict::refused(file, refusal),
     }
 }
 

@@ -10,7 +10,7 @@ use crate::shown::shown;
 use crate::stop::Stop;
 use crate::verdict::Verdict;
 use crate::{out, samples};
-use hac::{Corrected, NotFound, Ping, Source, Walk};
+use hac::{Corrected, NotFound, Ping, Source};
 use std::io;
 use std::path::Path;
 
@@ -58,9 +58,7 @@ fn read(corrections: &Input, out: Option<&Path>) -> Result<Vec<u8>, Stop> {
 /// deposit.
 fn stopped(NotFound { whose, refusal }: NotFound, corrections: &[u8]) -> Stop {
     match whose {
-        Some(Source::Corrections) => {
-            Stop::Beside(Verdict::refused(corrections, Walk::START, refusal))
-        }
+        Some(Source::Corrections) => Stop::Beside(Verdict::refused(corrections, refusal)),
         Some(Source::Deposit) | None => Stop::Refused(refusal),
     }
 }

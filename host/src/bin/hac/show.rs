@@ -9,7 +9,6 @@ use crate::progress::Progress;
 use crate::report::Report;
 use crate::spread::Spread;
 use crate::verdict::Verdict;
-use hac::Walk;
 use std::sync::Arc;
 
 /// No summary stands behind the pages: of objects each is a deposit's.
@@ -49,7 +48,7 @@ fn look(file: &[u8]) -> Found {
             verdict: Verdict::Accepted(counts),
             contents: Some(contents),
         },
-        Err(refusal) => Verdict::refused(file, Walk::START, refusal).into(),
+        Err(refusal) => Verdict::refused(file, refusal).into(),
     }
 }
 

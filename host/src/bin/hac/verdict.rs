@@ -2,7 +2,7 @@
 
 use crate::input::Input;
 use crate::json::Object;
-use hac::{Counts, Refusal, SampleFault, Walk, WrongSample};
+use hac::{Advice, Counts, Fact, Refusal};
 use std::fmt;
 use std::io;
 
@@ -21,8 +21,8 @@ pub enum Status {
 pub enum Verdict {
     /// Accepted, with what was counted in it.
     Accepted(Counts),
-    /// Refused, and which sample is wrong, where the refusal is about one.
-    Refused(Refusal, Option<WrongSample>),
+    /// Refused, and what the refusal is about, where more can be told of it.
+    Refused(Refusal, Option<Advice>),
     /// Not read, and why.
     Unread(String),
 }
@@ -30,15 +30,12 @@ pub enum Verdict {
 impl Verdict {
     /// What the check says of a file.
     pub fn of(file: &[u8]) -> Verdict {
-        hac::check(file).map_or_else(
-            |refusal| Verdict::refused(file, Walk::START, refusal),
-            Verdict::Accepted,
-        )
+        hac::check(file).map_or_else(|refusal| Verdict::refused(file, refusal), Verdict::Accepted)
     }
 
-    /// The refusal of a file. A walk finds the ping that it is about, if it is about one.
-    pub fn refused(file: &[u8], from: Walk, refusal: Refusal) -> Verdict {
-        Verdict::Refused(refusal, hac::wrong_sample(file, from, refusal))
+    /// The refusal of a whole file, which is walked once more to tell what it is about.
+    pub fn refused(file: &[u8], refusal: Refusal) -> Verdict {
+        Verdict::Refused(refusal, hac::advice(file, refusal))
     }
 
     pub fn status(&self) -> Status {
@@ -61,14 +58,14 @@ impl Verdict {
                 .text("outcome", "accepted")
                 .number("tuples", *tuples)
                 .number("compared", *compared),
-            Verdict::Refused(Refusal { code, place }, wrong) => {
+            Verdict::Refused(Refusal { code, place }, advice) => {
                 let object = object
                     .text("outcome", "refused")
                     .number("code", code.number())
                     .text("words", code.words())
                     .number("place", *place);
-                match wrong {
-                    Some(wrong) => with_sample(object, wrong),
+                match advice {
+                    Some(advice) => with_advice(object, advice),
                     None => object,
                 }
             }
@@ -77,31 +74,14 @@ impl Verdict {
     }
 }
 
-/// An object that also tells which sample is wrong.
-fn with_sample(object: Object, wrong: &WrongSample) -> Object {
-    let object = object.number("ping_place", wrong.ping_place);
-    match wrong.fault {
-        SampleFault::NotRising {
-            pair,
-            number,
-            before,
-        } => object
-            .number("pair", pair)
-            .number("number", number)
-            .number("before", before),
-        SampleFault::BadWord {
-            word,
-            number,
-            pattern,
-            bytes: _,
-        } => object
-            .number("word", word)
-            .number("number", number)
-            .number("pattern", pattern),
-        SampleFault::Miscounted { said, found } => {
-            object.number("said", said).number("found", found)
-        }
-    }
+/// An object that also tells what a refusal is about: each thing by its name, then in words.
+fn with_advice(object: Object, advice: &Advice) -> Object {
+    let facts = advice.facts.iter();
+    let object = facts.fold(object, |object, (name, fact)| match fact {
+        Fact::Number(number) => object.number(name, *number),
+        Fact::Text(text) => object.text(name, text),
+    });
+    object.text("advice", &advice.words)
 }
 
 impl fmt::Display for Verdict {
@@ -112,7 +92,7 @@ impl fmt::Display for Verdict {
                 "accepted, {tuples} tuples, {compared} identifiers compared"
             ),
             Verdict::Refused(refusal, None) => write!(to, "refused, {refusal}"),
-            Verdict::Refused(refusal, Some(wrong)) => write!(to, "refused, {refusal}: {wrong}"),
+            Verdict::Refused(refusal, Some(advice)) => write!(to, "refused, {refusal}: {advice}"),
             Verdict::Unread(why) => to.write_str(why),
         }
     }
