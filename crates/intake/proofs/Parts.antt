@@ -279,6 +279,7 @@ pub passed-index : (w : Tally) (m : ℕ) → Standing w → 0 < w .count → all
 passed-index w m s later a =
     let long = allowed-16 m a in
     record {
+      at = refl;
       turns = λ o n r c g e x.
           turn-on-index o n (courseOf w c) r later g x ∙ ap (λ (i : ℕ). go (pastIndex (courseOf w c) i)) e;
       stands = record {

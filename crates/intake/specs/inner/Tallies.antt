@@ -234,6 +234,7 @@ pub record TurnedTo (o : Bool) (n : ℕ) (r : List ℕ) (w : Tally) (c : Tables)
 -- what passing a tuple of m bytes and of the index class hands back, whatever bytes it has, and whatever the file's order, its length and
 -- the tables: they stay as they are
 pub record PassedIndex (w : Tally) (m : ℕ) (v : Tally) : Type 0 where
+  pub at : v .at ≡ w .at + m
   pub turns : (o : Bool) (n : ℕ) (r : List ℕ) (c : Tables) → framing o r ≡ Fine → lenAt o r ≡ m
       → inClass Types.index (kindAt o r) ≡ true
       → turnOn o n (courseOf w c) r ≡ go (courseOf v c)
