@@ -24,7 +24,8 @@ use Rattle.edits.specs.Edits.{rewritten, anew, tuplesIn, restIn, brokenO
 use Rattle.edits.specs.inner.Parts.{resultOf, Cut}
 use Rattle.edits.specs.inner.Places.{Taken}
 use Rattle.edits.proofs.Dividing.{tuples-in, rest-in}
-use Rattle.edits.proofs.Joining.{frames-append, result-joined}
+use Rattle.edits.proofs.Joining.{result-joined}
+use Rattle.index.proofs.Fresh.{frames-append}
 use Rattle.edits.proofs.Ends.{before-append, from-append, no-end, framed-left, framed-right, all-taken, taken-small, taken-4, cut-within}
 use Rattle.edits.proofs.Ends.{cut-before, cut-behind, cut-last}
 

@@ -22,7 +22,7 @@ use Rattle.intake.proofs.Accepted
 use Rattle.intake.proofs.Accepted.{digests, all-framed}
 use Rattle.index.specs.Index.{beforeEnd, fromEnd}
 use Rattle.edits.specs.inner.Places.{Taken}
-use Rattle.edits.proofs.Joining.{frames-append}
+use Rattle.index.proofs.Fresh.{frames-append}
 
 -- ---- no end of file among tuples
 abbrev pub NoEnd : List Tup → Type 0

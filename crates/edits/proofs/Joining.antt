@@ -18,27 +18,12 @@ use Rattle.frame.specs.Tuples.{AllFramed}
 use Rattle.frame.proofs.Frames.{length-frame}
 use Rattle.frame.proofs.Files.{length-mark}
 use Rattle.index.specs.Index.{indexOf, outside}
+use Rattle.index.proofs.Fresh.{frames-append, outside-append}
 use Rattle.edits.specs.Edits.{rewritten, tuplesIn, restIn, brokenOff, joined}
 use Rattle.edits.specs.inner.Parts.{keptTuples, keptOf, allOf, indexIn, tailBy, tailOf, resultOf}
 use Rattle.edits.proofs.Dividing.{Divided, divided, rest-front}
 
--- ---- lists of tuples one behind the other
-pub frames-append : (o : Bool) (us vs : List Tup) → frames o (us ++ vs) ≡ frames o us ++ frames o vs
-frames-append o [] vs = refl
-frames-append o (u ∷ us) vs =
-    ap (λ (l : List ℕ). frame o u ++ l) (frames-append o us vs) ∙ sym (append-assoc (frame o u) (frames o us) (frames o vs))
-
-pub outside-append : (us vs : List Tup) → outside (us ++ vs) ≡ outside us ++ outside vs
-unfolding outside
-outside-append [] vs = refl
-outside-append (u ∷ us) vs = by-test (inClass Types.index (u .kind)) (outside-append us vs)
-  where
-    by-test : (b : Bool) → outside (us ++ vs) ≡ outside us ++ outside vs
-        → (elim b as (λ _. List Tup) [ true ↦ outside (us ++ vs) | false ↦ u ∷ outside (us ++ vs) ])
-        ≡ (elim b as (λ _. List Tup) [ true ↦ outside us | false ↦ u ∷ outside us ]) ++ outside vs
-    by-test true e = e
-    by-test false e = ap (λ (l : List Tup). u ∷ l) e
-
+-- ---- tuples kept
 pub outside-framed : (ts : List Tup) → AllFramed ts → AllFramed (outside ts)
 unfolding outside
 outside-framed [] g = tt

@@ -9,3 +9,5 @@ pub mod Ends
 pub mod Anew
 pub mod Calls
 pub mod Places
+pub mod Holding
+pub mod Edits

@@ -16,7 +16,7 @@ use Rattle.frame.specs.Tuples.{tuplesOf, AllFramed}
 use Rattle.frame.proofs.Frames.{length-frame, allowed-16}
 use Rattle.edits.specs.Edits.{without, behind, anew, removedBy, removedFile}
 use Rattle.edits.specs.inner.Places.{before, Between, Sought, Taken}
-use Rattle.edits.proofs.Joining.{frames-append}
+use Rattle.index.proofs.Fresh.{frames-append}
 use Rattle.edits.proofs.Ends.{framed-right, all-taken, taken-4, cut-within}
 use Rattle.edits.proofs.Anew.{size-here, here-within}
 
@@ -29,12 +29,12 @@ before-one : (us : List Tup) (t : Tup) (x : Option (List Tup)) → before us (be
 before-one us t none = refl
 before-one us t (some ts) = ap some (sym (append-assoc us (t ∷ []) ts))
 
-without-here : (p at : ℕ) (t : Tup) (ts : List Tup) → at ≡ p → without p at (t ∷ ts) ≡ some ts
+pub without-here : (p at : ℕ) (t : Tup) (ts : List Tup) → at ≡ p → without p at (t ∷ ts) ≡ some ts
 unfolding without
 without-here p at t ts e =
     ap (λ (b : Bool). cond b (some ts) (behind t (without p (at + lengthOf t) ts))) (eq-eqb at p e)
 
-without-next : (p at : ℕ) (t : Tup) (ts : List Tup) → (at ≡ p → ⊥) → without p at (t ∷ ts) ≡ behind t (without p (at + lengthOf t) ts)
+pub without-next : (p at : ℕ) (t : Tup) (ts : List Tup) → (at ≡ p → ⊥) → without p at (t ∷ ts) ≡ behind t (without p (at + lengthOf t) ts)
 unfolding without
 without-next p at t ts e =
     ap (λ (b : Bool). cond b (some ts) (behind t (without p (at + lengthOf t) ts))) (ne-eqb at p e)

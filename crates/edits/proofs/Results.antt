@@ -73,7 +73,7 @@ module _ (g : List ℕ) (n : Counts) (out : List ℕ) where
         (ap (behindResult g (length out) n) e ∙ sym (first-eq (pass (le-ltb (length out) (length g) (omega arith)) none))) (omega arith) w)
 
 -- ---- bytes
-bytes-mark : (o : Bool) → Bytes (mark o)
+pub bytes-mark : (o : Bool) → Bytes (mark o)
 unfolding mark
 bytes-mark o = bytes-ordered o _ (bytes-lows 4 172)
 
