@@ -21,7 +21,7 @@ use Rattle.links.specs.Links.{has, declaredOwn, comparedIn, naming, firstWrong}
 use Rattle.content.specs.Pings.{partIn, wordsIn, attributeIn, countIn, contentU, contentC, dataU, dataC}
 use Rattle.content.specs.Items.{itemOf, digestOf}
 use Rattle.content.specs.Forms.{packs, pingForm, formOf}
-use Rattle.intake.specs.Check.{ending, turn, checkFrom, checkFile}
+use Rattle.intake.specs.Check.{ending, turnOn, turn, checkFrom, checkFile}
 use Rattle.index.specs.Index.{withIndex, beforeEnd, fromEnd, typesOf, chosen, isTyped, indexData}
 use Rattle.normal.specs.Contents.{items, contentOf, normalTuples, formed, normalOf}
 use Rattle.normal.specs.Normaliser.{firstUnlisted, normalAnswer}
@@ -37,7 +37,7 @@ use Rattle.worked.specs.Cruise.{lsb, lsbOtherCut, msb, msbOtherCut, norm
 pub worked : allHold table ≡ true
 unfolding table allHold holds readAnswer sampleAnswer normalFile normalTuple linesOf allDigits bytesIn inputFrom hex decimals normalAnswer
     singleForm singleAnswer firstUnlisted items contentOf normalTuples
-    withIndex beforeEnd fromEnd typesOf chosen isTyped indexData formed normalOf ending turn checkFrom checkFile packs pingForm
+    withIndex beforeEnd fromEnd typesOf chosen isTyped indexData formed normalOf ending turnOn turn checkFrom checkFile packs pingForm
     formOf itemOf
     digestOf partIn wordsIn attributeIn countIn contentU contentC dataU dataC has naming firstWrong words allWords unwords joined parted
     samples allSamples unsampled spaced magnitude countOf shortened codeOf meant wordFor samplesIn wordsFor front hasSpace heldWords isRun
@@ -54,8 +54,8 @@ variants = lsb ∷ lsbOtherCut ∷ msb ∷ msbOtherCut ∷ []
 -- each variant is accepted: six tuples, of which the channel compares one identifier and the ping another
 pub accepted : map (λ (v : List String). checkFile (fileOf v)) variants ≡ map (λ (v : List String). Accepted (counting 6 0 2)) variants
 unfolding lsb lsbOtherCut msb msbOtherCut normalFile normalTuple linesOf allDigits bytesIn inputFrom hex decimals normalAnswer singleForm
-    singleAnswer firstUnlisted items contentOf normalTuples formed normalOf ending turn checkFrom checkFile packs pingForm formOf itemOf
-    digestOf partIn wordsIn
+    singleAnswer firstUnlisted items contentOf normalTuples formed normalOf ending turnOn turn checkFrom checkFile packs pingForm formOf
+    itemOf digestOf partIn wordsIn
     attributeIn countIn contentU contentC dataU dataC has comparedIn naming firstWrong words allWords unwords joined parted
     samples allSamples unsampled spaced magnitude countOf shortened codeOf meant wordFor samplesIn wordsFor front hasSpace heldWords isRun
     runLength decodeFrom samplesFrom endsFrom pingLength lastRun gap encodeFrom behind fewest isBad values firstBad firstDrop
@@ -68,7 +68,7 @@ accepted = refl
 own-form : normalFile (text normal) ≡ text normal
 unfolding normal normalFile normalTuple linesOf allDigits bytesIn inputFrom hex decimals normalAnswer
     singleForm singleAnswer firstUnlisted items contentOf normalTuples
-    withIndex beforeEnd fromEnd typesOf chosen isTyped indexData formed normalOf ending turn checkFrom checkFile packs pingForm
+    withIndex beforeEnd fromEnd typesOf chosen isTyped indexData formed normalOf ending turnOn turn checkFrom checkFile packs pingForm
     formOf itemOf
     digestOf partIn wordsIn attributeIn countIn contentU contentC dataU dataC has naming firstWrong words allWords unwords joined parted
     samples allSamples unsampled spaced magnitude countOf shortened codeOf meant wordFor samplesIn wordsFor front hasSpace heldWords isRun
@@ -81,7 +81,7 @@ own-form = refl
 lsb-form : normalFile (text lsb) ≡ text normal
 unfolding normal lsb normalFile normalTuple linesOf allDigits bytesIn inputFrom hex decimals normalAnswer
     singleForm singleAnswer firstUnlisted items contentOf normalTuples
-    withIndex beforeEnd fromEnd typesOf chosen isTyped indexData formed normalOf ending turn checkFrom checkFile packs pingForm
+    withIndex beforeEnd fromEnd typesOf chosen isTyped indexData formed normalOf ending turnOn turn checkFrom checkFile packs pingForm
     formOf itemOf
     digestOf partIn wordsIn attributeIn countIn contentU contentC dataU dataC has naming firstWrong words allWords unwords joined parted
     samples allSamples unsampled spaced magnitude countOf shortened codeOf meant wordFor samplesIn wordsFor front hasSpace heldWords isRun
@@ -94,7 +94,7 @@ lsb-form = refl
 lsb-cut-form : normalFile (text lsbOtherCut) ≡ text normal
 unfolding normal lsbOtherCut normalFile normalTuple linesOf allDigits bytesIn inputFrom hex decimals normalAnswer
     singleForm singleAnswer firstUnlisted items contentOf normalTuples
-    withIndex beforeEnd fromEnd typesOf chosen isTyped indexData formed normalOf ending turn checkFrom checkFile packs pingForm
+    withIndex beforeEnd fromEnd typesOf chosen isTyped indexData formed normalOf ending turnOn turn checkFrom checkFile packs pingForm
     formOf itemOf
     digestOf partIn wordsIn attributeIn countIn contentU contentC dataU dataC has naming firstWrong words allWords unwords joined parted
     samples allSamples unsampled spaced magnitude countOf shortened codeOf meant wordFor samplesIn wordsFor front hasSpace heldWords isRun
@@ -107,7 +107,7 @@ lsb-cut-form = refl
 msb-form : normalFile (text msb) ≡ text normal
 unfolding normal msb normalFile normalTuple linesOf allDigits bytesIn inputFrom hex decimals normalAnswer
     singleForm singleAnswer firstUnlisted items contentOf normalTuples
-    withIndex beforeEnd fromEnd typesOf chosen isTyped indexData formed normalOf ending turn checkFrom checkFile packs pingForm
+    withIndex beforeEnd fromEnd typesOf chosen isTyped indexData formed normalOf ending turnOn turn checkFrom checkFile packs pingForm
     formOf itemOf
     digestOf partIn wordsIn attributeIn countIn contentU contentC dataU dataC has naming firstWrong words allWords unwords joined parted
     samples allSamples unsampled spaced magnitude countOf shortened codeOf meant wordFor samplesIn wordsFor front hasSpace heldWords isRun
@@ -120,7 +120,7 @@ msb-form = refl
 msb-cut-form : normalFile (text msbOtherCut) ≡ text normal
 unfolding normal msbOtherCut normalFile normalTuple linesOf allDigits bytesIn inputFrom hex decimals normalAnswer
     singleForm singleAnswer firstUnlisted items contentOf normalTuples
-    withIndex beforeEnd fromEnd typesOf chosen isTyped indexData formed normalOf ending turn checkFrom checkFile packs pingForm
+    withIndex beforeEnd fromEnd typesOf chosen isTyped indexData formed normalOf ending turnOn turn checkFrom checkFile packs pingForm
     formOf itemOf
     digestOf partIn wordsIn attributeIn countIn contentU contentC dataU dataC has naming firstWrong words allWords unwords joined parted
     samples allSamples unsampled spaced magnitude countOf shortened codeOf meant wordFor samplesIn wordsFor front hasSpace heldWords isRun
