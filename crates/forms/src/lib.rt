@@ -2,6 +2,7 @@
 use frame::DATA;
 use layout::FIELDS;
 use layout::types;
+use ping_forms::Form;
 ghost use mathlib.Core.Path.{_≡_};
 ghost use mathlib.Core.Bool.{false};
 ghost use Prim.Native.Nat.{_+_, _*_, _^_, _≤_, _<_};
@@ -16,6 +17,7 @@ ghost use Rattle.frame.specs.inner.Framing.{openingBytes};
 ghost use Rattle.content.specs.Forms.{formBytes};
 ghost use Rattle.intake.specs.inner.Tallies.{Fits};
 ghost use Rattle.intake.specs.inner.Sound.{SoundHere};
+ghost use Rattle.ping_forms.specs.inner.Measured.{Measured};
 ghost use Rattle.forms.specs.inner.Parts.{listedFields, firstListings, Rowed};
 
 // The places of an event's characters and of an end of file's data bytes.
@@ -23,19 +25,18 @@ const EVENT_TEXT: usize = 12;
 
 const END_DATA: usize = 14;
 
-// How many bytes the normal form of the tuple at a place has: none for the index class.
-pub fn form_length(file: &[u8], at: usize, msb: bool, whole: usize, code: u16) -> usize
+// How many bytes the normal form of the tuple at a place has, and its type: none for the index class, whose own type stands for it.
+pub fn measure_form(file: &[u8], at: usize, msb: bool, whole: usize, code: u16) -> Form
     requires { ⌜ SoundHere msb (now file) at whole code ⌝ }
-    ensures { λ r. ⌜ r ≡ length (formBytes msb (tupAt msb (drop at (now (file .entry))))) ⌝ }
-    ensures { λ r. ⌜ r ≤ 2 * whole ⌝ }
+    ensures { λ r. ⌜ Measured msb (tupAt msb (drop at (now (file .entry)))) whole code r ⌝ }
 {
     if layout::in_class(layout::INDEX, code) {
-        return 0;
+        return Form { bytes: 0, code };
     }
     if ping_forms::is_compressed(code) {
-        return ping_forms::compressed_length(file, at, msb, whole, code);
+        return ping_forms::measure_compressed(file, at, msb, whole, code);
     }
-    whole
+    Form { bytes: whole, code }
 }
 
 // Writes the fields of a tuple of a listed type, by its listing. Each arm names its row by a constant, and how many fields it has before

@@ -28,7 +28,9 @@ use Rattle.intake.specs.Alone.{aloneRules, alone}
 use Rattle.intake.specs.Check.{checkFile}
 use Rattle.intake.proofs.Alone.{alone-sound}
 use Rattle.intake.proofs.Accepted.{refusal, Division, all-framed, accepted-file}
-use Rattle.normal.specs.Contents.{items, contentOf, normalTuples, formed, normalOf}
+use Rattle.index.specs.Index.{withIndex}
+use Rattle.index.proofs.Laws.{indexed-sound}
+use Rattle.normal.specs.Contents.{items, contentOf, normalTuples, formTuples, formed, normalOf}
 use Rattle.normal.specs.Normaliser.{normalRules, normalCounts, behindCheck, normalAnswer}
 use Rattle.normal.specs.Single.{singleTuples, singleForm, behindRules, singleAnswer}
 use Rattle.normal.proofs.Carried.{carried}
@@ -41,22 +43,23 @@ pub record Written (form : List ℕ) (ts : List Tup) (room m : ℕ) : Type 0 whe
 
 -- ---- a file
 -- the normal tuples of a file that passes the check
-all-normal : (f : List ℕ) → Division f → AllFramed (normalTuples (contentOf f))
+all-normal : (f : List ℕ) → Division f → AllFramed (formTuples (contentOf f))
 unfolding contentOf
 all-normal f a =
     let g = all-framed (a .msb) (a .tuples) (a .sound) in
     let content : contentOf f ≡ items (a .msb) (a .tuples) = ap contentOf (a .whole)
     ∙ ap₂ items (msb-mark (a .msb) (frames (a .msb) (a .tuples))) (tuples-of (a .msb) (a .tuples) g) in
-    subst (λ (c : List Item). AllFramed (normalTuples c)) (sym content)
-    (all-framed false (normalTuples (items (a .msb) (a .tuples))) (carried (a .msb) (a .tuples) (a .sound) .sound))
+    let ns = normalTuples (items (a .msb) (a .tuples)) in
+    subst (λ (c : List Item). AllFramed (formTuples c)) (sym content)
+    (all-framed false (withIndex false ns) (indexed-sound false ns (carried (a .msb) (a .tuples) (a .sound) .sound)))
 
 pub file-written : (f : List ℕ) → Bytes f → (room : ℕ) (n : Counts) → normalAnswer f room ≡ Accepted n
-    → Written (normalOf f) (normalTuples (contentOf f)) room (n .written)
+    → Written (normalOf f) (formTuples (contentOf f)) room (n .written)
 unfolding normalAnswer
 file-written f b room n e = by-answer (checkFile f) refl e
   where
     by-answer : (a : Answer) → checkFile f ≡ a → behindCheck f room a ≡ Accepted n
-        → Written (normalOf f) (normalTuples (contentOf f)) room (n .written)
+        → Written (normalOf f) (formTuples (contentOf f)) room (n .written)
     by-answer (Refused c p) h q = refusal c p n q
     by-answer (Accepted i) h q =
         let c = clear isAccepted (normalRules f room) (Accepted (normalCounts f i)) (Accepted n) (refl, (refl, (refl, tt))) q refl in

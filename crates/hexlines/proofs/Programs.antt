@@ -19,7 +19,7 @@ use Rattle.frame.specs.Tuples.{tuplesOf, AllFramed}
 use Rattle.frame.proofs.Frames.{allowed-16, length-frame}
 use Rattle.frame.proofs.Files.{length-mark}
 use Rattle.frame.proofs.Tuples.{tuples-of}
-use Rattle.normal.specs.Contents.{contentOf, normalTuples, normalOf}
+use Rattle.normal.specs.Contents.{contentOf, formTuples, normalOf}
 use Rattle.normal.specs.Normaliser.{normalAnswer, Normalised}
 use Rattle.normal.specs.Single.{singleTuples, singleForm, singleAnswer, NormalisedTuple}
 use Rattle.hexlines.specs.Lines.{room, hex, line, Input, bytes, inputOf}
@@ -99,8 +99,8 @@ module _ (f lent left : List ℕ) (b : Bytes f) (h : length lent ≡ room) (r : 
   pub file-answered : Normalised f lent r left → Answered (fileProgram (bytes f)) r left
   file-answered n =
       let e : r ≡ normalAnswer f room = n .answer .is ∙ ap (normalAnswer f) h in
-      subst (λ (a : Answer). Answered (printed (normalTuples (contentOf f)) a) r left) e
-      (answered (normalOf f) lent left (normalTuples (contentOf f)) r h (λ n q. file-written f b room n (sym e ∙ q))
+      subst (λ (a : Answer). Answered (printed (formTuples (contentOf f)) a) r left) e
+      (answered (normalOf f) lent left (formTuples (contentOf f)) r h (λ n q. file-written f b room n (sym e ∙ q))
       (n .memory ∙ ap (λ (a : Answer). leftBy a (normalOf f) lent) (sym (n .answer .is))))
 
   pub tuple-answered : NormalisedTuple f lent r left → Answered (tupleProgram (bytes f)) r left

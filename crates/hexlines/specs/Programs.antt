@@ -7,7 +7,7 @@ use Rattle.layout.specs.declared.Answer.{Answer}
 use Rattle.layout.specs.declared.Answer.the-variants.{Accepted, Refused}
 use Rattle.frame.specs.Frames.{Tup, frame}
 use Rattle.frame.specs.Files.{mark}
-use Rattle.normal.specs.Contents.{normalTuples, contentOf}
+use Rattle.normal.specs.Contents.{formTuples, contentOf}
 use Rattle.normal.specs.Normaliser.{normalAnswer}
 use Rattle.normal.specs.Single.{singleTuples, singleAnswer}
 use Rattle.hexlines.specs.Lines.{room, Input, bad, bytes, inputOf, hex, line, decimal}
@@ -35,7 +35,7 @@ printed ts (Refused c p) = refusedLine c p
 -- ---- the first program prints a file's normal form
 abbrev pub fileProgram : Input → List ℕ
 fileProgram (bad n) = badLine n
-fileProgram (bytes f) = printed (normalTuples (contentOf f)) (normalAnswer f room)
+fileProgram (bytes f) = printed (formTuples (contentOf f)) (normalAnswer f room)
 
 unfoldable pub normalFile : List ℕ → List ℕ
 normalFile text = fileProgram (inputOf text)

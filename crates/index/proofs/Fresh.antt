@@ -32,7 +32,7 @@ outside-next t ts b e = by-test (inClass Types.index (t .kind)) ∙ ap (λ (x : 
     by-test true = refl
     by-test false = refl
 
-before-next : (t : Tup) (ts : List Tup) (b : Bool) → eqb (t .kind) 65534 ≡ b → beforeEnd (t ∷ ts) ≡ cond b [] (t ∷ beforeEnd ts)
+pub before-next : (t : Tup) (ts : List Tup) (b : Bool) → eqb (t .kind) 65534 ≡ b → beforeEnd (t ∷ ts) ≡ cond b [] (t ∷ beforeEnd ts)
 unfolding beforeEnd
 before-next t ts b e = by-test (eqb (t .kind) 65534) ∙ ap (λ (x : Bool). cond x [] (t ∷ beforeEnd ts)) e
   where
@@ -40,7 +40,7 @@ before-next t ts b e = by-test (eqb (t .kind) 65534) ∙ ap (λ (x : Bool). cond
     by-test true = refl
     by-test false = refl
 
-from-next : (t : Tup) (ts : List Tup) (b : Bool) → eqb (t .kind) 65534 ≡ b → fromEnd (t ∷ ts) ≡ cond b (t ∷ ts) (fromEnd ts)
+pub from-next : (t : Tup) (ts : List Tup) (b : Bool) → eqb (t .kind) 65534 ≡ b → fromEnd (t ∷ ts) ≡ cond b (t ∷ ts) (fromEnd ts)
 unfolding fromEnd
 from-next t ts b e = by-test (eqb (t .kind) 65534) ∙ ap (λ (x : Bool). cond x (t ∷ ts) (fromEnd ts)) e
   where

@@ -36,6 +36,7 @@ use Rattle.content.proofs.Families.{plainSize, plain-least, some-sample-bytes}
 use Rattle.content.proofs.Places.{listed-U}
 use Rattle.content.proofs.Pings.{plain-U, many-U}
 use Rattle.intake.specs.inner.Tallies.{ownVerdict}
+use Rattle.ping_forms.specs.inner.Measured.{formType}
 
 -- ---- a row behind a row, and the last bytes of data
 turned-append : (o : Bool) (fs gs : List Field) (bs : List ℕ) → turned o (fs ++ gs) bs ≡ turned o fs bs ++ turned o gs (drop (size fs) bs)
@@ -153,6 +154,37 @@ module _ (o : Bool) (t : Tup) where
   unfolding formOf
   form-C y e h = by-shape (compressed y) e ∙ append-nil _ ∙ ap (frame false) (packs-form (contentC y o (t .body)) h)
 
+  -- ---- the type of its form, where k is the tuple's own
+  type-by : (k : ℕ) (q : Shape) → shapeOf (t .kind) ≡ q → formType k (itemOf o t) ≡ formType k (itemBy q o t)
+  unfolding itemOf
+  type-by k q e = ap (λ (x : Shape). formType k (itemBy x o t)) e
+
+  pub type-index : (k : ℕ) → shapeOf (t .kind) ≡ indexed → k ≡ formType k (itemOf o t)
+  type-index k e = sym (type-by k indexed e)
+
+  pub type-row : (k : ℕ) (fs : List Field) (x : Option ℕ) → shapeOf (t .kind) ≡ row fs x → t .kind ≡ formType k (itemOf o t)
+  unfolding formOf
+  type-row k fs x e = sym (type-by k (row fs x) e)
+
+  pub type-raw : (k : ℕ) → shapeOf (t .kind) ≡ unlisted → t .kind ≡ formType k (itemOf o t)
+  unfolding formOf
+  type-raw k e = sym (type-by k unlisted e)
+
+  type-U : (k : ℕ) (y : Family) → shapeOf (t .kind) ≡ uncompressed y → packs (contentU y o (t .body)) ≡ false
+      → typeU y ≡ formType k (itemOf o t)
+  unfolding formOf contentU
+  type-U k y e h = sym (type-by k (uncompressed y) e ∙ ap (λ (u : Tup). u .kind) (plain-form (contentU y o (t .body)) h))
+
+  pub type-C-U : (k : ℕ) (y : Family) → shapeOf (t .kind) ≡ compressed y → packs (contentC y o (t .body)) ≡ false
+      → typeU y ≡ formType k (itemOf o t)
+  unfolding formOf contentC
+  type-C-U k y e h = sym (type-by k (compressed y) e ∙ ap (λ (u : Tup). u .kind) (plain-form (contentC y o (t .body)) h))
+
+  pub type-C : (k : ℕ) (y : Family) → shapeOf (t .kind) ≡ compressed y → packs (contentC y o (t .body)) ≡ true
+      → typeC y ≡ formType k (itemOf o t)
+  unfolding formOf contentC
+  type-C k y e h = sym (type-by k (compressed y) e ∙ ap (λ (u : Tup). u .kind) (packs-form (contentC y o (t .body)) h))
+
   -- ---- its parts, where the tuple keeps its own rules
   module _ (own : ownVerdict o t ≡ Fine) where
     verdicts : both (judged (headRules o t)) (judged (innerRules o t)) ≡ Fine
@@ -213,6 +245,9 @@ module _ (o : Bool) (t : Tup) where
                 (λ (i : ℕ). i % 4) n,
             many-U o t g long y listed (fits (uncompressed y) e),
           ))
+
+      pub type-same : Framed t → (k : ℕ) → typeU y ≡ formType k (itemOf o t)
+      type-same g k = type-U k y e (plain-U o t g (omega (arith, long-U)) y (listed-U (t .kind) y e) (fits (uncompressed y) e))
 
     module _ (y : Family) (e : shapeOf (t .kind) ≡ compressed y) where
       pub long-C : 40 ≤ lengthOf t

@@ -24,6 +24,7 @@ use Rattle.samples.specs.Runs.{pingLength}
 use Rattle.samples.specs.Values.{samplesIn, wordsFor, heldWords}
 use Rattle.samples.proofs.Written.{Each}
 use Rattle.content.specs.Pings.{partIn, countIn, wordsIn, contentU, contentC}
+use Rattle.content.specs.Items.{itemOf}
 use Rattle.content.specs.Forms.{packs, formBytes}
 use Rattle.content.proofs.Fine.{upward-least}
 use Rattle.content.proofs.Families.{plainSize, plain-least, some-sample-bytes}
@@ -34,6 +35,8 @@ use Rattle.intake.proofs.Judges.{whole, sound-fits}
 use Rattle.intake.specs.inner.Sound.{SoundHere}
 use Rattle.ping_forms.specs.inner.Parts.{partAt, countAt, heldAt, stays}
 use Rattle.ping_forms.proofs.Formed.{form-index, form-raw, parts-row, parts-U, count-C, goods-C, parts-C-U, parts-C}
+use Rattle.ping_forms.proofs.Formed.{type-index, type-row, type-raw, type-same}
+use Rattle.ping_forms.specs.inner.Measured.{formType}
 
 -- a ping that isn't to stay compressed has an uncompressed kind
 unpacked : (y : Family) (o : Bool) (d : List ℕ) → packs (contentC y o d) ≡ false → hasU y ≡ true
@@ -85,6 +88,20 @@ module _ {o : Bool} {f : List ℕ} {at n k : ℕ} (s : SoundHere o f at n k) whe
       by (uncompressed y) z h d = parts-U o t (s .own) y (shape-of ∙ z) (framed-here b) .long ∙ size-of
       by (compressed y) z h d = absurd (true≢false d)
       by unlisted z h d = ap length (form-raw o t (shape-of ∙ z)) ∙ length-frame false t ∙ size-of
+
+  -- and of its type
+  pub type-within : inClass index k ≡ true → k ≡ formType k (itemOf o (tupAt o (drop at f)))
+  type-within e = type-index o t k (shape-of ∙ index-shape k e)
+
+  pub type-whole : Bytes f → inClass index k ≡ false → hasWords (shapeOf k) ≡ false → k ≡ formType k (itemOf o (tupAt o (drop at f)))
+  type-whole b e c = by (shapeOf k) refl (shaped k) c
+    where
+      by : (q : Shape) → shapeOf k ≡ q → Shaped k q → hasWords q ≡ false → k ≡ formType k (itemOf o t)
+      by indexed z h d = absurd (within-index k e h)
+      by (row fs x) z h d = sym (s .here .kind) ∙ type-row o t k fs x (shape-of ∙ z)
+      by (uncompressed y) z h d = h .0 ∙ type-same o t (s .own) y (shape-of ∙ z) (framed-here b) k
+      by (compressed y) z h d = absurd (true≢false d)
+      by unlisted z h d = sym (s .here .kind) ∙ type-raw o t k (shape-of ∙ z)
 
   -- what stands between a header of a bytes and the attribute
   pub part-there : (a : ℕ) → a + 14 ≤ n → partIn a (tupAt o (drop at f) .body) ≡ partAt f at n (6 + a)

@@ -34,7 +34,10 @@ use Rattle.content.proofs.Families.{shape-C}
 use Rattle.content.proofs.Packing.{packs-always}
 use Rattle.intake.specs.inner.Sound.{SoundHere}
 use Rattle.ping_forms.specs.inner.Parts.{partAt, countAt, heldAt, WordsEnd, stays, staysBy}
-use Rattle.ping_forms.proofs.Placed.{there, part-length, long-words, count-of, words-good, packs-here, measured-packed}
+use Rattle.ping_forms.proofs.Formed.{type-C, type-C-U}
+use Rattle.ping_forms.specs.inner.Measured.{formType}
+use Rattle.content.specs.Items.{itemOf}
+use Rattle.ping_forms.proofs.Placed.{there, part-length, long-words, count-of, words-good, packs-here, measured-packed, shape-of}
 use Rattle.ping_forms.proofs.Placed.{measured-sampled}
 use Rattle.ping_forms.proofs.Written.{sampled-written, packed-written}
 
@@ -177,6 +180,21 @@ pub length-counted : (b : Bool) {o : Bool} {f : List ℕ} {at n : ℕ} → Sound
     → (24 + 4 * c + 8 ≡ length (formBytes o (tupAt o (drop at f)))) × (24 + 4 * c + 8 ≤ 2 * n)
 length-counted true s bytes h c e = absurd (true≢false h)
 length-counted false s bytes h c e = length-sampled s bytes h c e
+
+-- the form's type: its own, or U-16
+pub type-packed : (b : Bool) {o : Bool} {f : List ℕ} {at n : ℕ} → SoundHere o f at n (typeC (wordsBy b)) → Bytes f
+    → staysBy b (heldAt (wordsBy b) o f at n) ≡ true
+    → typeC (wordsBy b) ≡ formType (typeC (wordsBy b)) (itemOf o (tupAt o (drop at f)))
+type-packed true {o} {f} {at} s bytes h =
+    type-C o (tupAt o (drop at f)) 10050 encoded (shape-of s ∙ shape-by true) (packs-stays true s bytes ∙ h)
+type-packed false {o} {f} {at} s bytes h =
+    type-C o (tupAt o (drop at f)) 10040 narrow (shape-of s ∙ shape-by false) (packs-stays false s bytes ∙ h)
+
+pub type-counted : (b : Bool) {o : Bool} {f : List ℕ} {at n : ℕ} → SoundHere o f at n (typeC (wordsBy b)) → Bytes f
+    → staysBy b (heldAt (wordsBy b) o f at n) ≡ false → 10030 ≡ formType (typeC (wordsBy b)) (itemOf o (tupAt o (drop at f)))
+type-counted true s bytes h = absurd (true≢false h)
+type-counted false {o} {f} {at} s bytes h =
+    type-C-U o (tupAt o (drop at f)) 10040 narrow (shape-of s ∙ shape-by false) (packs-stays false s bytes ∙ h)
 
 -- a type of words that is neither C-32's nor C-16's is CE-16's
 pub encoded-left : (k : ℕ) → hasWords (shapeOf k) ≡ true → NoneOf (10040 ∷ 10010 ∷ []) k → k ≡ 10050

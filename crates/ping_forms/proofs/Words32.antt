@@ -29,7 +29,11 @@ use Rattle.content.specs.Forms.{packs, formBytes}
 use Rattle.content.proofs.Families.{shape-C}
 use Rattle.intake.specs.inner.Sound.{SoundHere}
 use Rattle.ping_forms.specs.inner.Parts.{partAt, countAt, heldAt, stays}
+use Rattle.ping_forms.proofs.Formed.{type-C, type-C-U}
+use Rattle.ping_forms.specs.inner.Measured.{formType}
+use Rattle.content.specs.Items.{itemOf}
 use Rattle.ping_forms.proofs.Placed.{there, part-length, long-words, count-of, packs-here, measured-packed, measured-sampled}
+use Rattle.ping_forms.proofs.Placed.{shape-of}
 use Rattle.ping_forms.proofs.Written.{sampled-written, packed-written}
 
 module _ {o : Bool} {f : List ℕ} {at n : ℕ} (s : SoundHere o f at n 10010) where
@@ -87,6 +91,13 @@ module _ {o : Bool} {f : List ℕ} {at n : ℕ} (s : SoundHere o f at n 10010) w
     pub length-sampled : endsFrom radix false words ≡ false → (c : ℕ) → c ≡ countAt o f at
         → (24 + 8 * c + 8 ≡ length (formBytes o (tupAt o (drop at f)))) × (24 + 8 * c + 8 ≤ 2 * n)
     length-sampled h c e = measured-sampled s wide shape b refl (packs-end ∙ h) (24 + 8 * c + 8) (omega (arith, e))
+
+    -- and its form's type
+    pub type-packed : endsFrom radix false words ≡ true → 10010 ≡ formType 10010 (itemOf o (tupAt o (drop at f)))
+    type-packed h = type-C o (tupAt o (drop at f)) 10010 wide (shape-of s ∙ shape) (packs-end ∙ h)
+
+    pub type-sampled : endsFrom radix false words ≡ false → 10000 ≡ formType 10010 (itemOf o (tupAt o (drop at f)))
+    type-sampled h = type-C-U o (tupAt o (drop at f)) 10010 wide (shape-of s ∙ shape) (packs-end ∙ h)
 
     -- ---- what is stored
     module _ (out left : List ℕ) (to : ℕ) where

@@ -19,6 +19,13 @@ ghost use Rattle.frame.specs.Frames.{tupAt};
 ghost use Rattle.frame.specs.inner.Framing.{openingBytes, closeBytes};
 ghost use Rattle.content.specs.Forms.{formBytes};
 ghost use Rattle.intake.specs.inner.Sound.{SoundHere};
+ghost use Rattle.ping_forms.specs.inner.Measured.{Measured};
+
+// What is measured of a tuple's normal form: its bytes and its type.
+pub struct Form {
+    pub bytes: usize,
+    pub code: u16,
+}
 
 // The listing of the U-32 ping, whose row is the header of every ping.
 const HEADER: usize = 10;
@@ -66,17 +73,16 @@ pub fn is_compressed(code: u16) -> bool
     }
 }
 
-// How many bytes the normal form of a compressed ping has.
-pub fn compressed_length(file: &[u8], at: usize, msb: bool, whole: usize, code: u16) -> usize
+// How many bytes the normal form of a compressed ping has, and its type.
+pub fn measure_compressed(file: &[u8], at: usize, msb: bool, whole: usize, code: u16) -> Form
     requires { ⌜ SoundHere msb (now file) at whole code ⌝ }
     requires { ⌜ hasWords (shapeOf code) ≡ true ⌝ }
-    ensures { λ r. ⌜ r ≡ length (formBytes msb (tupAt msb (drop at (now (file .entry))))) ⌝ }
-    ensures { λ r. ⌜ r ≤ 2 * whole ⌝ }
+    ensures { λ r. ⌜ Measured msb (tupAt msb (drop at (now (file .entry)))) whole code r ⌝ }
 {
     match code {
-        types::PING_C => wide::form_length(file, at, msb, whole),
-        types::PING_C16 => narrow::form_length(file, at, msb, whole, false),
-        _ => narrow::form_length(file, at, msb, whole, true),
+        types::PING_C => wide::measure_form(file, at, msb, whole),
+        types::PING_C16 => narrow::measure_form(file, at, msb, whole, false),
+        _ => narrow::measure_form(file, at, msb, whole, true),
     }
 }
 

@@ -1,4 +1,5 @@
 // The normal form of a C-16 or a CE-16 ping: packed; but a C-16 ping that U-16 can say is U-16.
+use crate::Form;
 use crate::close_form;
 use crate::open_ping;
 use layout::types;
@@ -16,6 +17,7 @@ ghost use Rattle.samples.specs.inner.Narrow.{wordsBy};
 ghost use Rattle.content.specs.Forms.{formBytes};
 ghost use Rattle.intake.specs.inner.Sound.{SoundHere};
 ghost use Rattle.ping_forms.specs.inner.Parts.{heldAt, countAt, WordsEnd, stays, staysBy};
+ghost use Rattle.ping_forms.specs.inner.Measured.{Measured};
 
 // The samples that numbers of two bytes can say.
 const NUMBERED: u32 = 65_536;
@@ -60,20 +62,25 @@ fn stays_packed(words: &[u8], msb: bool, encoded: bool) -> bool
     NUMBERED < samples16::count_samples(words, msb)
 }
 
-// How many bytes it has.
-pub fn form_length(file: &[u8], at: usize, msb: bool, whole: usize, encoded: bool) -> usize
+// How many bytes it has, and its type.
+pub fn measure_form(file: &[u8], at: usize, msb: bool, whole: usize, encoded: bool) -> Form
     requires { ⌜ SoundHere msb (now file) at whole (typeC (wordsBy encoded)) ⌝ }
-    ensures { λ r. ⌜ r ≡ length (formBytes msb (tupAt msb (drop at (now (file .entry))))) ⌝ }
-    ensures { λ r. ⌜ r ≤ 2 * whole ⌝ }
+    ensures { λ r. ⌜ Measured msb (tupAt msb (drop at (now (file .entry)))) whole (typeC (wordsBy encoded)) r ⌝ }
 {
     let end = words_end(file, at, msb, whole, encoded);
     let words = &file[at + samples::WORDS..at + end];
     if stays_packed(words, msb, encoded) {
         let bytes = WORD * spelling16::packing::count_packed(words, msb);
-        return samples::WORDS + (bytes + bytes % WORDS_FILL) + frame::TAIL;
+        return Form {
+            bytes: samples::WORDS + (bytes + bytes % WORDS_FILL) + frame::TAIL,
+            code: type_of(encoded),
+        };
     }
     let count = order::read4(file, at + samples::COUNT, msb) as usize;
-    samples::SAMPLES + PAIR * count + frame::TAIL
+    Form {
+        bytes: samples::SAMPLES + PAIR * count + frame::TAIL,
+        code: types::PING_U16,
+    }
 }
 
 // Writes a space behind so many bytes, where what follows would stand at no multiple of 4; the place behind it.

@@ -1,4 +1,5 @@
 // The normal form of a C-32 ping: packed where it has a length, else U-32.
+use crate::Form;
 use crate::close_form;
 use crate::open_ping;
 use layout::types;
@@ -16,20 +17,29 @@ ghost use Rattle.samples.specs.Runs.{radix, endsFrom};
 ghost use Rattle.content.specs.Forms.{formBytes};
 ghost use Rattle.intake.specs.inner.Sound.{SoundHere};
 ghost use Rattle.ping_forms.specs.inner.Parts.{partAt};
+ghost use Rattle.ping_forms.specs.inner.Measured.{Measured};
 
-// How many bytes it has. A ping with a length is measured by its words; any other counts its samples itself, so that they are not read.
-pub fn form_length(file: &[u8], at: usize, msb: bool, whole: usize) -> usize
+// How many bytes it has, and its type. A ping with a length is measured by its words; any other counts its samples itself, so that they
+// are not read.
+pub fn measure_form(file: &[u8], at: usize, msb: bool, whole: usize) -> Form
     requires { ⌜ SoundHere msb (now file) at whole 10010 ⌝ }
-    ensures { λ r. ⌜ r ≡ length (formBytes msb (tupAt msb (drop at (now (file .entry))))) ⌝ }
-    ensures { λ r. ⌜ r ≤ 2 * whole ⌝ }
+    ensures { λ r. ⌜ Measured msb (tupAt msb (drop at (now (file .entry)))) whole 10010 r ⌝ }
 {
     let tail = whole - frame::TAIL;
     let words = &file[at + samples::WORDS..at + tail];
     if samples::ends_in_run(words, msb) {
-        return samples::WORDS + WORD * spelling::packing::count_packed(words, msb) + frame::TAIL;
+        return Form {
+            bytes: samples::WORDS
+                + WORD * spelling::packing::count_packed(words, msb)
+                + frame::TAIL,
+            code: types::PING_C,
+        };
     }
     let count = order::read4(file, at + samples::COUNT, msb) as usize;
-    samples::SAMPLES + PAIR * count + frame::TAIL
+    Form {
+        bytes: samples::SAMPLES + PAIR * count + frame::TAIL,
+        code: types::PING_U,
+    }
 }
 
 // Writes the form of a ping with a length: its words packed, then what stands behind them and before them; and says how many bytes it has.

@@ -22,6 +22,7 @@ use Rattle.content.specs.Pings.{partIn, wordsIn, attributeIn, countIn, contentU
 use Rattle.content.specs.Items.{itemOf, digestOf}
 use Rattle.content.specs.Forms.{packs, pingForm, formOf}
 use Rattle.intake.specs.Check.{ending, turnOn, turn, checkFrom, checkFile}
+use Rattle.index.specs.Index.{withIndex, beforeEnd, fromEnd, typesOf, chosen, isTyped, indexData}
 use Rattle.normal.specs.Contents.{items, contentOf, normalTuples, formed, normalOf}
 use Rattle.normal.specs.Normaliser.{firstUnlisted, normalAnswer}
 use Rattle.normal.specs.Single.{singleForm, singleAnswer}
@@ -35,7 +36,8 @@ use Rattle.worked.specs.Cruise.{lsb, lsbOtherCut, msb, msbOtherCut, norm
 -- every line of the table holds
 pub worked : allHold table ≡ true
 unfolding table allHold holds readAnswer sampleAnswer normalFile normalTuple linesOf allDigits bytesIn inputFrom hex decimals normalAnswer
-    singleForm singleAnswer firstUnlisted items contentOf normalTuples formed normalOf ending turnOn turn checkFrom checkFile packs pingForm
+    singleForm singleAnswer firstUnlisted items contentOf normalTuples
+    withIndex beforeEnd fromEnd typesOf chosen isTyped indexData formed normalOf ending turnOn turn checkFrom checkFile packs pingForm
     formOf itemOf
     digestOf partIn wordsIn attributeIn countIn contentU contentC dataU dataC has naming firstWrong words allWords unwords joined parted
     samples allSamples unsampled spaced magnitude countOf shortened codeOf meant wordFor samplesIn wordsFor front hasSpace heldWords isRun
@@ -62,11 +64,11 @@ unfolding lsb lsbOtherCut msb msbOtherCut normalFile normalTuple linesOf allDigi
     isPing declaredOwn
 accepted = refl
 
--- and printed as the one normal form, which is printed as itself
-pub one-form : map (λ (v : List String). normalFile (text v)) (normal ∷ variants)
-    ≡ text normal ∷ text normal ∷ text normal ∷ text normal ∷ text normal ∷ []
-unfolding normal lsb lsbOtherCut msb msbOtherCut normalFile normalTuple linesOf allDigits bytesIn inputFrom hex decimals normalAnswer
-    singleForm singleAnswer firstUnlisted items contentOf normalTuples formed normalOf ending turnOn turn checkFrom checkFile packs pingForm
+-- and printed as the one normal form, which is printed as itself: a declaration a file, since each computes its index among all types
+own-form : normalFile (text normal) ≡ text normal
+unfolding normal normalFile normalTuple linesOf allDigits bytesIn inputFrom hex decimals normalAnswer
+    singleForm singleAnswer firstUnlisted items contentOf normalTuples
+    withIndex beforeEnd fromEnd typesOf chosen isTyped indexData formed normalOf ending turnOn turn checkFrom checkFile packs pingForm
     formOf itemOf
     digestOf partIn wordsIn attributeIn countIn contentU contentC dataU dataC has naming firstWrong words allWords unwords joined parted
     samples allSamples unsampled spaced magnitude countOf shortened codeOf meant wordFor samplesIn wordsFor front hasSpace heldWords isRun
@@ -74,4 +76,60 @@ unfolding normal lsb lsbOtherCut msb msbOtherCut normalFile normalTuple linesOf 
     judgedSamples judgedWords allowed
     frame sizeAt kindAt backAt framing mark isMsb marked stepForward tuplesFrom tuplesOf classes inClass listings among listingOf
     isPing declaredOwn
-one-form = refl
+own-form = refl
+
+lsb-form : normalFile (text lsb) ≡ text normal
+unfolding normal lsb normalFile normalTuple linesOf allDigits bytesIn inputFrom hex decimals normalAnswer
+    singleForm singleAnswer firstUnlisted items contentOf normalTuples
+    withIndex beforeEnd fromEnd typesOf chosen isTyped indexData formed normalOf ending turnOn turn checkFrom checkFile packs pingForm
+    formOf itemOf
+    digestOf partIn wordsIn attributeIn countIn contentU contentC dataU dataC has naming firstWrong words allWords unwords joined parted
+    samples allSamples unsampled spaced magnitude countOf shortened codeOf meant wordFor samplesIn wordsFor front hasSpace heldWords isRun
+    runLength decodeFrom samplesFrom endsFrom pingLength lastRun gap encodeFrom behind fewest isBad values firstBad firstDrop
+    judgedSamples judgedWords allowed
+    frame sizeAt kindAt backAt framing mark isMsb marked stepForward tuplesFrom tuplesOf classes inClass listings among listingOf
+    isPing declaredOwn
+lsb-form = refl
+
+lsb-cut-form : normalFile (text lsbOtherCut) ≡ text normal
+unfolding normal lsbOtherCut normalFile normalTuple linesOf allDigits bytesIn inputFrom hex decimals normalAnswer
+    singleForm singleAnswer firstUnlisted items contentOf normalTuples
+    withIndex beforeEnd fromEnd typesOf chosen isTyped indexData formed normalOf ending turnOn turn checkFrom checkFile packs pingForm
+    formOf itemOf
+    digestOf partIn wordsIn attributeIn countIn contentU contentC dataU dataC has naming firstWrong words allWords unwords joined parted
+    samples allSamples unsampled spaced magnitude countOf shortened codeOf meant wordFor samplesIn wordsFor front hasSpace heldWords isRun
+    runLength decodeFrom samplesFrom endsFrom pingLength lastRun gap encodeFrom behind fewest isBad values firstBad firstDrop
+    judgedSamples judgedWords allowed
+    frame sizeAt kindAt backAt framing mark isMsb marked stepForward tuplesFrom tuplesOf classes inClass listings among listingOf
+    isPing declaredOwn
+lsb-cut-form = refl
+
+msb-form : normalFile (text msb) ≡ text normal
+unfolding normal msb normalFile normalTuple linesOf allDigits bytesIn inputFrom hex decimals normalAnswer
+    singleForm singleAnswer firstUnlisted items contentOf normalTuples
+    withIndex beforeEnd fromEnd typesOf chosen isTyped indexData formed normalOf ending turnOn turn checkFrom checkFile packs pingForm
+    formOf itemOf
+    digestOf partIn wordsIn attributeIn countIn contentU contentC dataU dataC has naming firstWrong words allWords unwords joined parted
+    samples allSamples unsampled spaced magnitude countOf shortened codeOf meant wordFor samplesIn wordsFor front hasSpace heldWords isRun
+    runLength decodeFrom samplesFrom endsFrom pingLength lastRun gap encodeFrom behind fewest isBad values firstBad firstDrop
+    judgedSamples judgedWords allowed
+    frame sizeAt kindAt backAt framing mark isMsb marked stepForward tuplesFrom tuplesOf classes inClass listings among listingOf
+    isPing declaredOwn
+msb-form = refl
+
+msb-cut-form : normalFile (text msbOtherCut) ≡ text normal
+unfolding normal msbOtherCut normalFile normalTuple linesOf allDigits bytesIn inputFrom hex decimals normalAnswer
+    singleForm singleAnswer firstUnlisted items contentOf normalTuples
+    withIndex beforeEnd fromEnd typesOf chosen isTyped indexData formed normalOf ending turnOn turn checkFrom checkFile packs pingForm
+    formOf itemOf
+    digestOf partIn wordsIn attributeIn countIn contentU contentC dataU dataC has naming firstWrong words allWords unwords joined parted
+    samples allSamples unsampled spaced magnitude countOf shortened codeOf meant wordFor samplesIn wordsFor front hasSpace heldWords isRun
+    runLength decodeFrom samplesFrom endsFrom pingLength lastRun gap encodeFrom behind fewest isBad values firstBad firstDrop
+    judgedSamples judgedWords allowed
+    frame sizeAt kindAt backAt framing mark isMsb marked stepForward tuplesFrom tuplesOf classes inClass listings among listingOf
+    isPing declaredOwn
+msb-cut-form = refl
+
+pub one-form : map (λ (v : List String). normalFile (text v)) (normal ∷ variants)
+    ≡ text normal ∷ text normal ∷ text normal ∷ text normal ∷ text normal ∷ []
+one-form = λ i. own-form i ∷ lsb-form i ∷ lsb-cut-form i ∷ msb-form i ∷ msb-cut-form i ∷ []

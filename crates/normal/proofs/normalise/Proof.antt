@@ -1,5 +1,5 @@
 -- `normal::normalise` meets its contract: the check's refusals, then rule by rule by what is measured. Assumes nothing.
-use mathlib.Core.Path.{_≡_, sym, ap, _∙_}
+use mathlib.Core.Path.{_≡_, refl, sym, ap, _∙_}
 use mathlib.Core.Bool.{Bool, _&&_}
 use borrow.Author.Needs.{needs}
 use lib.Dec.{ltb}
@@ -19,28 +19,31 @@ start c = c .before .before .before .before .before
 abbrev measured : tie.After-is-unturnable → tie.After-measure-file
 measured c = c .before .before .before
 
+abbrev taken : tie.After-measure-file → tie.After-counts
+taken c = c .before .before .before
+
 -- the check accepts
 abbrev accepts : (c : tie.After-counts) → Accepts (start c .args .file .now)
 accepts c = record { counts = _; answer = sym (c .before .before .check .ensures .is) ∙ c .counts .given .1 }
 
 -- what is measured
 found : (c : tie.After-measure-file)
-    → FoundOf (start (c .before .before) .args .file .now) (accepts (c .before .before) .counts)
+    → FoundOf (start (taken c) .args .file .now) (accepts (taken c) .counts)
     (c .measure-file .result .bytes) (c .measure-file .result .unlisted)
 found c =
-    let a = accepts (c .before .before) in
+    let a = accepts (taken c) in
     record {
       accepted = a .answer;
-      bytes = ap (λ (m : Measure). m .bytes) (c .measure-file .ensures);
-      unlisted = ap (λ (m : Measure). m .unlisted) (c .measure-file .ensures);
+      bytes = ap (λ (m : Measure). m .bytes) (c .measure-file .ensures .0);
+      unlisted = ap (λ (m : Measure). m .unlisted) (c .measure-file .ensures .0);
     }
 
 -- whether it can be turned
 turns : (c : tie.After-is-unturnable)
-    → let f = start (measured c .before .before) .args .file .now in
+    → let f = start (taken (measured c)) .args .file .now in
     c .is-unturnable .result ≡ isMsb f && ltb (measured c .measure-file .result .unlisted) (length f)
 turns c =
-    let f = start (measured c .before .before) .args .file .now in
+    let f = start (taken (measured c)) .args .file .now in
     c .is-unturnable .ensures
     ∙ ap (λ (o : Bool). o && ltb (measured c .measure-file .result .unlisted) (length f))
     (c .before .before .is-msb .ensures)
@@ -68,10 +71,14 @@ returns-3 c =
 
 write-normal-requires : tie.Need-write-normal-requires
 write-normal-requires c κs =
-    let turnable = c .before .before .before .before .before in
+    let fits = c .before .before in
+    let small = fits .before .before in
+    let turnable = small .before .before in
     let u = turnable .before in
-    let s = start (measured u .before .before) in
-    found-writable _ (s .args .out .now) _ _ _ (found (measured u)) (sym (turns u) ∙ turnable .if1 .left) (c .before .if3 .left)
+    let s = start (taken (measured u)) in (
+      found-writable _ (s .args .out .now) _ _ _ (found (measured u)) (sym (turns u) ∙ turnable .if1 .left) (fits .if3 .left),
+      measured u .measure-file .ensures .1,
+    )
 
 returns-4 : tie.Need-returns-4
 returns-4 c =
@@ -81,7 +88,7 @@ returns-4 c =
 returns-5 : tie.Need-returns-5
 returns-5 c =
     let written = c .before .before in
-    let fits = written .before .before in
+    let fits = written .before .before .before in
     let small = fits .before .before in
     let turnable = small .before .before in
     let u = turnable .before in
@@ -96,8 +103,8 @@ normalise-spec =
     (λ c. search needs)
     (λ c κs. search needs)
     (λ c. search needs)
-    (λ c κs. accepts (c .before))
-    (λ c κs. accepted-4 _ (accepts (c .before .before)))
+    (λ c κs. (accepts (c .before .before), refl))
+    (λ c κs. accepted-4 _ (accepts (taken c)))
     (λ c κs. search needs)
     (λ c κs. search needs)
     returns

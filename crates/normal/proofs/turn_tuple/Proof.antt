@@ -10,6 +10,7 @@ use Rattle.frame.specs.Files.{mark, isMsb}
 use Rattle.frame.proofs.Places.{Whole, framing-whole}
 use Rattle.intake.proofs.Judges.{whole}
 use Rattle.intake.specs.inner.Sound.{SoundHere}
+use Rattle.ping_forms.proofs.Placed.{most}
 use Rattle.normal.specs.Normaliser.{isUnlisted}
 use Rattle.normal.proofs.Singles.{single-behind, single-unturnable, single-no-room, single-written}
 use Rattle.normal.proofs.turn_tuple.Statement.{statement}
@@ -48,21 +49,22 @@ returns-2 c =
 
 returns-3 : tie.Need-returns-3
 returns-3 c =
-    let u = c .before .before .before .before in
+    let measured = c .before .before .before in
+    let u = measured .before .before in
     let k = u .before .before .before in
     rw (c .refuse3 .ensures)
     (single-no-room _ _ _ _ _ (k .before .before .is-msb .ensures) (k .before .length-at .ensures) (k .kind-at .ensures)
-    (u .before .before .if1 .left) (sym (turns u) ∙ c .before .before .before .if2 .left) _
-    (c .before .before .form-length .ensures .0) (c .before .if3 .taken))
+    (u .before .before .if1 .left) (sym (turns u) ∙ measured .before .if2 .left) _
+    (measured .measure-form .ensures .bytes) (c .before .if3 .taken))
 
 write-form-requires : tie.Need-write-form-requires
 write-form-requires c κs =
     let stored = c .before .before .before in
     let fits = stored .before .before in
-    let measured = fits .before in
+    let measured = fits .before .before in
     let u = measured .before .before in (
       sound (u .before .before .before),
-      omega (arith, measured .form-length .ensures .0, fits .if3 .left, stored .store4 .kept .0),
+      omega (arith, measured .measure-form .ensures .bytes, fits .if3 .left, stored .store4 .kept .0),
     )
 
 returns-4 : tie.Need-returns-4
@@ -71,14 +73,14 @@ returns-4 c =
     let written = c .before .before .before in
     let stored = written .before .before .before .before in
     let fits = stored .before .before in
-    let measured = fits .before in
+    let measured = fits .before .before in
     let u = measured .before .before in
     let k = u .before .before .before in
     let start = k .before .before .before .before .before in
     rw (c .accept .ensures)
     (single-written _ (start .args .out .now) _ _ _ (k .before .before .is-msb .ensures) (k .before .length-at .ensures)
     (k .kind-at .ensures) (u .before .before .if1 .left) (sym (turns u) ∙ measured .before .if2 .left) _
-    (measured .form-length .ensures .0) (fits .if3 .left) _ _ (stored .store4 .ensures) (written .write-form .ensures .1))
+    (measured .measure-form .ensures .bytes) (fits .if3 .left) _ _ (stored .store4 .ensures) (written .write-form .ensures .1))
 
 pub turn-tuple-spec : {M : Type 1} → statement M
 turn-tuple-spec =
@@ -95,7 +97,7 @@ turn-tuple-spec =
     (λ c κs. search needs)
     returns-2
     (λ c κs. sound (c .before .before .before .before))
-    (λ c. omega (arith, c .form-length .ensures .1, whole (sound (c .before .before .before .before .before) .here) .fits))
+    (λ c. let m = c .before in omega (arith, m .measure-form .ensures .twice, most (sound (m .before .before .before .before .before)) .1))
     (λ c κs. search needs)
     returns-3
     (λ c κs. search needs)

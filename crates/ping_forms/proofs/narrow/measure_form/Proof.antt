@@ -1,4 +1,4 @@
--- `ping_forms::narrow::form_length` meets its contract: by its words packed, or by its number of samples. Assumes nothing.
+-- `ping_forms::narrow::measure_form` meets its contract: by its words packed, or by its number of samples; and its type. Assumes nothing.
 use mathlib.Core.Path.{_≡_, sym, ap, _∙_}
 use mathlib.Core.List.{List}
 use Prim.Native.Nat.{ℕ, _+_, _*_, _%_, _≤_}
@@ -11,9 +11,9 @@ use Rattle.frame.specs.Frames.{tupAt}
 use Rattle.content.specs.Forms.{formBytes}
 use Rattle.ping_forms.specs.inner.Parts.{heldAt, staysBy}
 use Rattle.ping_forms.proofs.Placed.{most}
-use Rattle.ping_forms.proofs.Words16.{long, held-part, length-packed, length-counted}
-use Rattle.ping_forms.proofs.narrow.form_length.Statement.{statement}
-use Rattle.ping_forms.proofs.narrow.form_length.Tie as tie
+use Rattle.ping_forms.proofs.Words16.{long, held-part, length-packed, length-counted, type-packed, type-counted}
+use Rattle.ping_forms.proofs.narrow.measure_form.Statement.{statement}
+use Rattle.ping_forms.proofs.narrow.measure_form.Tie as tie
 use Rattle.samples.specs.inner.Narrow.{wordsBy, respelled}
 use Rattle.samples.specs.inner.Packing.{packed}
 
@@ -56,7 +56,17 @@ by-words c =
     (c .count-packed .ensures ∙ ap (λ (ws : List ℕ). length (packed 256 respelled ws)) (e .words-end .ensures .words))
 
 returns : tie.Need-returns
-returns c = let m = by-words c in (m .0, omega (arith, m .1))
+returns c =
+    let counted = c .before in
+    let m = by-words counted in
+    let t = counted .before in
+    let known = t .before .before .before .before in
+    let s = known .before in
+    record {
+      bytes = m .0;
+      twice = omega (arith, m .1);
+      code = c .type-of .ensures ∙ type-packed (s .args .encoded) (s .pre) (bytes known) (sym (held (t .before)) ∙ t .if1 .taken);
+    }
 
 returns-2 : tie.Need-returns-2
 returns-2 c =
@@ -64,10 +74,12 @@ returns-2 c =
     let k = t .before in
     let known = k .before .before .before in
     let s = known .before in
-    length-counted (s .args .encoded) (s .pre) (bytes known) (sym (held k) ∙ t .if1 .left) (c .read4 .result) (c .read4 .ensures)
+    let h = sym (held k) ∙ t .if1 .left in
+    let m = length-counted (s .args .encoded) (s .pre) (bytes known) h (c .read4 .result) (c .read4 .ensures) in
+    record { bytes = m .0; twice = m .1; code = type-counted (s .args .encoded) (s .pre) (bytes known) h }
 
-pub form-length-spec : {M : Type 1} → statement M
-form-length-spec =
+pub measure-form-spec : {M : Type 1} → statement M
+measure-form-spec =
     tie.close
     (tie.spec
     (λ c κs. search needs)
@@ -84,6 +96,7 @@ form-length-spec =
     (λ c. let r = room (c .before .before .before .before .before .before) in omega (arith, by-words c .1))
     (λ c. let r = room (c .before .before .before .before .before .before) in omega (arith, by-words c .1))
     (λ c. let r = room (c .before .before .before .before .before .before) in omega (arith, by-words c .1))
+    (λ c κs. search needs)
     returns
     (λ c. let r = room (c .before .before .before .before .before) in omega arith)
     (λ c κs. let r = room (c .before .before .before .before .before) in omega arith)

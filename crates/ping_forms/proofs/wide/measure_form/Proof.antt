@@ -1,4 +1,4 @@
--- `ping_forms::wide::form_length` meets its contract: by its words packed, or by its number of samples. Assumes nothing.
+-- `ping_forms::wide::measure_form` meets its contract: by its words packed, or by its number of samples; and its type. Assumes nothing.
 use mathlib.Core.Path.{refl, sym, _∙_}
 use Prim.Native.Nat.{_+_, _*_, _≤_}
 use native.Mathlib.Omega.{arith}
@@ -7,9 +7,9 @@ use lib.ListN.{length}
 use Rattle.order.specs.Order.{Bytes}
 use Rattle.order.proofs.Laws.{bytes-of}
 use Rattle.ping_forms.proofs.Placed.{most}
-use Rattle.ping_forms.proofs.Words32.{long, words-part, length-packed, length-sampled}
-use Rattle.ping_forms.proofs.wide.form_length.Statement.{statement}
-use Rattle.ping_forms.proofs.wide.form_length.Tie as tie
+use Rattle.ping_forms.proofs.Words32.{long, words-part, length-packed, length-sampled, type-packed, type-sampled}
+use Rattle.ping_forms.proofs.wide.measure_form.Statement.{statement}
+use Rattle.ping_forms.proofs.wide.measure_form.Tie as tie
 
 -- the ping has room for its header and its last 8 bytes, and stands in the file
 abbrev Room : tie.Start → Type 0
@@ -29,22 +29,29 @@ packed : (c : tie.After-count-packed) →
 packed c =
     let k = c .before in
     let e = k .before in
-    length-packed (e .before .before .before .pre) (bytes (e .before .before)) (sym (e .ends-in-run .ensures) ∙ k .if1 .taken) _ (c .count-packed .ensures) .1
+    length-packed (e .before .before .before .pre) (bytes (e .before .before)) (sym (e .ends-in-run .ensures)
+    ∙ k .if1 .taken) _ (c .count-packed .ensures) .1
 
 returns : tie.Need-returns
 returns c =
     let k = c .before in
     let e = k .before in
-    length-packed (e .before .before .before .pre) (bytes (e .before .before)) (sym (e .ends-in-run .ensures) ∙ k .if1 .taken) _ (c .count-packed .ensures)
+    let s = e .before .before .before in
+    let h = sym (e .ends-in-run .ensures) ∙ k .if1 .taken in
+    let m = length-packed (s .pre) (bytes (e .before .before)) h _ (c .count-packed .ensures) in
+    record { bytes = m .0; twice = m .1; code = type-packed (s .pre) (bytes (e .before .before)) h }
 
 returns-2 : tie.Need-returns-2
 returns-2 c =
     let k = c .before in
     let e = k .before in
-    length-sampled (e .before .before .before .pre) (bytes (e .before .before)) (sym (e .ends-in-run .ensures) ∙ k .if1 .left) _ (c .read4 .ensures)
+    let s = e .before .before .before in
+    let h = sym (e .ends-in-run .ensures) ∙ k .if1 .left in
+    let m = length-sampled (s .pre) (bytes (e .before .before)) h _ (c .read4 .ensures) in
+    record { bytes = m .0; twice = m .1; code = type-sampled (s .pre) (bytes (e .before .before)) h }
 
-pub form-length-spec : {M : Type 1} → statement M
-form-length-spec =
+pub measure-form-spec : {M : Type 1} → statement M
+measure-form-spec =
     tie.close
     (tie.spec
     (λ c. search needs)
