@@ -45,16 +45,19 @@ fn divided(file: &[u8]) -> Vec<Tuple> {
     let mut tuples: Vec<Tuple> = Vec::new();
     let mut place = FIRST_PLACE;
     while place < file.len() {
-        let bytes = file[place..].to_vec();
-        let mut tuple = Tuple {
+        let size = file[place..place + 4].try_into().expect("four bytes");
+        let size = match order {
+            Order::Lsb => u32::from_le_bytes(size),
+            Order::Msb => u32::from_be_bytes(size),
+        };
+        let behind = place + size as usize + 10;
+        let bytes = file[place..behind].to_vec();
+        tuples.push(Tuple {
             order,
             place,
             bytes,
-        };
-        let length = tuple.four(0) as usize + 10;
-        tuple.bytes.truncate(length);
-        tuples.push(tuple);
-        place += length;
+        });
+        place = behind;
     }
     tuples
 }
