@@ -3,10 +3,10 @@
 
 use crate::damage;
 use crate::deposit::ORDERS;
-use crate::edits::{framed, index_of, least, reindexed};
+use crate::edits::{framed, least, reindexed};
 use crate::json;
 use crate::known::{repository, Known};
-use crate::progress::{sent, terminal};
+use crate::normal::spares_terminals;
 use crate::room::{hac, run, Ran, Room};
 use hac::*;
 use std::fs::{self, File};
@@ -21,14 +21,14 @@ fn cruise(order: Order) -> Known {
     })
 }
 
-/// The bytes before a file's index, where its length is known, and from there on.
-fn before_end(known: &Known) -> usize {
+/// Where a sample's end of file stands.
+fn end_place(known: &Known) -> usize {
     known.tuples.last().expect("a tuple").place
 }
 
 /// The cruise with more tuples before its end of file, put together from its lines.
 fn with_more(known: &Known, more: &[u8]) -> Vec<u8> {
-    let (before, end) = known.bytes.split_at(before_end(known));
+    let (before, end) = known.bytes.split_at(end_place(known));
     reindexed(&[before, more, end].concat())
 }
 
@@ -144,14 +144,9 @@ fn inputs_are_spared() {
         command.args(["-o", "-"]).stderr(Stdio::piped());
         spared(&run(command.stdout(behind.expect("an input"))));
     }
-    let (screen, end) = terminal();
     let mut command = append();
     command.args(["-o", "-"]).stderr(Stdio::piped());
-    let ran = run(command.stdout(end));
-    drop(command);
-    assert_eq!(ran.status, 2);
-    assert!(ran.err.starts_with("hac: standard output: "), "{}", ran.err);
-    assert_eq!(sent(screen), "");
+    spares_terminals(command);
 }
 
 /// A refused file is told as the check tells it, whatever is asked for.
@@ -190,7 +185,7 @@ fn as_it_would_be() {
     let known = cruise(Order::Lsb);
     let name = known.path.display();
     let out = room.put("out.hac", b"older");
-    let end = before_end(&known);
+    let end = end_place(&known);
     // the index of the cruise, which goes, has 20 bytes
     let place = end - 20;
     let signature = room.put("more.bin", &known.tuples[0].bytes);
@@ -295,7 +290,7 @@ fn what_is_handed_in() {
 fn stale_and_true() {
     let room = Room::new();
     let known = cruise(Order::Lsb);
-    let end = before_end(&known);
+    let end = end_place(&known);
     let indexed = reindexed(&known.bytes);
     let stale = [&indexed[..28], &least(Order::Lsb, 5), &indexed[28..]].concat();
     let path = room.put("in.hac", &stale);
@@ -311,7 +306,6 @@ fn stale_and_true() {
     let line = format!("\n  index        at {place}, true: 5 unlisted, 20 position, ");
     assert!(shown(&out).contains(&line), "{}", shown(&out));
     assert_eq!(fs::read(&out).expect("OUT"), reindexed(&stale));
-    assert_ne!(index_of(Order::Lsb, &[5]), index_of(Order::Msb, &[5]));
 }
 
 /// The host's paper shows what the commands print of the cruise.

@@ -63,7 +63,7 @@ fn divided(file: &[u8]) -> Vec<Tuple> {
 }
 
 /// The types of some tuples outside the index class, each once, ascending.
-fn types_of(tuples: &[Tuple]) -> Vec<u16> {
+pub fn types_of(tuples: &[Tuple]) -> Vec<u16> {
     let mut types: Vec<u16> = tuples.iter().map(Tuple::kind).collect();
     types.retain(|kind| !CLASS.contains(kind));
     types.sort();

@@ -3,7 +3,7 @@
 
 use crate::damage;
 use crate::deposit::{header, Deposit};
-use crate::edits::index_of;
+use crate::edits::{index_of, types_of};
 use crate::json::{self, Value};
 use crate::known::{accepted, repository, Known, Tuple};
 use crate::room::{hac, run, Ran, Room};
@@ -176,10 +176,7 @@ fn counted(known: &Known) -> Vec<(&'static str, usize)> {
 /// The Index 1 tuples of a sample: place, whether they list what they have to, and what they
 /// list.
 fn indexes(known: &Known) -> Vec<(usize, &'static str, Vec<u16>)> {
-    let mut types: Vec<u16> = known.tuples.iter().map(Tuple::kind).collect();
-    types.retain(|kind| !(65406..=65515).contains(kind));
-    types.sort();
-    types.dedup();
+    let types = types_of(&known.tuples);
     let indexes = known.of(65406).map(|index| {
         let list = (12..index.bytes.len().saturating_sub(8)).step_by(2);
         let mut list: Vec<u16> = list.map(|at| index.two(at)).collect();
