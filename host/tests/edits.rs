@@ -213,7 +213,6 @@ fn the_class_is_dropped() {
 /// A sample's own tuples, and the types that its lines have.
 #[test]
 fn samples() {
-    let normal = Known::sample(NORMAL).bytes;
     for name in SPELLINGS.iter().chain([&NORMAL]) {
         let known = Known::sample(name);
         let indexed = with_index(known.order, &known.tuples);
@@ -228,7 +227,8 @@ fn samples() {
         let outside = divided(&indexed).len();
         assert_eq!(check(&indexed).map(|counts| counts.tuples), Ok(outside));
         // an index is no content
-        assert_eq!(normal_form(&indexed), Ok(normal.clone()));
+        let normal = normal_form(&known.bytes).expect("a normal form");
+        assert_eq!(normal_form(&indexed), Ok(normal));
         assert_eq!(append(&known.bytes, &[]), Ok(indexed));
     }
 }
@@ -589,6 +589,14 @@ fn what_must_not_be_appended() {
             all.end + END,
             "an end of file is appended, and the file has its own: leave it out",
         );
+        // the same where bytes follow it that are no tuple
+        would_be(
+            file,
+            Edit::Append(&[&end[..], &[0]].concat()),
+            Code::BehindEnd,
+            all.end + END,
+            "an end of file is appended, and the file has its own: leave it out",
+        );
         let channel = copy(all.channels[0], 108);
         let place = all.channels[0];
         would_be(
@@ -685,6 +693,23 @@ fn undivided_bytes() {
                 all.end,
                 "a second signature: keep the one at 4 alone",
             );
+        }
+    }
+}
+
+/// Whose a refusal is that no edit of the file gives is answered too.
+#[test]
+fn refusals_of_nothing() {
+    let (plain, _) = shortest(Order::Lsb);
+    for file in [&[][..], &[0xAC], &plain[..4], &plain[..30], &plain] {
+        for edit in [Edit::Index, Edit::Append(&[1]), Edit::Remove(4)] {
+            for code in Code::ALL {
+                let refusal = Refusal {
+                    code: *code,
+                    place: 77,
+                };
+                assert_ne!(edit_refused(file, edit, refusal).0, Judged::Tuples);
+            }
         }
     }
 }

@@ -4,7 +4,7 @@
 use super::{Edit, LIST, TAIL};
 use crate::advice::{advice, Advice};
 use crate::answer::{Code, Refusal};
-use crate::file::{check, Order, AROUND, FILE_LIMIT, FIRST_PLACE};
+use crate::file::{check, Order, AROUND, FILE_LIMIT};
 use crate::types;
 use crate::walk::{Tuple, Walk};
 use std::collections::BTreeSet;
@@ -55,7 +55,7 @@ impl WouldBe {
         let order = Order::of(file);
         let mut tuples = Framed::all_of(file).unwrap_or_default();
         let end = tuples.len().saturating_sub(1);
-        let mut appended = file[..FIRST_PLACE].to_vec();
+        let mut appended = order.mark().to_vec();
         match edit {
             Edit::Index => {}
             Edit::Remove(place) => tuples.retain(|tuple| tuple.place != place),
@@ -92,7 +92,7 @@ impl WouldBe {
             (Edit::Remove(_), Code::NoEnd, _) => Some(Advice::of(
                 "a file keeps its end of file: remove another tuple".into(),
             )),
-            (Edit::Append(_), Code::BehindEnd, None) => Some(Advice::of(
+            (Edit::Append(_), Code::BehindEnd, _) => Some(Advice::of(
                 "an end of file is appended, and the file has its own: leave it out".into(),
             )),
             (_, Code::CutShort | Code::BadLength | Code::BadBacklink, Some(at)) => {
