@@ -3,6 +3,7 @@
 // Where fewer entries are lent than it may tell it does nothing and hands 19 back. include/hac.h says all this to those who call.
 mod handed;
 mod of_corrections;
+mod of_edits;
 mod of_files;
 mod of_narrow_writers;
 mod of_pings;

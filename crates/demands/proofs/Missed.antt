@@ -60,11 +60,11 @@ module _ (o : Bool) (f : List ℕ) (p : ℕ) where
   module _ (x : Tup) (xs : List Tup) (w : Course) (e : drop (w .at) f ≡ frame o x ++ frames o xs) (a : AllSound o (x ∷ xs))
       (l : Linked (eqb (w .count) 0) (w .links) (digests o (x ∷ xs))) where
     -- the turn, by whether the tuple is the end of file
-    turn-past : turn o f w ≡ onward f (past o w x (lengthOf x)) (digest o x .ends)
+    turn-past : turn o f w ≡ onward (length f) (past o w x (lengthOf x)) (digest o x .ends)
     turn-past =
         let j = linked-here l in
         let v = parts-judged o w x (record { signing = j .0; head = a .0 .head; linking = j .1; inner = a .0 .inner }) in
-        whole-turn o f x (frames o xs) w e (a .0 .framed) ∙ ap (after o f w x (lengthOf x)) v
+        whole-turn o f x (frames o xs) w e (a .0 .framed) ∙ ap (after o (length f) w x (lengthOf x)) v
 
     left : drop (w .at + lengthOf x) f ≡ frames o xs
     left =
@@ -94,12 +94,12 @@ module _ (o : Bool) (f : List ℕ) (p : ℕ) where
     where
       by-end : Behind k x xs w v → (w .at ≡ p → ⊥) → (b : Bool) → digest o x .ends ≡ b → Spot (w .at) (x ∷ xs)
       by-end behind ne true h =
-          let s = ending f (past o w x (lengthOf x)) in
-          let t = to-end k o f p w ne s (turn-past x xs w e a l ∙ ap (onward f (past o w x (lengthOf x))) h) in
+          let s = ending (length f) (past o w x (lengthOf x)) in
+          let t = to-end k o f p w ne s (turn-past x xs w e a l ∙ ap (onward (length f) (past o w x (lengthOf x))) h) in
           absurd (let z : _≡_ {A = ℕ} 0 1 = cc (t, q) in omega arith)
       by-end behind ne false h =
           let w⁺ = past o w x (lengthOf x) in
-          let t = to-next k o f p w ne w⁺ (turn-past x xs w e a l ∙ ap (onward f w⁺) h) in
+          let t = to-next k o f p w ne w⁺ (turn-past x xs w e a l ∙ ap (onward (length f) w⁺) h) in
           further (w .at) x xs (behind (left x xs w e a l) (rest x xs w e a l h) (sym t ∙ q))
 
       by : Behind k x xs w v → (b : Bool) → eqb (w .at) p ≡ b → Spot (w .at) (x ∷ xs)

@@ -84,8 +84,8 @@ module _ (o : Bool) (f : List ℕ) (t : Tup) (ys : List Tup) where
         let j = linked-here l in
         let v = parts-judged o w x (record { signing = j .0; head = a .head; linking = j .1; inner = a .inner }) in
         whole-turn o f x (frames o (xs ++ (t ∷ ys))) w e (a .framed)
-        ∙ ap (after o f w x (lengthOf x)) v
-        ∙ ap (onward f (past o w x (lengthOf x))) (linked-on l (some-left o xs t ys) .0)
+        ∙ ap (after o (length f) w x (lengthOf x)) v
+        ∙ ap (onward (length f) (past o w x (lengthOf x))) (linked-on l (some-left o xs t ys) .0)
 
     left : drop (w .at + lengthOf x) f ≡ frames o (xs ++ (t ∷ ys))
     left =

@@ -170,6 +170,17 @@ pub use normal::normalise;
 // at 4; 23, or 24 and 25, at their bytes; 15 for bytes behind it; 18; 19. Promise: `NormalisedTuple`, crates/normal/specs/Single.antt.
 pub use normal::normalise_tuple;
 
+// index(file, out): the file written anew with its index, the Index 1 tuple of TR Table 14, just before the end of file: each type of the
+// file's tuples outside the index class once, ascending; whatever tuples of the index class there were are dropped. append(file, bytes,
+// out): with the tuples of the bytes handed in put before it. remove(file, place, out): without the tuple at a place. Each hands back a
+// whole file in the file's own byte order. Each refuses as the check does; remove then by 3 at the place where no tuple starts there,
+// append by 1 at 0 where the bytes alone are over the limit; then with the code and the place that the check would give the result, before
+// anything is written; then by 19. Accepts with the tuples and the identifiers compared of the file handed in, and the bytes written.
+// Promises: `Indexed`, `Appended`, `Removed`, crates/edits/specs/Edits.antt; what a result holds: `Edits`, crates/edits/specs/Results.antt.
+pub use edits::append;
+pub use edits::index;
+pub use edits::remove;
+
 // salvage(file, out, table): what is kept of a damaged recording. From 4 on a tuple is looked for: behind a tuple that is kept, else 4
 // bytes further on. It is kept where 3, 5, 3, 6 hold of its frame and, if its type is listed, its own rules: 9, 8, 11, and 23 or 24, 25.
 // Links, classes and the order of tuples aren't judged. out gets the mark and the kept tuples as they stand; table gets three entries for

@@ -225,43 +225,43 @@ sound-fits {o} {f} {at} {n} {k} s =
     head-fits (s .here) (eqb k 65535) refl (both-left (headVerdict o (eqb k 65535) t) (innerVerdict o t) own)
 
 -- ---- what is told of its links where a tally stands, by its code
-module _ {o : Bool} {f : List ℕ} (w : Tally) (c : Tables) {n k : ℕ} (h : Here o f (w .at) n k) where
-  told : {l : Link} → digest o (tupIn o f (w .at)) .link ≡ l → linkTold o f w c ≡ linking (soundersBy w c) (channelsBy w c) l
+module _ {o : Bool} {f : List ℕ} {at : ℕ} (w : Tally) (c : Tables) {n k : ℕ} (h : Here o f at n k) where
+  told : {l : Link} → digest o (tupIn o f at) .link ≡ l → linkTold o (drop at f) w c ≡ linking (soundersBy w c) (channelsBy w c) l
   unfolding linkTold
   told e = ap (linking (soundersBy w c) (channelsBy w c)) e
 
   -- nothing links it
-  alone : digest o (tupIn o f (w .at)) .link ≡ Links.none → Linked 0 ≡ linkTold o f w c
+  alone : digest o (tupIn o f at) .link ≡ Links.none → Linked 0 ≡ linkTold o (drop at f) w c
   unfolding linking
   alone e = sym (told e)
 
   module _ (g : Fits n k) where
-    pub no-link : saysOf k ≡ says.Nothing → Linked 0 ≡ linkTold o f w c
+    pub no-link : saysOf k ≡ says.Nothing → Linked 0 ≡ linkTold o (drop at f) w c
     no-link e = alone (link-by h g e)
 
     pub sounder-told : {m : Maker} → saysOf k ≡ says.Sounder m
-        → linking (soundersBy w c) [] (Links.sounder (sounderAt o f (w .at) m)) ≡ linkTold o f w c
+        → linking (soundersBy w c) [] (Links.sounder (sounderAt o f at m)) ≡ linkTold o (drop at f) w c
     unfolding linking
     sounder-told e = sym (told (link-by h g e))
 
     pub channel-told : {m : Maker} → saysOf k ≡ says.Channel m
-        → linking (soundersBy w c) (channelsBy w c) (Links.channel (channelAt o f (w .at) m)) ≡ linkTold o f w c
+        → linking (soundersBy w c) (channelsBy w c) (Links.channel (channelAt o f at m)) ≡ linkTold o (drop at f) w c
     channel-told e = sym (told (link-by h g e))
 
-    pub attitude-all : saysOf k ≡ says.NamesOrAll → namedAt o f (w .at) .0 ≡ 65535 → Linked 0 ≡ linkTold o f w c
+    pub attitude-all : saysOf k ≡ says.NamesOrAll → namedAt o f at .0 ≡ 65535 → Linked 0 ≡ linkTold o (drop at f) w c
     attitude-all e d = alone (attitude h g e (eq-eqb _ _ d))
 
     -- what names a channel
-    named-told : digest o (tupIn o f (w .at)) .link ≡ Links.names (namedAt o f (w .at))
-        → linking [] (channelsBy w c) (Links.names (namedAt o f (w .at))) ≡ linkTold o f w c
+    named-told : digest o (tupIn o f at) .link ≡ Links.names (namedAt o f at)
+        → linking [] (channelsBy w c) (Links.names (namedAt o f at)) ≡ linkTold o (drop at f) w c
     unfolding linking
     named-told e = sym (told e)
 
-    pub attitude-one : saysOf k ≡ says.NamesOrAll → (namedAt o f (w .at) .0 ≡ 65535 → ⊥)
-        → linking [] (channelsBy w c) (Links.names (namedAt o f (w .at))) ≡ linkTold o f w c
+    pub attitude-one : saysOf k ≡ says.NamesOrAll → (namedAt o f at .0 ≡ 65535 → ⊥)
+        → linking [] (channelsBy w c) (Links.names (namedAt o f at)) ≡ linkTold o (drop at f) w c
     attitude-one e d = named-told (attitude h g e (ne-eqb _ _ d))
 
-    pub names-told : saysOf k ≡ says.Names → linking [] (channelsBy w c) (Links.names (namedAt o f (w .at))) ≡ linkTold o f w c
+    pub names-told : saysOf k ≡ says.Names → linking [] (channelsBy w c) (Links.names (namedAt o f at)) ≡ linkTold o (drop at f) w c
     names-told e = named-told (link-by h g e)
 
 -- ---- what is said of the bytes that are left, from the tuple's links on, from its head on, and from its frame on
@@ -283,46 +283,46 @@ module _ (o first : Bool) (ss : List Sounder) (cs : List Channel) (f : List ℕ)
   unfolding turnVerdict
   some-left low e = rw (ne-eqb (length (drop at f)) 0 (λ z. e (omega (arith, length-drop at f))))
 
--- ---- what is told where a tally stands, by the first of its verdicts that finds a fault, or by all of them
-module _ (o : Bool) (f : List ℕ) (w : Tally) (c : Tables) where
-  told-all : {v : Verdict} → v ≡ said o f w c → comparing v (comparesAt o f w c) ≡ turnTold o f w c
+-- ---- what is told where a tally stands and r is left, by the first of its verdicts that finds a fault, or by all of them
+module _ (o : Bool) (r : List ℕ) (w : Tally) (c : Tables) where
+  told-all : {v : Verdict} → v ≡ said o r w c → comparing v (comparesAt o r w c) ≡ turnTold o r w c
   unfolding turnTold
-  told-all e = ap (λ (v : Verdict). comparing v (comparesAt o f w c)) e
+  told-all e = ap (λ (v : Verdict). comparing v (comparesAt o r w c)) e
 
-  pub told-stop : {a b : ℕ} (v u : Verdict) → v ≡ Fault a b → both v u ≡ said o f w c → comparing v 0 ≡ turnTold o f w c
+  pub told-stop : {a b : ℕ} (v u : Verdict) → v ≡ Fault a b → both v u ≡ said o r w c → comparing v 0 ≡ turnTold o r w c
   told-stop v u e q = ap (λ (x : Verdict). comparing x 0) e ∙ told-all (ap (λ (x : Verdict). both x u) (sym e) ∙ q)
 
   abbrev linkSaid : Verdict
-  linkSaid = linkVerdict o (tupIn o f (w .at)) (soundersBy w c) (channelsBy w c)
+  linkSaid = linkVerdict o (tupAt o r) (soundersBy w c) (channelsBy w c)
 
   abbrev innerSaid : Verdict
-  innerSaid = innerVerdict o (tupIn o f (w .at))
+  innerSaid = innerVerdict o (tupAt o r)
 
-  link-told : linkTold o f w c ≡ comparing linkSaid (comparesAt o f w c)
+  link-told : linkTold o r w c ≡ comparing linkSaid (comparesAt o r w c)
   unfolding linkTold linking linkVerdict
   link-told = refl
 
-  module _ {r : LinkVerdict} (e : r ≡ linkTold o f w c) (q : both linkSaid innerSaid ≡ said o f w c) where
-    pub told-unlinked : {a b : ℕ} → r ≡ Faulty a b → r ≡ turnTold o f w c
+  module _ {x : LinkVerdict} (e : x ≡ linkTold o r w c) (q : both linkSaid innerSaid ≡ said o r w c) where
+    pub told-unlinked : {a b : ℕ} → x ≡ Faulty a b → x ≡ turnTold o r w c
     told-unlinked {a} {b} d =
-        let v = told-fault linkSaid (comparesAt o f w c) a b (sym (e ∙ link-told) ∙ d) in
-        d ∙ told-all (ap (λ (x : Verdict). both x innerSaid) (sym v) ∙ q)
+        let v = told-fault linkSaid (comparesAt o r w c) a b (sym (e ∙ link-told) ∙ d) in
+        d ∙ told-all (ap (λ (u : Verdict). both u innerSaid) (sym v) ∙ q)
 
-    module _ {n : ℕ} (d : r ≡ Linked n) where
-      pub told-linked : comparing innerSaid n ≡ turnTold o f w c
+    module _ {n : ℕ} (d : x ≡ Linked n) where
+      pub told-linked : comparing innerSaid n ≡ turnTold o r w c
       told-linked =
-          let v = told-fine linkSaid (comparesAt o f w c) n (sym (e ∙ link-told) ∙ d) in
-          ap (comparing innerSaid) (sym (v .1)) ∙ told-all (ap (λ (x : Verdict). both x innerSaid) (sym (v .0)) ∙ q)
+          let v = told-fine linkSaid (comparesAt o r w c) n (sym (e ∙ link-told) ∙ d) in
+          ap (comparing innerSaid) (sym (v .1)) ∙ told-all (ap (λ (u : Verdict). both u innerSaid) (sym (v .0)) ∙ q)
 
       -- of a tuple without samples
-      pub told-alone : innerSaid ≡ Fine → Linked n ≡ turnTold o f w c
+      pub told-alone : innerSaid ≡ Fine → Linked n ≡ turnTold o r w c
       told-alone i = ap (λ (x : Verdict). comparing x n) (sym i) ∙ told-linked
 
   -- what a turn is told, it says
-  pub turn-fine : {r : LinkVerdict} {n : ℕ} → r ≡ turnTold o f w c → r ≡ Linked n → (said o f w c ≡ Fine) × (comparesAt o f w c ≡ n)
+  pub turn-fine : {x : LinkVerdict} {n : ℕ} → x ≡ turnTold o r w c → x ≡ Linked n → (said o r w c ≡ Fine) × (comparesAt o r w c ≡ n)
   unfolding turnTold
-  turn-fine {n = n} e d = told-fine (said o f w c) (comparesAt o f w c) n (sym e ∙ d)
+  turn-fine {n = n} e d = told-fine (said o r w c) (comparesAt o r w c) n (sym e ∙ d)
 
-  pub turn-fault : {r : LinkVerdict} {a b : ℕ} → r ≡ turnTold o f w c → r ≡ Faulty a b → said o f w c ≡ Fault a b
+  pub turn-fault : {x : LinkVerdict} {a b : ℕ} → x ≡ turnTold o r w c → x ≡ Faulty a b → said o r w c ≡ Fault a b
   unfolding turnTold
-  turn-fault {a = a} {b = b} e d = told-fault (said o f w c) (comparesAt o f w c) a b (sym e ∙ d)
+  turn-fault {a = a} {b = b} e d = told-fault (said o r w c) (comparesAt o r w c) a b (sym e ∙ d)

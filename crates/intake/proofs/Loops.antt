@@ -80,12 +80,13 @@ module _ (o : Bool) (f : List ℕ) (w : Course) (low : w .at ≤ length f) where
   Tells (go v) = Told × (v .at ≡ next) × (v .links ≡ note (w .links) (digest o here))
 
   -- an acceptance leaves no byte behind the tuple
-  ends : SoundAt o f (w .at) → (n : Counts) → ending f (past o w (tupAt o (drop (w .at) f)) (lenAt o (drop (w .at) f))) ≡ Accepted n
+  ends : SoundAt o f (w .at) → (n : Counts)
+      → ending (length f) (past o w (tupAt o (drop (w .at) f)) (lenAt o (drop (w .at) f))) ≡ Accepted n
       → next ≡ length f
   unfolding ending
   ends s n e =
       let w⁺ = past o w (tupAt o (drop (w .at) f)) (lenAt o (drop (w .at) f)) in
-      let c = clear isAccepted (endRules f w⁺) (Accepted (countsOf w⁺)) (Accepted n) (refl, (refl, (refl, tt))) e refl in
+      let c = clear isAccepted (endRules (length f) w⁺) (Accepted (countsOf w⁺)) (Accepted n) (refl, (refl, (refl, tt))) e refl in
       let done : length f ≤ next = ltb-false next (length f) (c .0 .0) in
       omega (arith, framing-whole o f (w .at) (s .here .framed) .fits)
 
@@ -98,15 +99,16 @@ module _ (o : Bool) (f : List ℕ) (w : Course) (low : w .at ≤ length f) where
       t : Tup
       t = tupAt o r
 
-      by-ending : Told → (a : Answer) → ending f (past o w t (lenAt o r)) ≡ a → EndTells a
+      by-ending : Told → (a : Answer) → ending (length f) (past o w t (lenAt o r)) ≡ a → EndTells a
       by-ending s (Refused c p) e = tt
       by-ending s (Accepted n) e = (s, ends (s .0) n e)
 
-      by-end : Told → (b : Bool) → Tells (onward f (past o w t (lenAt o r)) b)
-      by-end s true = by-ending s (ending f (past o w t (lenAt o r))) refl
+      by-end : Told → (b : Bool) → Tells (onward (length f) (past o w t (lenAt o r)) b)
+      by-end s true = by-ending s (ending (length f) (past o w t (lenAt o r))) refl
       by-end s false = (s, refl, refl)
 
-      by-verdict : (v : Verdict) → both (both (emptied r) (framing o r)) (judgement o w t) ≡ v → Tells (after o f w t (lenAt o r) v)
+      by-verdict : (v : Verdict) → both (both (emptied r) (framing o r)) (judgement o w t) ≡ v
+          → Tells (after o (length f) w t (lenAt o r) v)
       by-verdict (Fault c p) e = tt
       by-verdict Fine e =
           let g = both-right (emptied r) (framing o r) (both-left (both (emptied r) (framing o r)) (judgement o w t) e) in

@@ -37,7 +37,7 @@ use Rattle.intake.specs.Asking.{noChannel, channelNth, channelFor, sound
 use Rattle.intake.specs.inner.Tallies.{Tables, Sized, courseOf, Standing, pingAt, namedAt, askWhere, AskIn}
 use Rattle.intake.proofs.Asks.{Fair}
 
-module _ (o : Bool) (f : List ℕ) (w : Tally) (c : Tables) (s : Standing f w) (l : Sized c) (g : Fair o f (courseOf w c))
+module _ (o : Bool) (f : List ℕ) (w : Tally) (c : Tables) (s : Standing w) (l : Sized c) (g : Fair o f (courseOf w c))
     (h : Steady (courseOf w c .links)) where
   at : ℕ
   at = w .at

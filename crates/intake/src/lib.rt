@@ -17,15 +17,15 @@ use links::Sounder;
 ghost use mathlib.Core.Path.{_≡_};
 ghost use Prim.Native.Nat.{_+_, _^_, _<_, _≤_};
 ghost use lib.ListN.{length, drop};
-ghost use mathlib.Core.Bool.{_&&_, _||_};
+ghost use mathlib.Core.Bool.{true, _&&_, _||_};
 ghost use Rattle.layout.specs.Types;
 ghost use Rattle.layout.specs.Types.{inClass, isPing};
-ghost use Rattle.frame.specs.Frames.{tupAt};
+ghost use Rattle.frame.specs.Frames.{tupAt, allowed};
 ghost use Rattle.frame.specs.Files.{limit};
 ghost use Rattle.links.specs.Links.{mostChannels, Steady};
 ghost use Rattle.intake.specs.inner.Tallies.{Here, Fits, headVerdict, innerVerdict, ownVerdict, sounderAt, channelAt, namedAt};
 ghost use Rattle.intake.specs.inner.Tallies.{linkTold, turnTold, tallyBegin, tallyPast, Standing, Held, Tables, tables, Sized};
-ghost use Rattle.intake.specs.inner.Tallies.{courseOf, TurnedTo, RunTo, AskIn, askWhere};
+ghost use Rattle.intake.specs.inner.Tallies.{courseOf, TurnedTo, PassedIndex, RunTo, AskIn, askWhere};
 ghost use Rattle.intake.specs.Alone.{alone};
 ghost use Rattle.intake.specs.Check.{checkFile, ending, Checked};
 ghost use Rattle.intake.specs.Asking.{AskedFor, askAccepted};
@@ -66,23 +66,23 @@ pub enum Asked {
     },
 }
 
-// Where the check stands: its place, the tuples counted, the identifiers compared, the sounders and the channels declared, the row
-// where the next channel is looked for first, the classes seen.
-struct Tally {
-    at: usize,
-    count: usize,
-    compared: usize,
-    sounders: usize,
-    channels: usize,
-    near: usize,
-    position: bool,
-    sounder: bool,
-    channel: bool,
-    ping: bool,
+// Where the check stands: its place in the file, the tuples counted, the identifiers compared, the sounders and the channels declared,
+// the row where the next channel is looked for first, the classes seen.
+pub struct Tally {
+    pub at: usize,
+    pub count: usize,
+    pub compared: usize,
+    pub sounders: usize,
+    pub channels: usize,
+    pub near: usize,
+    pub position: bool,
+    pub sounder: bool,
+    pub channel: bool,
+    pub ping: bool,
 }
 
 // A turn takes the tally past a tuple, or ends the check.
-enum Turned {
+pub enum Turned {
     On(Tally),
     Done(Answer),
 }
@@ -149,9 +149,10 @@ pub fn named_at(file: &[u8], at: usize, msb: bool) -> SoftwareChannel
     SoftwareChannel(order::read2(file, at + NAMED_CHANNEL, msb))
 }
 
-// 12, 14 and 13, of the tuple where the tally stands.
+// 12, 14 and 13, of the tuple where the tally stands, which is this place of a part of the file.
 fn judge_links(
-    file: &[u8],
+    part: &[u8],
+    from: usize,
     msb: bool,
     w: Tally,
     whole: usize,
@@ -160,32 +161,38 @@ fn judge_links(
     channels: &[Row],
     notes: &[u16],
 ) -> LinkVerdict
-    requires { ⌜ Here msb (now file) (w .at) whole code ⌝ }
+    requires { ⌜ Here msb (now part) from whole code ⌝ }
     requires { ⌜ Fits whole code ⌝ }
     requires { ⌜ Held w (tables (now sounders) (now channels)) ⌝ }
     requires { ⌜ mostChannels ≤ length (now notes) ⌝ }
-    ensures { λ r. ⌜ r ≡ linkTold msb (now (file .entry)) w (tables (now (sounders .entry)) (now (channels .entry))) ⌝ }
+    ensures { λ r. ⌜ r ≡ linkTold msb (drop from (now (part .entry))) w
+        (tables (now (sounders .entry)) (now (channels .entry))) ⌝ }
 {
-    let at = w.at;
     match layout::says_of(code) {
         Says::Nothing => LinkVerdict::Linked { compared: 0 },
         Says::Sounder(maker) => {
-            let it = sounder_at(file, at, msb, maker);
+            let it = sounder_at(part, from, msb, maker);
             links::judge_sounder(sounders, w.sounders, it)
         }
         Says::Channel(maker) => {
-            let it = channel_at(file, at, msb, maker);
+            let it = channel_at(part, from, msb, maker);
             links::judge_channel(sounders, w.sounders, channels, w.channels, it)
         }
         Says::NamesOrAll => {
-            let id = named_at(file, at, msb);
+            let id = named_at(part, from, msb);
             if id.0 == ALL_CHANNELS {
                 return LinkVerdict::Linked { compared: 0 };
             }
             links::judge_name(channels, w.channels, id, w.near, notes)
         }
         Says::Names => {
-            links::judge_name(channels, w.channels, named_at(file, at, msb), w.near, notes)
+            links::judge_name(
+                channels,
+                w.channels,
+                named_at(part, from, msb),
+                w.near,
+                notes,
+            )
         }
     }
 }
@@ -224,35 +231,37 @@ fn judge_inner(file: &[u8], at: usize, msb: bool, whole: usize, code: u16) -> Ve
     }
 }
 
-// What the rules say of the tuple where the tally stands: 4; 3, 5, 3, 6; 7; 9, 8; 12, 14, 13; 11; 23, or 24 and 25.
+// What the rules say of the tuple where the tally stands, which is this place of a part of the file: 4; 3, 5, 3, 6; 7; 9, 8; 12, 14,
+// 13; 11; 23, or 24 and 25.
 fn judge(
-    file: &[u8],
+    part: &[u8],
+    from: usize,
     msb: bool,
     w: Tally,
     sounders: &[Row],
     channels: &[Row],
     notes: &[u16],
 ) -> LinkVerdict
-    requires { ⌜ w .at ≤ length (now file) ⌝ }
+    requires { ⌜ from ≤ length (now part) ⌝ }
     requires { ⌜ Held w (tables (now sounders) (now channels)) ⌝ }
     requires { ⌜ mostChannels ≤ length (now notes) ⌝ }
-    ensures { λ r. ⌜ r ≡ turnTold msb (now (file .entry)) w (tables (now (sounders .entry)) (now (channels .entry))) ⌝ }
+    ensures { λ r. ⌜ r ≡ turnTold msb (drop from (now (part .entry))) w
+        (tables (now (sounders .entry)) (now (channels .entry))) ⌝ }
 {
-    let at = w.at;
-    if file.len() == at {
+    if part.len() == from {
         return links::comparing(layout::fault(codes::NO_END), 0);
     }
-    let framed = frame::judge_frame(file, at, msb);
+    let framed = frame::judge_frame(part, from, msb);
     let Verdict::Fine = framed else {
         return links::comparing(framed, 0);
     };
-    let whole = frame::length_at(file, at, msb);
-    let code = frame::kind_at(file, at, msb);
-    let headed = judge_head(file, at, msb, whole, code, w.count == 0);
+    let whole = frame::length_at(part, from, msb);
+    let code = frame::kind_at(part, from, msb);
+    let headed = judge_head(part, from, msb, whole, code, w.count == 0);
     let Verdict::Fine = headed else {
         return links::comparing(headed, 0);
     };
-    let linked = judge_links(file, msb, w, whole, code, sounders, channels, notes);
+    let linked = judge_links(part, from, msb, w, whole, code, sounders, channels, notes);
     let LinkVerdict::Linked { compared } = linked else {
         return linked;
     };
@@ -260,7 +269,7 @@ fn judge(
     if !is_ping(code) {
         return linked;
     }
-    links::comparing(judge_inner(file, at, msb, whole, code), compared)
+    links::comparing(judge_inner(part, from, msb, whole, code), compared)
 }
 
 // A tuple's own rules, whatever stands before it: 9 and 8, then those of its samples. A signature that stands first breaks no 7.
@@ -306,7 +315,7 @@ fn nearer(near: usize, compared: usize) -> usize {
 
 impl Tally {
     // Behind the mark.
-    fn begin() -> Tally
+    pub fn begin() -> Tally
         ensures { λ r. ⌜ r ≡ tallyBegin ⌝ }
     {
         Tally {
@@ -357,19 +366,18 @@ impl Tally {
     }
 }
 
-// 15, 16 and 17, behind the end of file.
-fn end(file: &[u8], w: Tally, sounders: &[Row], channels: &[Row]) -> Answer
+// 15, 16 and 17, behind the end of file, in a file of so many bytes.
+fn end(total: usize, w: Tally, sounders: &[Row], channels: &[Row]) -> Answer
     requires { ⌜ w .sounders ≤ length (now sounders) ⌝ }
     requires { ⌜ w .channels ≤ length (now channels) ⌝ }
-    ensures { λ r. ⌜ r ≡ ending (now (file .entry)) (courseOf w (tables (now (sounders .entry)) (now (channels .entry)))) ⌝ }
+    ensures { λ r. ⌜ r ≡ ending total (courseOf w (tables (now (sounders .entry)) (now (channels .entry)))) ⌝ }
 {
     let at = w.at;
-    let n = file.len();
-    if at < n {
+    if at < total {
         return layout::refuse(codes::BEHIND_END, at);
     }
     if !w.complete() {
-        return layout::refuse(codes::CLASS_ABSENT, n);
+        return layout::refuse(codes::CLASS_ABSENT, total);
     }
     let wrong = links::first_wrong(sounders, w.sounders, channels, w.channels);
     if wrong < w.sounders {
@@ -394,34 +402,38 @@ fn may_declare(code: u16) -> bool
     )
 }
 
-// One turn: the tuple where the tally stands is judged, its declaration is kept, and the tally passes it.
-fn turn(
-    file: &[u8],
+// One turn, in a file of so many bytes in all: the tuple where the tally stands, which is this place of a part of the file, is judged,
+// its declaration is kept with its place in the file, and the tally passes it.
+pub fn turn(
+    part: &[u8],
+    from: usize,
+    total: usize,
     msb: bool,
     w: Tally,
     sounders: &mut [Row; SOUNDERS],
     channels: &mut [Row; CHANNELS],
     notes: &mut [u16; CHANNELS],
 ) -> Turned
-    requires { ⌜ Standing (now file) w ⌝ }
+    requires { ⌜ Standing w ⌝ }
     requires { ⌜ Steady (courseOf w (tables (now sounders) (now channels)) .links) ⌝ }
-    requires { ⌜ length (now file) ≤ limit ⌝ }
+    requires { ⌜ w .at ≤ limit ⌝ }
+    requires { ⌜ from ≤ length (now part) ⌝ }
     requires { ⌜ Sized (tables (now sounders) (now channels)) ⌝ }
-    ensures { λ r. ⌜ TurnedTo msb (now (file .entry)) w
+    ensures { λ r. ⌜ TurnedTo msb total (drop from (now (part .entry))) w
         (tables (now (sounders .entry)) (now (channels .entry)))
         r
         (tables (now (sounders .exit)) (now (channels .exit))) ⌝ }
 {
     let at = w.at;
-    match judge(file, msb, w, sounders, channels, notes) {
+    match judge(part, from, msb, w, sounders, channels, notes) {
         LinkVerdict::Faulty { code, offset } => Turned::Done(layout::refuse(code, at + offset)),
         LinkVerdict::Linked { compared } => {
-            let whole = frame::length_at(file, at, msb);
-            let code = frame::kind_at(file, at, msb);
+            let whole = frame::length_at(part, from, msb);
+            let code = frame::kind_at(part, from, msb);
             let mut next = w.past(whole, code, compared);
             if !may_declare(code) {
                 if code == types::FILE_END {
-                    return Turned::Done(end(file, next, sounders, channels));
+                    return Turned::Done(end(total, next, sounders, channels));
                 }
                 return Turned::On(next);
             }
@@ -430,13 +442,13 @@ fn turn(
                 Says::Names => Turned::On(next),
                 Says::NamesOrAll => Turned::On(next),
                 Says::Sounder(maker) => {
-                    let it = sounder_at(file, at, msb, maker);
+                    let it = sounder_at(part, from, msb, maker);
                     links::put_sounder(sounders, w.sounders, it, at);
                     next.sounders = w.sounders + 1;
                     Turned::On(next)
                 }
                 Says::Channel(maker) => {
-                    let it = channel_at(file, at, msb, maker);
+                    let it = channel_at(part, from, msb, maker);
                     links::put_channel(channels, w.channels, it, at);
                     links::note_row(notes, it.id, w.channels);
                     next.channels = w.channels + 1;
@@ -444,6 +456,28 @@ fn turn(
                 }
             }
         }
+    }
+}
+
+// The turn over a tuple of the index class, of so many bytes, that stands in no part: it is counted, and declares nothing.
+pub fn pass_index(w: Tally, whole: usize) -> Tally
+    requires { ⌜ Standing w ⌝ }
+    requires { ⌜ 0 < w .count ⌝ }
+    requires { ⌜ w .at ≤ limit ⌝ }
+    requires { ⌜ allowed whole ≡ true ⌝ }
+    ensures { λ r. ⌜ PassedIndex w whole r ⌝ }
+{
+    Tally {
+        at: w.at + whole,
+        count: w.count + 1,
+        compared: w.compared,
+        sounders: w.sounders,
+        channels: w.channels,
+        near: w.near,
+        position: w.position,
+        sounder: w.sounder,
+        channel: w.channel,
+        ping: w.ping,
     }
 }
 
@@ -464,7 +498,7 @@ fn run(
 {
     let mut w = Tally::begin();
     while w.at != until {
-        match turn(file, msb, w, sounders, channels, notes) {
+        match turn(file, w.at, file.len(), msb, w, sounders, channels, notes) {
             Turned::On(next) => {
                 w = next;
             }

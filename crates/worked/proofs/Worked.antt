@@ -21,7 +21,7 @@ use Rattle.links.specs.Links.{has, declaredOwn, comparedIn, naming, firstWrong}
 use Rattle.content.specs.Pings.{partIn, wordsIn, attributeIn, countIn, contentU, contentC, dataU, dataC}
 use Rattle.content.specs.Items.{itemOf, digestOf}
 use Rattle.content.specs.Forms.{packs, pingForm, formOf}
-use Rattle.intake.specs.Check.{ending, turn, checkFrom, checkFile}
+use Rattle.intake.specs.Check.{ending, turnOn, turn, checkFrom, checkFile}
 use Rattle.normal.specs.Contents.{items, contentOf, normalTuples, formed, normalOf}
 use Rattle.normal.specs.Normaliser.{firstUnlisted, normalAnswer}
 use Rattle.normal.specs.Single.{singleForm, singleAnswer}
@@ -35,7 +35,7 @@ use Rattle.worked.specs.Cruise.{lsb, lsbOtherCut, msb, msbOtherCut, norm
 -- every line of the table holds
 pub worked : allHold table ≡ true
 unfolding table allHold holds readAnswer sampleAnswer normalFile normalTuple linesOf allDigits bytesIn inputFrom hex decimals normalAnswer
-    singleForm singleAnswer firstUnlisted items contentOf normalTuples formed normalOf ending turn checkFrom checkFile packs pingForm
+    singleForm singleAnswer firstUnlisted items contentOf normalTuples formed normalOf ending turnOn turn checkFrom checkFile packs pingForm
     formOf itemOf
     digestOf partIn wordsIn attributeIn countIn contentU contentC dataU dataC has naming firstWrong words allWords unwords joined parted
     samples allSamples unsampled spaced magnitude countOf shortened codeOf meant wordFor samplesIn wordsFor front hasSpace heldWords isRun
@@ -52,8 +52,8 @@ variants = lsb ∷ lsbOtherCut ∷ msb ∷ msbOtherCut ∷ []
 -- each variant is accepted: six tuples, of which the channel compares one identifier and the ping another
 pub accepted : map (λ (v : List String). checkFile (fileOf v)) variants ≡ map (λ (v : List String). Accepted (counting 6 0 2)) variants
 unfolding lsb lsbOtherCut msb msbOtherCut normalFile normalTuple linesOf allDigits bytesIn inputFrom hex decimals normalAnswer singleForm
-    singleAnswer firstUnlisted items contentOf normalTuples formed normalOf ending turn checkFrom checkFile packs pingForm formOf itemOf
-    digestOf partIn wordsIn
+    singleAnswer firstUnlisted items contentOf normalTuples formed normalOf ending turnOn turn checkFrom checkFile packs pingForm formOf
+    itemOf digestOf partIn wordsIn
     attributeIn countIn contentU contentC dataU dataC has comparedIn naming firstWrong words allWords unwords joined parted
     samples allSamples unsampled spaced magnitude countOf shortened codeOf meant wordFor samplesIn wordsFor front hasSpace heldWords isRun
     runLength decodeFrom samplesFrom endsFrom pingLength lastRun gap encodeFrom behind fewest isBad values firstBad firstDrop
@@ -66,7 +66,7 @@ accepted = refl
 pub one-form : map (λ (v : List String). normalFile (text v)) (normal ∷ variants)
     ≡ text normal ∷ text normal ∷ text normal ∷ text normal ∷ text normal ∷ []
 unfolding normal lsb lsbOtherCut msb msbOtherCut normalFile normalTuple linesOf allDigits bytesIn inputFrom hex decimals normalAnswer
-    singleForm singleAnswer firstUnlisted items contentOf normalTuples formed normalOf ending turn checkFrom checkFile packs pingForm
+    singleForm singleAnswer firstUnlisted items contentOf normalTuples formed normalOf ending turnOn turn checkFrom checkFile packs pingForm
     formOf itemOf
     digestOf partIn wordsIn attributeIn countIn contentU contentC dataU dataC has naming firstWrong words allWords unwords joined parted
     samples allSamples unsampled spaced magnitude countOf shortened codeOf meant wordFor samplesIn wordsFor front hasSpace heldWords isRun

@@ -311,7 +311,7 @@ fn corrections(rng: &mut Rng, recipe: &Recipe, known: &[Question]) -> Sheet {
 
 /// The file's bytes in a style; where it is to be refused, with a fault made by rule, or in
 /// its place noise or nothing.
-fn bytes_of(rng: &mut Rng, drafts: Vec<Draft>, style: &Style, refused: bool) -> Vec<u8> {
+pub(super) fn bytes_of(rng: &mut Rng, drafts: Vec<Draft>, style: &Style, refused: bool) -> Vec<u8> {
     if !refused {
         return render(&drafts, style, rng).bytes;
     }

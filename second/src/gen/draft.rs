@@ -596,7 +596,7 @@ fn cut_words(
 }
 
 /// An index-class tuple with anything in it.
-fn index_tuple(rng: &mut Rng) -> Draft {
+pub(super) fn index_tuple(rng: &mut Rng) -> Draft {
     let code = rng.pick(&[65406, 65407, 65450, 65514, 65515]);
     let data = rng.index(6) * 4 + 6;
     let data = rng.bytes(data);

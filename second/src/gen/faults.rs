@@ -201,13 +201,13 @@ fn number(piece: &Piece) -> u32 {
 }
 
 /// The identifier of a sounder, and whose it is.
-type Document = (u32, Maker);
+pub(super) type Document = (u32, Maker);
 
 /// The same of a channel.
-type Software = (u16, Maker);
+pub(super) type Software = (u16, Maker);
 
 /// Documents and channels declared by some drafts.
-fn declared(drafts: &[Draft]) -> (Vec<Document>, Vec<Software>) {
+pub(super) fn declared(drafts: &[Draft]) -> (Vec<Document>, Vec<Software>) {
     let (mut documents, mut channels) = (Vec::new(), Vec::new());
     for draft in drafts {
         if let Body::Fields(pieces) = &draft.body {
@@ -222,7 +222,7 @@ fn declared(drafts: &[Draft]) -> (Vec<Document>, Vec<Software>) {
     (documents, channels)
 }
 
-fn unused_document(rng: &mut Rng, used: &[Document]) -> u32 {
+pub(super) fn unused_document(rng: &mut Rng, used: &[Document]) -> u32 {
     loop {
         let id = rng.four();
         if !used.iter().any(|(used, _)| *used == id) {
@@ -232,7 +232,7 @@ fn unused_document(rng: &mut Rng, used: &[Document]) -> u32 {
 }
 
 /// An undeclared channel; often one that is a transceiver number.
-fn unused_channel(rng: &mut Rng, used: &[Software]) -> u16 {
+pub(super) fn unused_channel(rng: &mut Rng, used: &[Software]) -> u16 {
     loop {
         let id = if rng.chance(50) {
             rng.pick(&SMALL_IDS)
@@ -246,7 +246,7 @@ fn unused_channel(rng: &mut Rng, used: &[Software]) -> u16 {
 }
 
 /// A data size whose whole length isn't allowed.
-fn bad_size(rng: &mut Rng) -> u32 {
+pub(super) fn bad_size(rng: &mut Rng) -> u32 {
     match rng.below(3) {
         0 => rng.pick(&[0, 1, 2, 3, 4, 5, 7, 8, 9, 262_135, 262_138, 262_142]),
         1 => rng.pick(&[u32::MAX, u32::MAX - 9, u32::MAX - 5, 1 << 31, 16_777_206]),
@@ -698,6 +698,20 @@ fn spoil(drafts: &mut Vec<Draft>, at: usize, kind: Kind, rng: &mut Rng) -> Optio
             Some((set_in(drafts, at, more), at_tuple(14)))
         }
         _ => None,
+    }
+}
+
+/// Tuples that break a rule of the check where they stand behind these of a sound file, before
+/// its end of file; or an end of file with a broken frame.
+pub(super) fn spoilt_behind(rng: &mut Rng, drafts: &[Draft]) -> Vec<Draft> {
+    let end = drafts.len() - 1;
+    loop {
+        let kind = any_local(rng);
+        let mut spoilt = drafts.to_vec();
+        if spoil(&mut spoilt, end, kind, rng).is_some() {
+            let more = (spoilt.len() - drafts.len()).max(1);
+            return spoilt[end..end + more].to_vec();
+        }
     }
 }
 

@@ -8,6 +8,9 @@ use super::{Case, Rng};
 use crate::kinds::{Family, PingKind};
 use crate::order::Order;
 
+/// The most bytes of a file.
+pub(super) const FILE_LIMIT: usize = 16_777_216;
+
 /// The smallest sound file's drafts, with one sounder and one channel, both
 /// numbered 1, and a silent ping. Others are set in before the end of file.
 fn base(rng: &mut Rng) -> Vec<Draft> {
@@ -644,7 +647,7 @@ pub fn big_limit_count() -> usize {
 /// A limit case of 8 to 16 MiB: files at and past the limit, and files whose
 /// normal form is at it or past it (the check accepts these two).
 pub fn big_limit(nth: usize) -> Case {
-    const LIMIT: usize = 16_777_216;
+    const LIMIT: usize = FILE_LIMIT;
     let (name, order, bytes, code) = match nth {
         0 => ("at", Order::Lsb, filled(Order::Lsb, LIMIT), 0),
         1 => ("at", Order::Msb, filled(Order::Msb, LIMIT), 0),
@@ -689,7 +692,7 @@ fn fill(rng: &mut Rng, drafts: &mut Vec<Draft>, length: usize) {
 }
 
 /// A file of event markers, exactly so long.
-fn filled(order: Order, length: usize) -> Vec<u8> {
+pub(super) fn filled(order: Order, length: usize) -> Vec<u8> {
     let mut rng = Rng::new(length as u64);
     let mut drafts = base(&mut rng);
     fill(&mut rng, &mut drafts, length);

@@ -217,7 +217,8 @@ fn suits(code: u64, length: u64) -> bool {
     }
 }
 
-fn frame_faults(file: &File, at: usize) -> Faults {
+/// All faults of the frame of the tuple at a place, as far as they can be looked for.
+pub fn frame_faults(file: &File, at: usize) -> Faults {
     let mut faults = Faults::new();
     let left = (file.bytes.len() - at) as u64;
     let length = file.number(at, 4) + 10;

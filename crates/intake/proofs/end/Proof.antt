@@ -24,12 +24,12 @@ abbrev course : tie.Start → Course
 course s = courseOf (s .args .w) (tables (s .args .sounders .now) (s .args .channels .now))
 
 abbrev Past : ℕ → tie.Start → Type 0
-Past k s = Passed k (endRules (s .args .file .now) (course s)) (Accepted (countsOf (course s)))
+Past k s = Passed k (endRules (s .args .total) (course s)) (Accepted (countsOf (course s)))
 
 returns : tie.Need-returns
 returns c = c .refuse .ensures ∙ ends _ _ (here (lt-ltb _ _ (c .before .if1 .taken)))
 
-past1 : (c : tie.Else1) → Past 1 (c .before .before)
+past1 : (c : tie.Else1) → Past 1 (c .before)
 past1 c x p = pass (le-ltb _ _ (c .if1 .left)) p
 
 returns-2 : tie.Need-returns-2
@@ -37,21 +37,21 @@ returns-2 c =
     let d = c .before .before in
     c .refuse2 .ensures ∙ ends _ _ (past1 (d .before) _ (here (ap not (sym (d .complete .ensures)) ∙ c .before .if2 .taken)))
 
-past2 : (c : tie.Else2) → Past 2 (c .before .before .before .before)
+past2 : (c : tie.Else2) → Past 2 (c .before .before .before)
 past2 c x p = past1 (c .before .before) _ (pass (ap not (sym (c .before .complete .ensures)) ∙ c .if2 .left) p)
 
 -- the test of the counts, as the code made it
-tested : (c : tie.After-first-wrong) → let s = c .before .before .before .before .before in
+tested : (c : tie.After-first-wrong) → let s = c .before .before .before .before in
     counted (course s .links) ≡ leb (s .args .w .sounders) (c .first-wrong .result)
 tested c =
-    let s = c .before .before .before .before .before in
+    let s = c .before .before .before .before in
     rw (c .first-wrong .ensures, rows-length sounderOf (s .args .sounders .now) (s .args .w .sounders) (s .pre .0))
 
 returns-3 : tie.Need-returns-3
 returns-3 c =
     let t = c .before .before .before in
     let f = t .before .before in
-    let s = f .before .before .before .before .before in
+    let s = f .before .before .before .before in
     let p = c .before .wide .ensures
     ∙ sym (rows-at tupleOf (s .args .sounders .now) (s .args .w .sounders) _ [] (t .if3 .taken))
     ∙ ap (λ (y : ℕ). getD (course s .sounders) y 0) (f .first-wrong .ensures) in

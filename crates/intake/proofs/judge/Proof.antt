@@ -30,7 +30,7 @@ held s = tables (s .args .sounders .now) (s .args .channels .now)
 abbrev said : tie.Start → (Bool → Bool → List Sounder → List Channel → List ℕ → Verdict) → Verdict
 said s by =
     let a = s .args in
-    by (a .msb) (eqb (a .w .count) 0) (soundersBy (a .w) (held s)) (channelsBy (a .w) (held s)) (drop (a .w .at) (a .file .now))
+    by (a .msb) (eqb (a .w .count) 0) (soundersBy (a .w) (held s)) (channelsBy (a .w) (held s)) (drop (a .from) (a .part .now))
 
 returns : tie.Need-returns
 returns c =
@@ -54,7 +54,7 @@ returns-2 c =
 
 -- a tuple is found, and what is said from its head on is said of all
 found : (c : tie.After-enum-told) → let a = begun c .args in
-    let r = drop (a .w .at) (a .file .now) in Here (a .msb) (a .file .now) (a .w .at) (lenAt (a .msb) r) (kindAt (a .msb) r)
+    let r = drop (a .from) (a .part .now) in Here (a .msb) (a .part .now) (a .from) (lenAt (a .msb) r) (kindAt (a .msb) r)
 found c = record { framed = sym (c .before .before .judge-frame .ensures) ∙ c .enum-told .given .1; size = refl; kind = refl }
 
 past-frame : (c : tie.After-enum-told) →
@@ -65,7 +65,7 @@ past-frame c = let j = c .before .before in rw (← past-end (j .before), ← j 
 
 -- its length and its type code are read
 here : (c : tie.After-kind-at) → let a = begun (c .before .before) .args in
-    Here (a .msb) (a .file .now) (a .w .at) (c .before .length-at .result) (c .kind-at .result)
+    Here (a .msb) (a .part .now) (a .from) (c .before .length-at .result) (c .kind-at .result)
 here c = record { framed = found (c .before .before) .framed; size = sym (c .before .length-at .ensures); kind = sym (c .kind-at .ensures) }
 
 abbrev start : tie.After-judge-head → tie.Start

@@ -20,7 +20,7 @@ said c e = sym (c .says-of .ensures) ∙ e
 
 -- the channel that an attitude names
 named : (c : tie.After-named-at) → let a = start (c .before .before .before) .args in
-    c .named-at .result .0 ≡ namedAt (a .msb) (a .file .now) (a .w .at) .0
+    c .named-at .result .0 ≡ namedAt (a .msb) (a .part .now) (a .from) .0
 named c = ap (λ (x : SoftwareChannel). x .0) (c .named-at .ensures)
 
 returns : tie.Need-returns

@@ -1,6 +1,7 @@
 -- `intake::run` meets its contract: what is still to come of the turns is the whole answer (`Running`). Assumes nothing.
 use Prim.Native.Nat.{_-_}
 use lib.ListN.{length}
+use native.Mathlib.Omega.{arith}
 use borrow.Author.Needs.{needs}
 use Rattle.intake.specs.inner.Tallies.{tables}
 use Rattle.intake.proofs.Runs.{Running, running-begin, running-there, running-again, running-less, running-done}
@@ -21,7 +22,8 @@ loop-holds c = let p = c .before .before .pre in running-begin _ _ _ _ _ (p .0) 
 turn-requires : tie.Need-turn-requires Inv-loop μ-loop
 turn-requires c κs = let l = c .before .before .before .before .before in
     let g = l .loop .inv in
-    (g .standing, (g .steady, (l .before .before .before .pre .1 .0, g .sized)))
+    let small = l .before .before .before .pre .1 .0 in
+    (g .standing, (g .steady, (omega (arith, g .going .within, small), (g .going .within, g .sized))))
 
 -- where the turn began
 abbrev begun : tie.After-turn Inv-loop μ-loop → tie.Then1 Inv-loop μ-loop

@@ -31,7 +31,7 @@ use Rattle.intake.specs.declared.Asked.the-variants.{Refused}
 use Rattle.intake.specs.declared.Tally.{Tally}
 use Rattle.intake.specs.declared.Turned.{Turned}
 use Rattle.intake.specs.declared.Turned.the-variants.{On, Done}
-use Rattle.intake.specs.Check.{Course, begin, Turn, stop, go, turn, checkFrom}
+use Rattle.intake.specs.Check.{Course, begin, Turn, stop, go, turnOn, checkFrom}
 use Rattle.intake.specs.Asking.{courseTo, channelNth, channelFor, sounderNth, parentsIn}
 
 -- the tables: a row for each sounder, and for each channel
@@ -83,17 +83,16 @@ pub record Held (w : Tally) (c : Tables) : Type 0 where
   pub channels : w .channels ≤ length (c .channels)
   pub apart : Apart idOf (channelsBy w c)
 
--- the tally counts no more than there may be, and its place is in the file
-pub record Standing (f : List ℕ) (w : Tally) : Type 0 where
+-- the tally counts no more than there may be before its place
+pub record Standing (w : Tally) : Type 0 where
   pub few : w .count * 16 + 4 ≤ w .at
   pub spent : w .compared ≤ w .count * mostChannels
-  pub within : w .at ≤ length f
   pub sounders : w .sounders ≤ mostSounders
   pub channels : w .channels ≤ mostChannels
 
-abbrev pub StandsOn : List ℕ → Turned → Type 0
-StandsOn f (On w) = Standing f w
-StandsOn f (Done a) = Unit {0}
+abbrev pub StandsOn : Turned → Type 0
+StandsOn (On w) = Standing w
+StandsOn (Done a) = Unit {0}
 
 -- what the rules keep of the declarations, where the check goes on
 abbrev pub SteadyOn : Turned → Tables → Type 0
@@ -152,18 +151,18 @@ turnVerdict o first ss cs r =
     both (judged ((eqb (length r) 0 ⇒ 4 byte 0) ∷ []))
     (both (framing o r) (both (headVerdict o first t) (both (linkVerdict o t ss cs) (innerVerdict o t))))
 
--- ---- what is said of the tuple where a tally stands, and what is told of it: by its links alone, and by all rules
+-- ---- what is said of the tuple where a tally stands and r is left, and what is told of it: by its links alone, and by all rules
 abbrev pub said : Bool → List ℕ → Tally → Tables → Verdict
-said o f w c = turnVerdict o (eqb (w .count) 0) (soundersBy w c) (channelsBy w c) (drop (w .at) f)
+said o r w c = turnVerdict o (eqb (w .count) 0) (soundersBy w c) (channelsBy w c) r
 
 abbrev pub comparesAt : Bool → List ℕ → Tally → Tables → ℕ
-comparesAt o f w c = comparesAmong (soundersBy w c) (channelsBy w c) (digest o (tupAt o (drop (w .at) f)) .link)
+comparesAt o r w c = comparesAmong (soundersBy w c) (channelsBy w c) (digest o (tupAt o r) .link)
 
 unfoldable pub linkTold : Bool → List ℕ → Tally → Tables → LinkVerdict
-linkTold o f w c = linking (soundersBy w c) (channelsBy w c) (digest o (tupAt o (drop (w .at) f)) .link)
+linkTold o r w c = linking (soundersBy w c) (channelsBy w c) (digest o (tupAt o r) .link)
 
 unfoldable pub turnTold : Bool → List ℕ → Tally → Tables → LinkVerdict
-turnTold o f w c = comparing (said o f w c) (comparesAt o f w c)
+turnTold o r w c = comparing (said o r w c) (comparesAt o r w c)
 
 -- ---- the tally behind the mark, and past a tuple of n bytes and of a type code that compares m identifiers, before what it declares;
 -- the next channel is looked for first on any row
@@ -225,17 +224,28 @@ withSounder c i r = tables (set (c .sounders) i r) (c .channels)
 abbrev pub withChannel : Tables → ℕ → List ℕ → Tables
 withChannel c i r = tables (c .sounders) (set (c .channels) i r)
 
--- ---- what a turn takes and hands back
-pub record TurnedTo (o : Bool) (f : List ℕ) (w : Tally) (c : Tables) (r : Turned) (d : Tables) : Type 0 where
-  pub turns : turnOf r d ≡ turn o f (courseOf w c)
-  pub stands : StandsOn f r
+-- ---- what a turn takes and hands back, in a file of n bytes of which r are left
+pub record TurnedTo (o : Bool) (n : ℕ) (r : List ℕ) (w : Tally) (c : Tables) (t : Turned) (d : Tables) : Type 0 where
+  pub turns : turnOf t d ≡ turnOn o n (courseOf w c) r
+  pub stands : StandsOn t
   pub sized : Sized d
-  pub steady : SteadyOn r d
+  pub steady : SteadyOn t d
+
+-- what passing a tuple of m bytes and of the index class hands back, whatever bytes it has, and whatever the file's order, its length and
+-- the tables: they stay as they are
+pub record PassedIndex (w : Tally) (m : ℕ) (v : Tally) : Type 0 where
+  pub at : v .at ≡ w .at + m
+  pub turns : (o : Bool) (n : ℕ) (r : List ℕ) (c : Tables) → framing o r ≡ Fine → lenAt o r ≡ m
+      → inClass Types.index (kindAt o r) ≡ true
+      → turnOn o n (courseOf w c) r ≡ go (courseOf v c)
+  pub stands : Standing v
+  pub steady : (c : Tables) → Steady (courseOf w c .links) → Steady (courseOf v c .links)
 
 -- ---- what the turns from the mark hand back: the tally that stands at a place p, with what is still to come of the check,
 pub record StoodAt (o : Bool) (f : List ℕ) (p : ℕ) (w : Tally) (c : Tables) : Type 0 where
   pub there : w .at ≡ p
-  pub standing : Standing f w
+  pub within : w .at ≤ length f
+  pub standing : Standing w
   pub sized : Sized c
   pub steady : Steady (courseOf w c .links)
   pub found : courseTo (length f) o f p begin ≡ some (courseOf w c)

@@ -1,0 +1,11 @@
+pub mod Dividing
+pub mod Keeping
+pub mod Joining
+pub mod Left
+pub mod Judging
+pub mod Sizes
+pub mod Results
+pub mod Ends
+pub mod Anew
+pub mod Calls
+pub mod Places

@@ -1,0 +1,5 @@
+pub mod Laws
+pub mod Flags
+pub mod Writes
+pub mod Fresh
+pub mod Example
