@@ -309,8 +309,8 @@ uint8_t hac_normalise_tuple(const uint8_t *file, size_t length, uint8_t *out, si
      (hac_append);
    - as the check would refuse the file to be written, at a place in that file: 1 at 0 where it would be over HAC_FILE_LIMIT; 4 at
      its length where the end of file was removed; 13 at a ping whose channel was removed; 15 behind an end of file that was
-     appended, for the index follows it. Bytes that don't divide into tuples are judged where they stand, behind the tuples before
-     the end of file: the first of them that is no tuple is 3, 5, 3 or 6, unless a rule is broken before it;
+     appended, for the index follows it. Of `tuples` that don't divide into tuples the rest is judged behind those before it, with
+     nothing behind it: 3, 5, 3 or 6, unless a rule is broken earlier;
    - by 19 at 0.
 
        uint64_t answer[HAC_APPEND_ENTRIES];

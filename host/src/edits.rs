@@ -36,9 +36,9 @@ pub fn index_into(file: &[u8], out: &mut [u8]) -> Result<Written, Refusal> {
 /// Refuses as [`crate::check`] refuses the file; by 1 at 0 for tuples that are over a
 /// file's limit by themselves; then by the code and the place that the check would give the
 /// file to be written, 1 at 0 where that would be over the limit; then by 19 at 0. An end of
-/// file that is appended stands before the index, so that 15 stands behind it. Bytes that
-/// don't divide into tuples are judged where they stand, behind the tuples before the end
-/// of file.
+/// file that is appended stands before the index, so that 15 stands behind it. Where bytes
+/// are left that are no tuple they are judged behind those before them, with nothing behind
+/// them.
 pub fn append_into(file: &[u8], tuples: &[u8], out: &mut [u8]) -> Result<Written, Refusal> {
     Ok(Written::of(call::append(file, tuples, out)?))
 }

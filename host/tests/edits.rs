@@ -684,6 +684,15 @@ fn undivided_bytes() {
                 all.end + 24,
                 "byte 24 of what is appended: no tuple of the file's order",
             );
+            // an index tuple before them goes, and is counted in no place
+            let behind = [&index_of(order, &[20, 30])[..], &bytes].concat();
+            would_be(
+                &all.file,
+                Edit::Append(&behind),
+                code,
+                all.end,
+                "byte 24 of what is appended: no tuple of the file's order",
+            );
             // a rule that is broken before it
             let signature = &all.file[FIRST_PLACE..FIRST_PLACE + 24];
             would_be(

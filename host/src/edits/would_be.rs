@@ -4,7 +4,7 @@
 use super::{Edit, LIST, TAIL};
 use crate::advice::{advice, Advice};
 use crate::answer::{Code, Refusal};
-use crate::file::{check, Order, AROUND, FILE_LIMIT};
+use crate::file::{check, Order, AROUND, FILE_LIMIT, FIRST_PLACE};
 use crate::types;
 use crate::walk::{Tuple, Walk};
 use std::collections::BTreeSet;
@@ -45,7 +45,7 @@ fn no_tuple() -> Advice {
 /// A file as an edit would leave it.
 struct WouldBe {
     bytes: Vec<u8>,
-    /// Where bytes stand that don't divide into tuples, if any do.
+    /// Which byte of what is appended the first is that belongs to no tuple, if one does.
     undivided: Option<usize>,
 }
 
@@ -53,32 +53,40 @@ impl WouldBe {
     /// Of a file that the check accepts.
     fn of(file: &[u8], edit: Edit) -> WouldBe {
         let order = Order::of(file);
-        let mut tuples = Framed::all_of(file).unwrap_or_default();
-        let end = tuples.len().saturating_sub(1);
-        let mut appended = order.mark().to_vec();
+        let (mut tuples, _) = Framed::divided(file);
         match edit {
             Edit::Index => {}
             Edit::Remove(place) => tuples.retain(|tuple| tuple.place != place),
             Edit::Append(bytes) => {
-                appended.extend(bytes);
-                match Framed::all_of(&appended) {
-                    Some(more) => drop(tuples.splice(end..end, more)),
-                    None => return WouldBe::undivided(order, &tuples[..end], bytes),
-                }
+                let appended = [&order.mark()[..], bytes].concat();
+                return WouldBe::appended(order, tuples, &appended);
             }
         }
+        WouldBe::whole(order, &tuples)
+    }
+
+    fn whole(order: Order, tuples: &[Framed]) -> WouldBe {
         WouldBe {
-            bytes: with_index(order, &outside_index(&tuples)),
+            bytes: with_index(order, &outside_index(tuples)),
             undivided: None,
         }
     }
 
-    /// Bytes that are no tuples, behind those before the end of file.
-    fn undivided(order: Order, before: &[Framed], bytes: &[u8]) -> WouldBe {
-        let before = joined(order, &outside_index(before));
+    /// A mark and bytes: their tuples stand before the end of file. Where others are left
+    /// nothing stands behind these.
+    fn appended<'a>(order: Order, mut tuples: Vec<Framed<'a>>, appended: &'a [u8]) -> WouldBe {
+        let end = tuples.len().saturating_sub(1);
+        let (more, rest) = Framed::divided(appended);
+        if rest == appended.len() {
+            tuples.splice(end..end, more);
+            return WouldBe::whole(order, &tuples);
+        }
+        tuples.truncate(end);
+        tuples.extend(more);
+        let divided = joined(order, &outside_index(&tuples));
         WouldBe {
-            undivided: Some(before.len()),
-            bytes: [&before[..], bytes].concat(),
+            bytes: [&divided[..], &appended[rest..]].concat(),
+            undivided: Some(rest - FIRST_PLACE),
         }
     }
 
@@ -87,7 +95,6 @@ impl WouldBe {
         if check(&self.bytes) != Err(refusal) {
             return None;
         }
-        let place = refusal.place;
         match (edit, refusal.code, self.undivided) {
             (Edit::Remove(_), Code::NoEnd, _) => Some(Advice::of(
                 "a file keeps its end of file: remove another tuple".into(),
@@ -96,7 +103,6 @@ impl WouldBe {
                 "an end of file is appended, and the file has its own: leave it out".into(),
             )),
             (_, Code::CutShort | Code::BadLength | Code::BadBacklink, Some(at)) => {
-                let at = place.checked_sub(at)?;
                 let words = format!("byte {at} of what is appended: no tuple of the file's order");
                 Some(Advice::of(words).number("appended_place", at))
             }
@@ -114,18 +120,23 @@ struct Framed<'a> {
 }
 
 impl Framed<'_> {
-    /// The tuples of bytes behind a mark; none where these don't divide into tuples.
-    fn all_of(file: &[u8]) -> Option<Vec<Framed<'_>>> {
-        let tuples = Walk::START.forwards(file).map(|tuple| {
-            let Tuple {
-                place,
-                length,
-                kind,
-            } = tuple.ok()?;
-            let bytes = &file[place..place + length];
-            Some(Framed { place, kind, bytes })
-        });
-        tuples.collect()
+    /// The tuples that bytes behind a mark divide into, and where the first byte stands that
+    /// belongs to none.
+    fn divided(file: &[u8]) -> (Vec<Framed<'_>>, usize) {
+        let tuples = Walk::START.forwards(file).map_while(Result::ok);
+        let mut rest = FIRST_PLACE;
+        let tuples = tuples.map(
+            |Tuple {
+                 place,
+                 length,
+                 kind,
+             }| {
+                rest = place + length;
+                let bytes = &file[place..rest];
+                Framed { place, kind, bytes }
+            },
+        );
+        (tuples.collect(), rest)
     }
 }
 
