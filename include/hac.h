@@ -273,7 +273,8 @@ uint8_t hac_find_ping(const uint8_t *deposit, size_t deposit_length, const uint8
     uint16_t channel, uint32_t number, uint64_t *answer, size_t entries);
 
 /* ---- the normal form of a file, with an index over its own tuples just before its end of file (below). Refused as the check does;
-   then 18; 20, which counts the index too; 19. Length: the bytes written. */
+   then 18; 20, which counts the index too; 19. Length: the bytes written. What changes for a caller: normal forms had no index
+   before, and those of today are longer by it. Lend up to HAC_INDEX_ROOM bytes more. */
 enum { HAC_NORMALISE_ENTRIES = 5 };
 
 uint8_t hac_normalise(const uint8_t *file, size_t length, uint8_t *out, size_t out_length, uint64_t *answer, size_t entries);
