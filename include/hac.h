@@ -1,6 +1,7 @@
 /* HAC fisheries recordings: checked, walked both ways, linked, asked which settings held at each ping, searched for a ping with
-   corrections beside the deposit, read, written, brought to one normal form and salvaged. The C face of the proved library, for C99
-   and C++. `host/archive` makes the archive to link with, target/archive/libarchive.a.
+   corrections beside the deposit, read, written, brought to one normal form, appended to and removed from with an index that stays
+   true, and salvaged. The C face of the proved library, for C99 and C++. `host/archive` makes the archive to link with,
+   target/archive/libarchive.a.
 
    A slice is a pointer and a length in elements. `file` is a whole file, of any bytes; `place` is a byte offset in it. `answer`
    is lent for what a call says: entries 0 to 4 are the code, the place, the number of tuples, the length written and the number
@@ -59,7 +60,8 @@ enum {
     HAC_SOUNDER_LIMIT = 64,     /* the most sounders of a file, of both makers together */
     HAC_CHANNEL_LIMIT = 1024,   /* the most channels of a file, of both makers together */
     HAC_REMARK = 30,            /* the characters of a remark */
-    HAC_FIRST_PLACE = 4         /* the place of a file's first tuple, behind the mark */
+    HAC_FIRST_PLACE = 4,        /* the place of a file's first tuple, behind the mark */
+    HAC_INDEX_ROOM = 131092     /* more than any index has that is written */
 };
 
 /* ---- codes: what a call returns, and what answer[HAC_CODE] holds; HAC_UNFIT is also a reader's for a type not asked for.
@@ -142,10 +144,11 @@ enum {
 enum {
     HAC_CODE = 0,
     HAC_PLACE = 1,
-    HAC_TUPLES = 2,  /* a check, a question, settings and the normaliser: those of the file; a salvage: those kept; a reader, a
-                        writer, a ping found: 1 */
+    HAC_TUPLES = 2,  /* a check, a question, settings, the normaliser and edits: those of the file handed in; a salvage: those
+                        kept; a reader, a writer, a ping found: 1 */
     HAC_LENGTH = 3,  /* bytes or samples written, pings told, or the bytes of the ping found; else 0 */
-    HAC_COMPARED = 4 /* hac_check, hac_ask, hac_settings and hac_normalise: identifiers compared, as said above; else 0 */
+    HAC_COMPARED = 4 /* hac_check, hac_ask, hac_settings, hac_normalise, hac_index, hac_append and hac_remove: identifiers
+                        compared, as said above; else 0 */
 };
 
 /* ---- the check: 1, 2; tuple by tuple 4, 3, 5, 3, 6, 7, 9, 8, 12, 14, 13, 11, 23, 24, 25; behind the end of file 15, 16, 17 */
@@ -269,16 +272,69 @@ enum {
 uint8_t hac_find_ping(const uint8_t *deposit, size_t deposit_length, const uint8_t *corrections, size_t corrections_length,
     uint16_t channel, uint32_t number, uint64_t *answer, size_t entries);
 
-/* ---- the normal form of a file. Refused as the check does; then 18, 20, 19. Length: the bytes written. */
+/* ---- the normal form of a file, with an index over its own tuples just before its end of file (below). Refused as the check does;
+   then 18; 20, which counts the index too; 19. Length: the bytes written. What changes for a caller: normal forms had no index
+   before, and those of today are longer by it. Lend up to HAC_INDEX_ROOM bytes more. */
 enum { HAC_NORMALISE_ENTRIES = 5 };
 
 uint8_t hac_normalise(const uint8_t *file, size_t length, uint8_t *out, size_t out_length, uint64_t *answer, size_t entries);
 
-/* ---- the normal form of a mark and one tuple, whatever would stand around it; the mark alone for a tuple of the index class.
-   1, 2; then 3, 5, 3, 6, 9, 8, 11 at 4; 23, 24, 25 at their bytes; 15 for bytes behind it; 18; 19. */
+/* ---- the normal form of a mark and one tuple, whatever would stand around it; the mark alone for a tuple of the index class. It
+   has no index. 1, 2; then 3, 5, 3, 6, 9, 8, 11 at 4; 23, 24, 25 at their bytes; 15 for bytes behind it; 18; 19. */
 enum { HAC_NORMALISE_TUPLE_ENTRIES = 5 };
 
 uint8_t hac_normalise_tuple(const uint8_t *file, size_t length, uint8_t *out, size_t out_length, uint64_t *answer,
+    size_t entries);
+
+/* ---- an index that stays true: which types of tuples a file has, so that nobody scans all of it for them.
+
+   The index is one tuple, Index 1 (TR Table 14, HAC_TYPE_INDEX), just before the end of file and in the file's byte order. It holds
+   each type of the file's tuples outside the index class (65406 to 65515) once, ascending, those of signature and end of file too;
+   n types take HAC_INDEX_LIST + 2 n bytes, a space of 2 where n is odd, and 8 for attribute and backlink. Time fraction, time,
+   space and attribute are 0. It is no content: hac_normalise drops the index of the file handed in and writes that of its own
+   tuples.
+
+   Each of the three calls writes a whole file to `out`: the mark; the tuples outside the index class in their order, byte for byte;
+   the index, worked out afresh; the end of file. So whatever stood in the index class is gone, wherever it stood.
+   - hac_index: the file with its index.
+   - hac_append: with `tuples`, framed tuples in the file's byte order without a mark, as handed in before the end of file. Those of
+     the index class are dropped. None (length 0): the same as hac_index.
+   - hac_remove: without the tuple that starts at `place`. That of an index tuple leaves what hac_index writes.
+   What was appended and is then removed again leaves what hac_index writes of the file before.
+
+   How much to lend: `length` bytes, those of `tuples`, and HAC_INDEX_ROOM; never more than HAC_FILE_LIMIT.
+
+   Refused, with nothing written:
+   - as the check refuses the file handed in, at a place in that file;
+   - by 3 at `place` where no tuple starts there (hac_remove); by 1 at 0 where `tuples` alone has over HAC_FILE_LIMIT bytes
+     (hac_append);
+   - as the check would refuse the file to be written, at a place in that file: 1 at 0 where it would be over HAC_FILE_LIMIT; 4 at
+     its length where the end of file was removed; 13 at a ping whose channel was removed; 15 behind an end of file that was
+     appended, for the index follows it. Of `tuples` that don't divide into tuples the rest is judged behind those before it, with
+     nothing behind it: 3, 5, 3 or 6, unless a rule is broken earlier;
+   - by 19 at 0.
+
+       uint64_t answer[HAC_APPEND_ENTRIES];
+       size_t room = length + tuples_length + HAC_INDEX_ROOM;
+       uint8_t *out = (uint8_t *)malloc(room);
+       if (out != NULL
+           && hac_append(file, length, tuples, tuples_length, out, room, answer, HAC_APPEND_ENTRIES) == HAC_ACCEPTED)
+           fwrite(out, 1, (size_t)answer[HAC_LENGTH], to);
+       free(out);
+*/
+enum { HAC_INDEX_ENTRIES = 5, HAC_APPEND_ENTRIES = 5, HAC_REMOVE_ENTRIES = 5 };
+
+enum {
+    HAC_TYPE_INDEX = 65406,
+    HAC_INDEX_LIST = 12 /* where its list of types begins, from its first byte */
+};
+
+uint8_t hac_index(const uint8_t *file, size_t length, uint8_t *out, size_t out_length, uint64_t *answer, size_t entries);
+
+uint8_t hac_append(const uint8_t *file, size_t length, const uint8_t *tuples, size_t tuples_length, uint8_t *out,
+    size_t out_length, uint64_t *answer, size_t entries);
+
+uint8_t hac_remove(const uint8_t *file, size_t length, size_t place, uint8_t *out, size_t out_length, uint64_t *answer,
     size_t entries);
 
 /* ---- salvage: what is sound of a damaged file, and which of its bytes are lost.

@@ -96,14 +96,14 @@ fn tuple_at(file: &[u8], place: usize, pass: impl FnMut(Tuple)) -> Option<Tuple>
 }
 
 impl Advice {
-    fn of(words: String) -> Advice {
+    pub(crate) fn of(words: String) -> Advice {
         Advice {
             words,
             facts: Vec::new(),
         }
     }
 
-    fn number(mut self, name: &'static str, number: usize) -> Advice {
+    pub(crate) fn number(mut self, name: &'static str, number: usize) -> Advice {
         self.facts.push((name, Fact::Number(number)));
         self
     }

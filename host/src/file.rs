@@ -1,8 +1,8 @@
-//! A whole file: its limits, its byte order, its check, a ping's parents, and their
-//! maker.
+//! A whole file: its limits, its byte order, its check, what is told of one that is
+//! written, a ping's parents, and their maker.
 
 use crate::answer::Refusal;
-use crate::call::{self, HAC_COMPARED, HAC_TUPLES};
+use crate::call::{self, HAC_COMPARED, HAC_LENGTH, HAC_TUPLES};
 use crate::field::{told, DocumentId, SoftwareChannel};
 use crate::types::{self, Maker};
 use crate::walk::{Step, Walk};
@@ -27,6 +27,9 @@ pub const CHANNEL_LIMIT: usize = 1024;
 
 /// The place of a file's first tuple, behind the mark.
 pub const FIRST_PLACE: usize = 4;
+
+/// The bytes of a tuple that its data size doesn't count.
+pub(crate) const AROUND: usize = 10;
 
 /// The byte order of a file.
 #[derive(Clone, Copy, Debug, PartialEq, Eq)]
@@ -74,6 +77,21 @@ impl Order {
             Order::Msb => u32::from_be_bytes(bytes),
         }
     }
+
+    /// The two bytes of a number, and the four.
+    pub(crate) fn two_bytes(self, number: u16) -> [u8; 2] {
+        match self {
+            Order::Lsb => number.to_le_bytes(),
+            Order::Msb => number.to_be_bytes(),
+        }
+    }
+
+    pub(crate) fn four_bytes(self, number: u32) -> [u8; 4] {
+        match self {
+            Order::Lsb => number.to_le_bytes(),
+            Order::Msb => number.to_be_bytes(),
+        }
+    }
 }
 
 /// The number of two bytes at a place of a file, and that of four; none past its end.
@@ -109,6 +127,41 @@ pub fn check(file: &[u8]) -> Result<Counts, Refusal> {
         tuples: told(&answer, HAC_TUPLES),
         compared: told(&answer, HAC_COMPARED),
     })
+}
+
+/// A file that was written, made from one that was handed in.
+#[derive(Clone, Copy, Debug, PartialEq, Eq)]
+pub struct Written {
+    /// How many tuples the file handed in has.
+    pub tuples: usize,
+    /// How many bytes were written.
+    pub length: usize,
+    /// How many identifiers are compared while the file handed in is linked, as
+    /// [`Counts`] has it; 0 for one tuple.
+    pub compared: usize,
+}
+
+impl Written {
+    pub(crate) fn of<const ENTRIES: usize>(answer: [u64; ENTRIES]) -> Written {
+        Written {
+            tuples: told(&answer, HAC_TUPLES),
+            length: told(&answer, HAC_LENGTH),
+            compared: told(&answer, HAC_COMPARED),
+        }
+    }
+}
+
+/// A file written to new memory, which is lent as much as is enough, or as a file may have
+/// where that is less, and left just enough.
+pub(crate) fn written_anew(
+    enough: usize,
+    write: impl FnOnce(&mut [u8]) -> Result<Written, Refusal>,
+) -> Result<Vec<u8>, Refusal> {
+    let mut out = vec![0; enough.min(FILE_LIMIT)];
+    let written = write(&mut out)?;
+    out.truncate(written.length);
+    out.shrink_to_fit();
+    Ok(out)
 }
 
 /// The channel and the sounder of a ping. Both are of one maker, whom [`maker_at`] tells

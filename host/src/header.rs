@@ -6,7 +6,7 @@
 #[path = "../../include/calls.rs"]
 mod calls;
 
-use crate::{types, Code, PingKind, CHANNEL_LIMIT, FILE_LIMIT, FIRST_PLACE, REMARK};
+use crate::{types, Code, PingKind, CHANNEL_LIMIT, FILE_LIMIT, FIRST_PLACE, INDEX_ROOM, REMARK};
 use crate::{SOUNDER_LIMIT, TUPLE_LEAST, TUPLE_LIMIT, VALUE_LIMIT};
 use calls::Header;
 
@@ -78,6 +78,8 @@ fn limits_and_pings() {
         ("CHANNEL_LIMIT", CHANNEL_LIMIT),
         ("REMARK", REMARK),
         ("FIRST_PLACE", FIRST_PLACE),
+        ("INDEX_ROOM", INDEX_ROOM),
+        ("TYPE_INDEX", types::INDEX_1.into()),
     ] {
         holds(&header, name, number);
     }
@@ -137,6 +139,9 @@ fn declarations() {
     assert_eq!(entries("check"), Some(5));
     assert_eq!(entries("settings"), Some(5));
     assert_eq!(entries("find_ping"), Some(7));
+    assert_eq!(entries("index"), Some(5));
+    assert_eq!(entries("append"), Some(5));
+    assert_eq!(entries("remove"), Some(5));
     assert_eq!(entries("salvage"), Some(7));
     assert_eq!(entries("read_ping"), Some(16));
     assert_eq!(entries("read_record"), Some(7));

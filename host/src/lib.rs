@@ -1,6 +1,7 @@
 //! HAC fisheries recordings: checked, walked both ways, linked, asked which settings
 //! held at each ping, searched for a ping with corrections beside the deposit, read,
-//! written, brought to one normal form and salvaged, by the proved library.
+//! written, brought to one normal form, appended to and removed from with an index that
+//! stays true, and salvaged, by the proved library.
 //!
 //! A file is a slice of bytes and may hold anything; a place is a byte offset
 //! in it. Every call accepts, or gives a [`Refusal`]: the first rule broken, in
@@ -43,6 +44,7 @@ mod answer;
 #[allow(unsafe_code)]
 mod call;
 mod corrections;
+mod edits;
 mod field;
 mod file;
 #[cfg(test)]
@@ -60,6 +62,7 @@ mod wrong;
 pub use advice::*;
 pub use answer::*;
 pub use corrections::*;
+pub use edits::*;
 pub use field::*;
 pub use file::*;
 pub use normal::*;

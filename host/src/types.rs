@@ -4,7 +4,10 @@ use std::fmt;
 use std::ops::RangeInclusive;
 
 /// The type codes of the index class, whose tuples are no content.
-pub const INDEX: RangeInclusive<u16> = 65406..=65515;
+pub const INDEX: RangeInclusive<u16> = INDEX_1..=65515;
+
+/// The type of the index that lists a file's types: TR Table 14.
+pub const INDEX_1: u16 = 65406;
 
 macro_rules! listed {
     ($($code:literal $listed:ident $name:literal)*) => {

@@ -8,6 +8,8 @@ mod check;
 mod corrections;
 mod damage;
 mod deposit;
+mod edit_command;
+mod edits;
 mod face;
 mod install;
 mod json;

@@ -14,8 +14,8 @@ fn help_and_version() {
         let ran = run(&mut hac(arguments));
         assert_eq!((ran.status, ran.err.as_str()), (0, ""));
         for command in [
-            "check", "show", "same", "normal", "salvage", "walk", "parents", "samples", "record",
-            "settings", "ping",
+            "check", "show", "same", "normal", "index", "append", "remove", "salvage", "walk",
+            "parents", "samples", "record", "settings", "ping",
         ] {
             assert!(ran.out.contains(&format!("hac {command} ")), "{command}");
         }
@@ -137,6 +137,35 @@ fn bad_use_of_out() {
     is_bad_use(&room, &["normal", file, file, "-o", "-"]);
 }
 
+/// The same of the commands that edit a file.
+#[test]
+fn bad_use_of_edits() {
+    let room = Room::new();
+    let known = Known::sample("cruise-lsb");
+    let file = known.path.to_str().expect("a plain name");
+    let uses: [&[&str]; 16] = [
+        &["index"],
+        &["index", file],
+        &["index", "-o", "out.hac"],
+        &["index", file, "4", "-o", "out.hac"],
+        &["index", file, "-d", "."],
+        &["index", file, "-o", "-", "--json"],
+        &["append", file, "-o", "out.hac"],
+        &["append", file, file],
+        &["append", file, file, file, "-o", "out.hac"],
+        &["append", "-", "-", "-o", "out.hac"],
+        &["append", file, file, "-o", "-", "--json"],
+        &["remove", file, "-o", "out.hac"],
+        &["remove", file, "4"],
+        &["remove", file, "here", "-o", "out.hac"],
+        &["remove", file, "-1", "-o", "out.hac"],
+        &["remove", file, "4", "4", "-o", "out.hac"],
+    ];
+    for arguments in uses {
+        is_bad_use(&room, arguments);
+    }
+}
+
 /// The same of the command that writes many.
 #[test]
 fn bad_use_of_folder() {
@@ -166,7 +195,7 @@ fn no_files() {
     let folder = room.path().to_str().expect("a plain name");
     let none = room.at("none.hac");
     let none = none.to_str().expect("a plain name");
-    let uses: [&[&str]; 17] = [
+    let uses: [&[&str]; 21] = [
         &["check", none],
         &["show", none],
         &["walk", folder],
@@ -182,6 +211,10 @@ fn no_files() {
         &["ping", none, "1", "1", "-o", "out.hac"],
         &["normal", none, "-o", "out.hac"],
         &["normal", folder, "-o", "out.hac"],
+        &["index", none, "-o", "out.hac"],
+        &["index", folder, "-o", "-"],
+        &["append", none, folder, "-o", "out.hac"],
+        &["remove", none, "4", "-o", "out.hac"],
         &["salvage", none, "-o", "out.hac"],
         &["salvage", folder, "-o", "out.hac"],
     ];

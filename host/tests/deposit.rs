@@ -151,7 +151,7 @@ impl Deposit {
         self.ended();
         let (file, tuples) = (&self.bytes, self.tuples);
         assert_eq!(check(file), Ok(Counts { tuples, compared }));
-        let mut out = vec![0; file.len()];
+        let mut out = vec![0; file.len() + INDEX_ROOM];
         let normal = normalise(file, &mut out).expect("a normal form");
         assert_eq!((normal.tuples, normal.compared), (tuples, compared));
         let told = told(file).expect("its settings");

@@ -74,6 +74,10 @@ fn the_examples() {
         (first, file.to_string()),
         (example_of("settings"), file.to_string()),
         (example_of("find_ping"), two_files.to_string()),
+        (
+            example_of("append"),
+            format!("{file}, const uint8_t *tuples, size_t tuples_length, FILE *to"),
+        ),
         (example_of("salvage"), format!("{file}, FILE *to")),
     ] {
         let source = format!(
@@ -348,6 +352,32 @@ const CORRECTIONS: [&str; 8] = [
 #[test]
 fn corrections() {
     prints("corrections", &CORRECTIONS);
+}
+
+/// What edits.c prints, by TR's Table 14 and 02: the lengths of the tuples give the places. Its
+/// file has 328 bytes, of which the 24 from 280 on are a stale index. Six types have no space
+/// behind them; seven have one, which is read as a last 0. The end of file that is removed
+/// leaves an index of six types at 308.
+const EDITS: [&str; 13] = [
+    "tuples 7, length 336, compared 2",
+    "index at 280: 20 100 1000 10030 65534 65535",
+    "00000016 ff7e 0000 00000000 0014 0064 03e8 272e fffe ffff 00000000 00000020",
+    "tuples 7, length 368, compared 2",
+    "index at 308: 20 30 100 1000 10030 65534 65535 0",
+    "0000001a ff7e 0000 00000000 0014 001e 0064 03e8 272e fffe ffff 0000 00000000 00000024",
+    "refused 19 at 0, 0 0 0, nothing written",
+    "as it was",
+    "refused 3 at 281, 0 0 0, nothing written",
+    "refused 4 at 340, 0 0 0, nothing written",
+    "refused 3 at 308, 0 0 0, nothing written",
+    "refused 15 at 332, 0 0 0, nothing written",
+    "refused 2 at 0, 0 0 0, nothing written",
+];
+
+/// An index written in C, kept true while a tuple is appended and removed, and refusals.
+#[test]
+fn edits() {
+    prints("edits", &EDITS);
 }
 
 fn hexadecimal(bytes: &[u8]) -> String {

@@ -3,6 +3,7 @@
 //! 02; docs/PINGS.md says how these are read.
 
 use crate::deposit::{Deposit, ORDERS};
+use crate::edits::reindexed;
 use crate::json;
 use crate::known::{decode, Known, Stored, Tuple};
 use crate::lengths::{alone, deposit, header, normal_tuple, ping_of, ATTRIBUTE};
@@ -325,14 +326,16 @@ fn normal_forms() {
             assert_eq!(normal_tuple(order, &tuple), normal, "{kind} {stored:04X?}");
             assert_eq!(normal_tuple(Order::Lsb, &normal), normal);
             let file = deposit(order, &[tuple]);
-            assert_eq!(normal_form(&file), Ok(deposit(Order::Lsb, &[normal])));
+            let expected = reindexed(&deposit(Order::Lsb, &[normal]));
+            assert_eq!(normal_form(&file), Ok(expected));
         };
         let numbered = |count, stored: &[u32], pairs: &[u32]| {
             let tuple = of_words(order, C16, count, stored);
             let normal = of_two(Order::Lsb, U16, pairs);
             assert_eq!(normal_tuple(order, &tuple), normal, "{stored:04X?}");
             let file = deposit(order, &[tuple]);
-            assert_eq!(normal_form(&file), Ok(deposit(Order::Lsb, &[normal])));
+            let expected = reindexed(&deposit(Order::Lsb, &[normal]));
+            assert_eq!(normal_form(&file), Ok(expected));
         };
         // a value last: U-16, up to sample 65,535
         numbered(1, &[100, 0], &[0, 100]);

@@ -3,6 +3,7 @@
 //! Table 20 and by documents 01 and 02.
 
 use crate::deposit::{Deposit, ORDERS};
+use crate::edits::reindexed;
 use crate::known::{decode, four_bytes, stored_bytes, two_bytes, Stored, RUN};
 use crate::room::{hac, run, Room};
 use hac::*;
@@ -192,7 +193,8 @@ fn normal_forms() {
             // it is written again as it is
             assert_eq!(normal_tuple(Order::Lsb, &normal), normal);
             let file = deposit(order, &[stored]);
-            assert_eq!(normal_form(&file), Ok(deposit(Order::Lsb, &[normal])));
+            let expected = reindexed(&deposit(Order::Lsb, &[normal]));
+            assert_eq!(normal_form(&file), Ok(expected));
         }
     }
 }

@@ -2,6 +2,7 @@
 //! Simrad EK-500 (200 and 2000).
 
 use crate::deposit::{Deposit, CHANNELS, ORDERS, SOUNDERS};
+use crate::edits::reindexed;
 use crate::json;
 use crate::pings::printed;
 use crate::room::{hac, run, Room};
@@ -121,8 +122,8 @@ fn both_makers_in_one_file() {
             compared: COMPARED,
         };
         assert_eq!(check(&bytes), Ok(counts));
-        // as it is written in LSB order, it is its own normal form
-        assert_eq!(normal_form(&bytes), Ok(lsb.bytes.clone()));
+        // as it is written in LSB order, it is its own normal form but for the index
+        assert_eq!(normal_form(&bytes), Ok(reindexed(&lsb.bytes)));
         for Linked {
             ping,
             maker,

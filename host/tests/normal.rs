@@ -306,6 +306,11 @@ fn standard_output_that_takes_no_file() {
     assert_eq!(ran.status, 2);
     assert!(ran.err.starts_with("hac: standard output: "), "{}", ran.err);
     assert_eq!(fs::read(&input).expect("the input"), bytes);
+    spares_terminals(command);
+}
+
+/// A command whose standard error is piped: nothing is sent to a terminal.
+pub fn spares_terminals(mut command: Command) {
     let (screen, end) = terminal();
     let ran = run(command.stdout(end));
     drop(command);

@@ -3,6 +3,7 @@
 
 use crate::damage;
 use crate::deposit::{header, Deposit};
+use crate::edits::{index_of, types_of};
 use crate::json::{self, Value};
 use crate::known::{accepted, repository, Known, Tuple};
 use crate::room::{hac, run, Ran, Room};
@@ -172,6 +173,41 @@ fn counted(known: &Known) -> Vec<(&'static str, usize)> {
     ]
 }
 
+/// The Index 1 tuples of a sample: place, whether they list what they have to, and what they
+/// list.
+fn indexes(known: &Known) -> Vec<(usize, &'static str, Vec<u16>)> {
+    let types = types_of(&known.tuples);
+    let indexes = known.of(65406).map(|index| {
+        let list = (12..index.bytes.len().saturating_sub(8)).step_by(2);
+        let mut list: Vec<u16> = list.map(|at| index.two(at)).collect();
+        // the space behind an odd number
+        list.pop_if(|last| *last == 0);
+        let truth = if list == types { "true" } else { "stale" };
+        (index.place, truth, list)
+    });
+    indexes.collect()
+}
+
+/// What the page says of them.
+fn index_lines(known: &Known) -> Vec<String> {
+    let indexes = indexes(known).into_iter().map(|(place, truth, types)| {
+        let types = types.iter();
+        let types: Vec<String> = types
+            .map(|kind| format!("{kind} {}", types::name(*kind)))
+            .collect();
+        let types = match types.is_empty() {
+            true => "no types".into(),
+            false => types.join(", "),
+        };
+        format!("  index        at {place}, {truth}: {types}")
+    });
+    let lines: Vec<String> = indexes.collect();
+    match lines.is_empty() {
+        true => vec!["  index        none".into()],
+        false => lines,
+    }
+}
+
 fn channel_lines(channel: &Tuple, held: &Held) -> Vec<String> {
     let identifier = channel.two(6);
     let first = format!(
@@ -214,6 +250,7 @@ fn page(known: &Known) -> Vec<String> {
     for channel in channels(known) {
         lines.extend(channel_lines(channel, &held));
     }
+    lines.extend(index_lines(known));
     let counted = counted(known).into_iter();
     let counted: Vec<String> = counted
         .map(|(name, count)| format!("{name} {count}"))
@@ -292,6 +329,20 @@ fn holds_box(object: &Value, held: &Held) {
     }
 }
 
+/// The indexes that an object tells.
+fn told_indexes(object: &Value) -> Vec<(usize, &str, Vec<u16>)> {
+    let told = object.list("indexes").iter().map(|index| {
+        let types = index.list("types").iter().map(|kind| {
+            let number = kind.number("type") as u16;
+            assert_eq!(kind.text("name"), types::name(number));
+            number
+        });
+        let place = index.number("place") as usize;
+        (place, index.text("list"), types.collect())
+    });
+    told.collect()
+}
+
 fn holds_lists(object: &Value, known: &Known, held: &Held) {
     let (made, fed) = (object.list("sounders"), object.list("channels"));
     assert_eq!(made.len(), known.sounders().count());
@@ -325,6 +376,7 @@ fn objects() {
         holds_times(object, &held);
         holds_box(object, &held);
         holds_lists(object, &known, &held);
+        assert_eq!(told_indexes(object), indexes(&known));
         for (name, count) in counted(&known) {
             assert_eq!(object.number(&name.replace(' ', "_")), count as i128);
         }
@@ -382,6 +434,7 @@ fn odd_deposits() {
         "  channel      65535, echosounder 4294967295, 4294967295 Hz, 4294967295 samples/s, type of data sample 4, which TR doesn't list".into(),
         "               ping C-32: pings 1, samples 1".into(),
         "               ping U-16: pings 1, samples 1".into(),
+        "  index        none".into(),
         "  tuples       positions 2, navigations 0, attitudes 0, thresholds 0, event markers 0, starts of run 0, ends of run 0, index tuples 0, unlisted tuples 1".into(),
     ];
     assert_eq!(ran.lines()[1..], expected);
@@ -413,7 +466,10 @@ fn neither_time_nor_place() {
         .iter()
         .map(|line| line[..13].trim())
         .collect();
-    assert_eq!(heads, ["length", "echosounder", "channel", "tuples"]);
+    assert_eq!(
+        heads,
+        ["length", "echosounder", "channel", "index", "tuples"]
+    );
     let ran = run(hac(["show", "--json"]).arg(&path));
     let object = &json::objects(&ran.out)[0];
     for key in [
@@ -429,6 +485,45 @@ fn neither_time_nor_place() {
         assert_eq!(object.get(key), &Value::Null, "{key}");
     }
     assert_eq!(object.number("unlisted_tuples"), 2);
+}
+
+/// Of more than one index each is told; one that repeats a type, lacks one or has one too
+/// many is stale, and so is one in another order of types.
+#[test]
+fn several_indexes() {
+    let room = Room::new();
+    for order in [Order::Lsb, Order::Msb] {
+        let mut file = Deposit::begun(order);
+        let fresh = [20, 100, 1000, 10000, 65534, 65535];
+        let mut doubled = fresh.to_vec();
+        doubled.insert(1, 20);
+        let turned: Vec<u16> = fresh.iter().rev().copied().collect();
+        let lists = [&fresh[..], &fresh[..5], &doubled, &turned, &[], &[65406]];
+        let mut expected = Vec::new();
+        for (list, truth) in lists.iter().zip(["true"].into_iter().chain(["stale"; 5])) {
+            let place = file.put_bytes(&index_of(order, list));
+            expected.push((place, truth, list.to_vec()));
+        }
+        file.sounder(1, 1);
+        file.channel(1, 1);
+        file.ping_u32(1);
+        let path = room.put("several.hac", file.ended());
+        let ran = run(hac(["show", "--json"]).arg(&path));
+        let object = &json::objects(&ran.out)[0];
+        assert_eq!(told_indexes(object), expected);
+        let ran = show(&path);
+        let lines = ran.lines().into_iter();
+        let lines: Vec<&str> = lines.filter(|line| line.contains("  index  ")).collect();
+        assert_eq!(lines.len(), 6);
+        let place = expected[0].0;
+        let first = format!(
+            "  index        at {place}, true: 20 position, 100 echosounder Biosonics, \
+             1000 channel Biosonics, 10000 ping U-32, 65534 end of file, 65535 signature"
+        );
+        assert_eq!(lines[0], first);
+        assert!(lines[4].ends_with(", stale: no types"), "{}", lines[4]);
+        assert!(lines[5].ends_with(", stale: 65406 index"), "{}", lines[5]);
+    }
 }
 
 /// Refused files, and what can't be read, are told as the check tells them, in their

@@ -4,16 +4,15 @@
 use super::{step_at, Advice};
 use crate::answer::Refusal;
 use crate::file::{four_at, two_at, Order};
-use crate::file::{FILE_LIMIT, FIRST_PLACE, TUPLE_LEAST, TUPLE_LIMIT};
+use crate::file::{AROUND, FILE_LIMIT, FIRST_PLACE, TUPLE_LEAST, TUPLE_LIMIT};
 use crate::types;
 use crate::walk::Step;
 
 /// What is left to do where tuples are damaged.
 const SALVAGE: &str = "hac salvage keeps what is sound";
 
-/// In a tuple: its type; the bytes that its data size doesn't count; those of its backlink.
+/// In a tuple: its type; the bytes of its backlink.
 const TYPE: usize = 4;
-const AROUND: usize = 10;
 const BACKLINK: usize = 4;
 
 /// How long it is isn't told, for whoever asks may have read no further than this.

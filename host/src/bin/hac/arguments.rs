@@ -38,6 +38,11 @@ pub enum Task {
     Normal {
         out: Option<PathBuf>,
     },
+    /// To a file, or to standard output.
+    Edit {
+        change: Change,
+        out: Option<PathBuf>,
+    },
     Salvage {
         out: PathBuf,
     },
@@ -61,7 +66,7 @@ impl Task {
     /// The file that it writes, if it writes one.
     pub fn out(&self) -> Option<&Path> {
         match self {
-            Task::Normal { out } => out.as_deref(),
+            Task::Normal { out } | Task::Edit { out, .. } => out.as_deref(),
             Task::Salvage { out } => Some(out),
             Task::Walk { .. }
             | Task::Parents { .. }
@@ -72,13 +77,32 @@ impl Task {
         }
     }
 
+    /// It writes a file's bytes to standard output.
+    pub fn is_streamed(&self) -> bool {
+        matches!(
+            self,
+            Task::Normal { out: None } | Task::Edit { out: None, .. }
+        )
+    }
+
     /// The input that it takes beside its own, if it takes one.
     pub fn beside(&self) -> Option<&Input> {
         match self {
             Task::Ping(wanted) => wanted.corrections.as_ref(),
+            Task::Edit {
+                change: Change::Append { tuples },
+                ..
+            } => Some(tuples),
             _ => None,
         }
     }
+}
+
+/// What is done to a file before its index is written.
+pub enum Change {
+    Index,
+    Append { tuples: Input },
+    Remove { place: usize },
 }
 
 /// A ping that is looked for in a deposit, and what is to be told of it.
@@ -109,8 +133,9 @@ impl Arguments {
     }
 }
 
-/// The commands that write a file.
-const WRITING: [&str; 3] = ["normal", "salvage", "ping"];
+/// The commands that write a file, and those of them that also write one to standard output.
+const WRITING: [&str; 6] = ["normal", "index", "append", "remove", "salvage", "ping"];
+const STREAMING: [&str; 4] = ["normal", "index", "append", "remove"];
 
 /// What is wrong where standard input is named twice.
 const READ_ONCE: &str = "standard input can be read but once";
@@ -155,26 +180,35 @@ impl Sorted {
 
     /// Sees to it that a command gets no other's options.
     fn must_fit(&self, command: &str) -> Result<(), String> {
-        let only = |option: &str, commands: &str| Err(format!("{option} is for {commands} alone"));
-        if self.back && command != "walk" {
-            return only("--back", "hac walk");
+        let is_standard = self.out.as_ref().is_some_and(|out| out == STANDARD);
+        let options: [(bool, &str, &[&str]); 6] = [
+            (self.back, "--back", &["walk"]),
+            (self.out.is_some(), "-o", &WRITING),
+            (is_standard, "-o -", &STREAMING),
+            (self.folder.is_some(), "-d", &["normal"]),
+            (self.samples, "--samples", &["ping"]),
+            (self.corrections.is_some(), "--corrections", &["ping"]),
+        ];
+        let unfit = |(is_there, _, commands): &&(bool, _, &[&str])| {
+            *is_there && !commands.contains(&command)
+        };
+        match options.iter().find(unfit) {
+            None => Ok(()),
+            Some((_, option, commands)) => {
+                let commands = commands.join(", hac ");
+                Err(format!("{option} is for hac {commands} alone"))
+            }
         }
-        if self.out.is_some() && !WRITING.contains(&command) {
-            return only("-o", "hac normal, hac salvage and hac ping");
+    }
+
+    /// Where a file's bytes go: to OUT, or to standard output, where nothing else may go.
+    fn bytes_out(self) -> Result<Option<PathBuf>, String> {
+        let out = self.out.ok_or("no -o OUT")?;
+        match (out == STANDARD, self.json) {
+            (true, true) => Err("--json and -o - both take standard output".into()),
+            (true, false) => Ok(None),
+            (false, _) => Ok(Some(out.into())),
         }
-        if command != "normal" && self.out.as_ref().is_some_and(|out| out == STANDARD) {
-            return only("-o -", "hac normal");
-        }
-        if self.folder.is_some() && command != "normal" {
-            return only("-d", "hac normal");
-        }
-        if self.samples && command != "ping" {
-            return only("--samples", "hac ping");
-        }
-        if self.corrections.is_some() && command != "ping" {
-            return only("--corrections", "hac ping");
-        }
-        Ok(())
     }
 
     fn command(mut self) -> Result<Command, String> {
@@ -193,6 +227,14 @@ impl Sorted {
             "show" => rest.many().map(|inputs| Command::Show { inputs }),
             "same" => rest.many().map(|inputs| Command::Same { inputs }),
             "normal" => rest.normal(self),
+            "index" => rest.edit(self, |_| Ok(Change::Index)),
+            "append" => rest.edit(self, |rest| {
+                let tuples = rest.input("TUPLES")?;
+                Ok(Change::Append { tuples })
+            }),
+            "remove" => rest.edit(self, |rest| {
+                rest.place().map(|place| Change::Remove { place })
+            }),
             "salvage" => rest.writing(self.out, |out| Task::Salvage { out }),
             "walk" => rest.one(|_| Ok(Task::Walk { back: self.back })),
             "parents" => rest.one(|rest| rest.place().map(|place| Task::Parents { place })),
@@ -236,17 +278,27 @@ impl Rest {
         Ok(inputs)
     }
 
-    /// A command on one input, with nothing behind its task.
+    /// The next word, as an input.
+    fn input(&mut self, missing: &str) -> Result<Input, String> {
+        let word = self.0.next().ok_or_else(|| format!("no {missing}"))?;
+        Ok(Input::of(word))
+    }
+
+    /// A command on one input, or on one and another beside it, with nothing behind its
+    /// task.
     fn one(
         mut self,
         task: impl FnOnce(&mut Rest) -> Result<Task, String>,
     ) -> Result<Command, String> {
-        let input = Input::of(self.0.next().ok_or("no FILE")?);
+        let input = self.input("FILE")?;
         let task = task(&mut self)?;
-        match self.0.next() {
-            None => Ok(Command::One { input, task }),
-            Some(word) => Err(format!("{} is too much", shown(&word))),
+        if let Some(word) = self.0.next() {
+            return Err(format!("{} is too much", shown(&word)));
         }
+        if input == Input::Standard && task.beside() == Some(&Input::Standard) {
+            return Err(READ_ONCE.into());
+        }
+        Ok(Command::One { input, task })
     }
 
     /// A command that also writes a file.
@@ -261,15 +313,24 @@ impl Rest {
 
     /// The normal form of one input, or those of many.
     fn normal(self, options: Sorted) -> Result<Command, String> {
-        match (options.out, options.folder) {
+        match (&options.out, &options.folder) {
             (Some(_), Some(_)) => Err("-o OUT and -d FOLDER exclude each other".into()),
             (None, Some(folder)) => self.normals(folder.into()),
-            (Some(out), None) if out == STANDARD => match options.json {
-                true => Err("--json and -o - both take standard output".into()),
-                false => self.one(|_| Ok(Task::Normal { out: None })),
-            },
-            (out, None) => self.writing(out, |out| Task::Normal { out: Some(out) }),
+            (_, None) => {
+                let out = options.bytes_out()?;
+                self.one(|_| Ok(Task::Normal { out }))
+            }
         }
+    }
+
+    /// A file with its index, and what is done to it before.
+    fn edit(
+        self,
+        options: Sorted,
+        change: impl FnOnce(&mut Rest) -> Result<Change, String>,
+    ) -> Result<Command, String> {
+        let out = options.bytes_out()?;
+        self.one(|rest| change(rest).map(|change| Task::Edit { change, out }))
     }
 
     fn normals(self, folder: PathBuf) -> Result<Command, String> {
@@ -282,11 +343,6 @@ impl Rest {
 
     /// The ping's command, which may take a second input.
     fn ping(self, options: Sorted) -> Result<Command, String> {
-        let standard = |word: Option<&OsStr>| word.is_some_and(|word| word == STANDARD);
-        let deposit = self.0.as_slice().first().map(OsString::as_os_str);
-        if standard(deposit) && standard(options.corrections.as_deref()) {
-            return Err(READ_ONCE.into());
-        }
         self.one(|rest| {
             Ok(Task::Ping(Wanted {
                 corrections: options.corrections.map(Input::of),

@@ -34,6 +34,13 @@ pub struct Channel {
     pub pings: BTreeMap<u16, Tally>,
 }
 
+/// An Index 1 tuple.
+pub struct Index {
+    pub place: usize,
+    /// The types that it lists.
+    pub types: Vec<u16>,
+}
+
 /// The identifier of a channel's record, and what is kept of it: fields that both makers'
 /// records have under the same names.
 macro_rules! channel {
@@ -63,6 +70,9 @@ pub struct Contents {
     /// Where positions are, as they are stored.
     pub latitude: Span<i32>,
     pub longitude: Span<i32>,
+    /// Those that list types, in file order; other tuples of the index class are counted
+    /// alone.
+    pub indexes: Vec<Index>,
     /// How many tuples each type has.
     kinds: BTreeMap<u16, usize>,
 }
@@ -78,6 +88,7 @@ impl Contents {
             time: Span::EMPTY,
             latitude: Span::EMPTY,
             longitude: Span::EMPTY,
+            indexes: Vec::new(),
             kinds: BTreeMap::new(),
         };
         for tuple in Walk::START.forwards(file) {
@@ -88,6 +99,10 @@ impl Contents {
 
     fn take(&mut self, file: &[u8], tuple: Tuple) -> Result<(), Refusal> {
         *self.kinds.entry(tuple.kind).or_default() += 1;
+        if let Some(types) = hac::indexed_types(file, tuple) {
+            let place = tuple.place;
+            self.indexes.push(Index { place, types });
+        }
         match tuple.kind {
             types::SOUNDER | types::EK500_SOUNDER => self.take_sounder(file, tuple),
             types::CHANNEL | types::EK500_CHANNEL => self.take_channel(file, tuple),
@@ -140,6 +155,14 @@ impl Contents {
         tally.pings += 1;
         tally.samples += ping.values;
         Ok(())
+    }
+
+    /// Whether an index lists what it has to: each type outside the index class once,
+    /// ascending.
+    pub fn is_true(&self, index: &Index) -> bool {
+        let kinds = self.kinds.keys();
+        let outside = kinds.filter(|kind| !types::INDEX.contains(kind));
+        outside.eq(&index.types)
     }
 
     /// How many tuples have a name, `index` and `unlisted` too.

@@ -1,7 +1,7 @@
 //! The command `hac`: HAC recordings checked, shown on a page, compared with each other,
 //! walked, linked, asked which settings held at each ping, searched for a ping with
-//! corrections beside them, read, brought to their normal form and salvaged, by the proved
-//! library.
+//! corrections beside them, read, brought to their normal form, edited with an index that
+//! stays true, and salvaged, by the proved library.
 
 #![forbid(unsafe_code)]
 
@@ -10,6 +10,7 @@ mod check;
 mod contents;
 mod decimal;
 mod digest;
+mod edits;
 mod files;
 mod groups;
 mod input;
@@ -39,6 +40,7 @@ mod units;
 mod verdict;
 mod walk;
 mod whole;
+mod written;
 
 use arguments::{Arguments, Command};
 use output::{say, Broken, Output};
@@ -48,14 +50,15 @@ use verdict::Status;
 
 const HELP: &str = "\
 HAC fisheries recordings: checked, shown, compared, walked, brought to their normal form,
-salvaged.
+edited, salvaged.
 
   hac check FILE..          is each file accepted? How many tuples has it, and how
                             many identifiers are compared while it is linked? A
                             folder stands for all files in it and below.
   hac show FILE..           what each file holds: sounders and channels, with their
-                            pings and samples, times, positions and how many other
-                            tuples; files and folders as hac check takes them
+                            pings and samples, times, positions, its index, true or
+                            stale, and how many other tuples; files and folders as
+                            hac check takes them
   hac same FILE..           which files have the same content, however they are
                             spelled? A line a group, then what is refused, by code.
   hac normal FILE -o OUT    writes a file's normal form to OUT, whole or not at all;
@@ -63,6 +66,14 @@ salvaged.
   hac normal FILE.. -d FOLDER
                             writes the normal form of each file to FOLDER, under the
                             file's own name, whole or not at all
+  hac index FILE -o OUT     writes a file to OUT with its index, the types of its tuples,
+                            just before the end of file, and no other index; whole or
+                            not at all; where OUT is - to standard output
+  hac append FILE TUPLES -o OUT
+                            the same, with the tuples of another file before the end of
+                            file: framed, in FILE's byte order, without a mark
+  hac remove FILE PLACE -o OUT
+                            the same, without the tuple at a place
   hac salvage FILE -o OUT   writes the mark and the sound tuples of a damaged file to
                             OUT, whole or not at all, and tells what was lost, how
                             many tuples of each type are kept, and what the check
@@ -97,7 +108,8 @@ salvaged.
   -            as FILE: standard input
 
 Behind the place a refusal of a file says in plain words what it is about; pairs
-and words of a ping count from 0.
+and words of a ping count from 0. Of hac index, hac append and hac remove it also
+says where it is of the file as it would be: the place is one in that.
 
 Exit status: 0 accepted, 1 refused, 2 not a file or bad use; of many files 2 if
 any couldn't be read or written, else 1 if any was refused. Of hac same: 2 if any

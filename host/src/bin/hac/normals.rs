@@ -4,13 +4,14 @@
 use crate::files::{self, Entry};
 use crate::input::{Identity, Input};
 use crate::json::Object;
-use crate::normal::Written;
+use crate::normal::FORM;
 use crate::out;
 use crate::output::{say, Broken, Output};
 use crate::progress::Progress;
 use crate::report::Report;
 use crate::shown::shown;
 use crate::verdict::{Status, Verdict};
+use crate::written::Written;
 use std::collections::{HashMap, HashSet};
 use std::fs;
 use std::path::{Path, PathBuf};
@@ -142,7 +143,12 @@ impl Job {
             Outcome::Written(length) => {
                 report.summary.accept(1);
                 let (out, length) = (self.out.as_path(), *length);
-                let written = Written { input, out, length };
+                let written = Written {
+                    input,
+                    what: FORM,
+                    out,
+                    length,
+                };
                 report.line(&written, || written.object())?;
             }
         }

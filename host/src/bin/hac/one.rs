@@ -5,8 +5,10 @@ use crate::input::{self, Input};
 use crate::output::{say, say_verdict, Broken, Output};
 use crate::stop::Stop;
 use crate::verdict::{Status, Verdict};
-use crate::{normal, out, parents, ping, record, salvage, samples, settings, walk};
+use crate::{edits, normal, out, parents, ping, record, salvage, samples, settings, walk};
 use hac::{Advice, Refusal, Walk};
+use std::fs::File;
+use std::io;
 
 pub fn run(input: &Input, task: &Task, output: &mut Output) -> Result<(), Broken> {
     let mut bytes = Vec::new();
@@ -14,6 +16,7 @@ pub fn run(input: &Input, task: &Task, output: &mut Output) -> Result<(), Broken
         Ok(()) => Ok(()),
         Err(Stop::Broken(broken)) => Err(broken),
         Err(Stop::Refused(refusal)) => tell(input, &refused(&bytes, task, refusal), output),
+        Err(Stop::Judged(verdict)) => tell(input, &verdict, output),
         Err(Stop::Unread(error)) => tell(input, &error.into(), output),
         Err(Stop::Beside(verdict)) => tell(task.beside().unwrap_or(input), &verdict, output),
         Err(Stop::Fault(fault)) => {
@@ -46,11 +49,33 @@ fn refused(file: &[u8], task: &Task, refusal: Refusal) -> Verdict {
         }
         Task::Walk { .. } => Verdict::Refused(refusal, None),
         Task::Normal { .. }
+        | Task::Edit { .. }
         | Task::Salvage { .. }
         | Task::Parents { .. }
         | Task::Settings
         | Task::Ping(_) => Verdict::refused(file, refusal),
     }
+}
+
+/// Sees to it that what a task writes takes no input's place.
+fn must_spare(file: &File, task: &Task) -> Result<(), Stop> {
+    if let Some(out) = task.out() {
+        out::must_differ(file, out)?;
+    }
+    if task.is_streamed() {
+        out::must_take_bytes(file)?;
+    }
+    Ok(())
+}
+
+/// Reads the input that a task takes beside its own.
+fn read_beside(input: &Input, task: &Task) -> Result<Vec<u8>, Stop> {
+    let unread = |error: io::Error| Stop::Beside(error.into());
+    let file = input.open().map_err(unread)?;
+    must_spare(&file, task)?;
+    let mut bytes = Vec::new();
+    input::read(&file, &mut bytes).map_err(unread)?;
+    Ok(bytes)
 }
 
 /// Reads the input into memory and does the task.
@@ -61,21 +86,22 @@ fn perform(
     output: &mut Output,
 ) -> Result<(), Stop> {
     let file = input.open()?;
-    if let Some(out) = task.out() {
-        out::must_differ(&file, out)?;
-    }
-    if let Task::Normal { out: None } = task {
-        out::must_take_bytes(&file)?;
-    }
+    must_spare(&file, task)?;
     input::read(&file, bytes)?;
+    let beside = task.beside().map(|input| read_beside(input, task));
+    let beside = beside.transpose()?;
     match task {
         Task::Normal { out } => normal::run(input, bytes, out.as_deref(), output),
+        Task::Edit { change, out } => {
+            let edit = edits::edit_of(change, beside.as_deref());
+            edits::run(input, bytes, edit, out.as_deref(), output)
+        }
         Task::Salvage { out } => salvage::run(input, bytes, out, output),
         Task::Walk { back } => walk::run(bytes, *back, output),
         Task::Parents { place } => parents::run(bytes, *place, output),
         Task::Samples { place } => samples::run(bytes, *place, output),
         Task::Record { place } => record::run(bytes, *place, output),
         Task::Settings => settings::run(bytes, output),
-        Task::Ping(wanted) => ping::run(input, bytes, wanted, output),
+        Task::Ping(wanted) => ping::run(input, bytes, beside.as_deref(), wanted, output),
     }
 }

@@ -1,6 +1,6 @@
 //! What a deposit holds, as a page and as an object.
 
-use crate::contents::{Channel, Contents, Span};
+use crate::contents::{Channel, Contents, Index, Span};
 use crate::input::Input;
 use crate::json::Object;
 use crate::moment::Moment;
@@ -81,6 +81,7 @@ pub fn lines(input: &Input, verdict: &Verdict, contents: &Contents) -> Vec<Strin
     for (identifier, channel) in &contents.channels {
         lines.extend(channel_lines(*identifier, channel));
     }
+    lines.extend(index_lines(contents));
     let counted = COUNTED.map(|(name, number)| (contents.count(name), number));
     let counted = counted.map(|(count, number)| format!("{number} {count}"));
     lines.push(line("tuples", &counted.join(", ")));
@@ -118,6 +119,30 @@ fn channel_lines(identifier: u16, channel: &Channel) -> Vec<String> {
     [line("channel", &told)].into_iter().chain(pings).collect()
 }
 
+/// Whether a list of types is what it has to be.
+fn truth(contents: &Contents, index: &Index) -> &'static str {
+    match contents.is_true(index) {
+        true => "true",
+        false => "stale",
+    }
+}
+
+/// Each index; of a file that has none this alone.
+fn index_lines(contents: &Contents) -> Vec<String> {
+    if contents.indexes.is_empty() {
+        return vec![line("index", "none")];
+    }
+    let indexes = contents.indexes.iter().map(|index| {
+        let types = index.types.iter();
+        let types = types.map(|kind| format!("{kind} {}", types::name(*kind)));
+        let types = types.collect::<Vec<_>>().join(", ");
+        let types = if types.is_empty() { "no types" } else { &types };
+        let truth = truth(contents, index);
+        line("index", &format!("at {}, {truth}: {types}", index.place))
+    });
+    indexes.collect()
+}
+
 pub fn object(input: &Input, verdict: &Verdict, contents: &Contents) -> Object {
     let object = verdict
         .object(input)
@@ -135,6 +160,11 @@ pub fn object(input: &Input, verdict: &Verdict, contents: &Contents) -> Object {
     let channels = channels.map(|(identifier, channel)| channel_object(*identifier, channel));
     let object = object.list("sounders", sounders);
     let object = object.list("channels", channels);
+    let indexes = contents.indexes.iter();
+    let object = object.list(
+        "indexes",
+        indexes.map(|index| index_object(contents, index)),
+    );
     COUNTED.iter().fold(object, |object, (name, number)| {
         object.number(&number.replace(' ', "_"), contents.count(name))
     })
@@ -159,6 +189,18 @@ fn with_degrees(object: Object, direction: &str, span: &Span<i32>) -> Object {
     object
         .number_or_null(&format!("least_{direction}"), least.map(value))
         .number_or_null(&format!("most_{direction}"), most.map(value))
+}
+
+fn index_object(contents: &Contents, index: &Index) -> Object {
+    let types = index.types.iter().map(|kind| {
+        Object::default()
+            .number("type", *kind)
+            .text("name", types::name(*kind))
+    });
+    Object::default()
+        .number("place", index.place)
+        .text("list", truth(contents, index))
+        .list("types", types)
 }
 
 fn channel_object(identifier: u16, channel: &Channel) -> Object {

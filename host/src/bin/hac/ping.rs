@@ -3,7 +3,7 @@
 //! samples and its own bytes.
 
 use crate::arguments::Wanted;
-use crate::input::{self, Input};
+use crate::input::Input;
 use crate::json::Object;
 use crate::output::Output;
 use crate::shown::shown;
@@ -11,20 +11,16 @@ use crate::stop::Stop;
 use crate::verdict::Verdict;
 use crate::{out, samples};
 use hac::{Corrected, NotFound, Ping, Source};
-use std::io;
 use std::path::Path;
 
 pub fn run(
     input: &Input,
     deposit: &[u8],
+    beside: Option<&[u8]>,
     wanted: &Wanted,
     output: &mut Output,
 ) -> Result<(), Stop> {
-    let beside = match &wanted.corrections {
-        Some(corrections) => Some(read(corrections, wanted.out.as_deref())?),
-        None => None,
-    };
-    let corrections = beside.as_deref().unwrap_or(hac::NO_CORRECTIONS);
+    let corrections = beside.unwrap_or(hac::NO_CORRECTIONS);
     let found = hac::corrected(deposit, corrections, wanted.channel, wanted.number)
         .map_err(|not_found| stopped(not_found, corrections))?;
     let (name, file) = match (found.from, &wanted.corrections) {
@@ -40,18 +36,6 @@ pub fn run(
         samples::run(file, found.place, output)?;
     }
     Ok(())
-}
-
-/// Reads the corrections. OUT is none of the inputs.
-fn read(corrections: &Input, out: Option<&Path>) -> Result<Vec<u8>, Stop> {
-    let unread = |error: io::Error| Stop::Beside(error.into());
-    let file = corrections.open().map_err(unread)?;
-    if let Some(out) = out {
-        out::must_differ(&file, out)?;
-    }
-    let mut bytes = Vec::new();
-    input::read(&file, &mut bytes).map_err(unread)?;
-    Ok(bytes)
 }
 
 /// A refusal is told of the file that it is about; that neither holds the ping, of the

@@ -153,7 +153,7 @@ fn tell_formless(
 
 fn rank(verdict: &Verdict) -> (Status, Option<Code>) {
     let code = match verdict {
-        Verdict::Refused(refusal, _) => Some(refusal.code),
+        Verdict::Refused(refusal, _) | Verdict::WouldBe(refusal, _) => Some(refusal.code),
         Verdict::Accepted(_) | Verdict::Unread(_) => None,
     };
     (verdict.status(), code)

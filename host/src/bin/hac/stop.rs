@@ -9,6 +9,8 @@ pub enum Stop {
     Broken(Broken),
     /// Its input was refused.
     Refused(Refusal),
+    /// What came of its input, where more than a refusal is known of it.
+    Judged(Verdict),
     /// Its input couldn't be read.
     Unread(io::Error),
     /// What came of the input beside it.

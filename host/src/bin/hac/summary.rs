@@ -23,7 +23,9 @@ impl Summary {
     pub fn count(&mut self, verdict: &Verdict) {
         match verdict {
             Verdict::Accepted(_) => self.accept(1),
-            Verdict::Refused(refusal, _) => *self.codes.entry(refusal.code).or_default() += 1,
+            Verdict::Refused(refusal, _) | Verdict::WouldBe(refusal, _) => {
+                *self.codes.entry(refusal.code).or_default() += 1;
+            }
             Verdict::Unread(_) => self.unread += 1,
         }
     }

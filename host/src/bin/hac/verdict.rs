@@ -23,6 +23,9 @@ pub enum Verdict {
     Accepted(Counts),
     /// Refused, and what the refusal is about, where more can be told of it.
     Refused(Refusal, Option<Advice>),
+    /// An edit of it refused: the file as it would be is judged, and the place is one in
+    /// that.
+    WouldBe(Refusal, Option<Advice>),
     /// Not read, and why.
     Unread(String),
 }
@@ -41,7 +44,7 @@ impl Verdict {
     pub fn status(&self) -> Status {
         match self {
             Verdict::Accepted(_) => Status::Accepted,
-            Verdict::Refused(..) => Status::Refused,
+            Verdict::Refused(..) | Verdict::WouldBe(..) => Status::Refused,
             Verdict::Unread(_) => Status::Unread,
         }
     }
@@ -58,19 +61,31 @@ impl Verdict {
                 .text("outcome", "accepted")
                 .number("tuples", *tuples)
                 .number("compared", *compared),
-            Verdict::Refused(Refusal { code, place }, advice) => {
-                let object = object
-                    .text("outcome", "refused")
-                    .number("code", code.number())
-                    .text("words", code.words())
-                    .number("place", *place);
-                match advice {
-                    Some(advice) => with_advice(object, advice),
-                    None => object,
-                }
+            Verdict::Refused(refusal, advice) => {
+                with_refusal(object.text("outcome", "refused"), *refusal, advice)
+            }
+            Verdict::WouldBe(refusal, advice) => {
+                let object = object.text("outcome", "refused");
+                with_refusal(object.text("judged", "as it would be"), *refusal, advice)
             }
             Verdict::Unread(why) => object.text("outcome", "unread").text("error", why),
         }
+    }
+}
+
+/// An object that also tells a refusal.
+fn with_refusal(
+    object: Object,
+    Refusal { code, place }: Refusal,
+    advice: &Option<Advice>,
+) -> Object {
+    let object = object
+        .number("code", code.number())
+        .text("words", code.words())
+        .number("place", place);
+    match advice {
+        Some(advice) => with_advice(object, advice),
+        None => object,
     }
 }
 
@@ -91,9 +106,27 @@ impl fmt::Display for Verdict {
                 to,
                 "accepted, {tuples} tuples, {compared} identifiers compared"
             ),
-            Verdict::Refused(refusal, None) => write!(to, "refused, {refusal}"),
-            Verdict::Refused(refusal, Some(advice)) => write!(to, "refused, {refusal}: {advice}"),
+            Verdict::Refused(refusal, advice) => write!(to, "refused, {}", Told(refusal, advice)),
+            Verdict::WouldBe(refusal, advice) => write!(
+                to,
+                "refused in the file as it would be, {}",
+                Told(refusal, advice)
+            ),
             Verdict::Unread(why) => to.write_str(why),
+        }
+    }
+}
+
+/// A refusal, and what it is about.
+struct Told<'a>(&'a Refusal, &'a Option<Advice>);
+
+impl fmt::Display for Told<'_> {
+    fn fmt(&self, to: &mut fmt::Formatter<'_>) -> fmt::Result {
+        let Told(refusal, advice) = self;
+        refusal.fmt(to)?;
+        match advice {
+            Some(advice) => write!(to, ": {advice}"),
+            None => Ok(()),
         }
     }
 }
