@@ -2,10 +2,10 @@
 //! it: its index is written, bytes are appended, tuples are removed.
 
 use super::corrections::bytes_of;
-use super::draft::{index_tuple, render, Body, Draft, Pen, Piece, Style};
+use super::draft::{index_of, index_tuple, render, Body, Draft, Pen, Piece, Style, INDEX_1};
 use super::faults::{bad_size, declared, spoilt_behind, unused_channel, unused_document};
 use super::faults::{Document, Software};
-use super::limits::{filled, FILE_LIMIT};
+use super::limits::{filled, FILE_LIMIT, FILLED_INDEX};
 use super::sound::*;
 use super::Rng;
 use crate::order::Order;
@@ -112,23 +112,6 @@ const APPENDS_IF_REFUSED: u64 = 2;
 
 /// So many tuples of a file are removed at the most, its first and last ones among them.
 const REMOVES: usize = 20;
-
-/// The Index 1 tuple of Table 14.
-const INDEX_1: u16 = 65406;
-
-fn index_of(types: &[u16]) -> Draft {
-    let mut pieces = vec![Two(0), Four(0)];
-    pieces.extend(types.iter().copied().map(Two));
-    if types.len() % 2 == 1 {
-        pieces.push(Two(0));
-    }
-    Draft {
-        code: INDEX_1,
-        body: Body::Fields(pieces),
-        attribute: 0,
-        patch: None,
-    }
-}
 
 /// An index that is wrong in one thing: a type too few or too many, one twice, their order, the
 /// time, the attribute, the type of the tuple itself.
@@ -501,9 +484,6 @@ pub fn edit_case(seed: u64, number: u64) -> EditCase {
         edits,
     }
 }
-
-/// The bytes of the index of a filled file: six types and that of event markers, so a space.
-const FILLED_INDEX: usize = 20 + 16;
 
 /// How many cases there are of about 16 MiB.
 pub fn big_edit_count() -> usize {
