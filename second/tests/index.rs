@@ -161,25 +161,23 @@ fn any_file() {
 /// Results at the limit and past it.
 #[test]
 fn limits() {
+    const LIMIT: usize = 16_777_216;
     #[rustfmt::skip]
-    let codes: [&[u32]; 4] = [&[1, 1, 3, 4], &[0, 1, 3, 5, 1], &[0, 1], &[0, 1]];
-    assert_eq!(codes.len(), big_edit_count());
-    for (nth, codes) in codes.into_iter().enumerate() {
+    let told: [&[u32]; 5] = [&[1, 0, 1], &[1, 1, 3, 4], &[0, 1, 3, 5, 1], &[0, 1], &[0, 1]];
+    assert_eq!(2 * told.len(), big_edit_count());
+    for nth in 0..big_edit_count() {
         let case = big_edit(nth);
-        let told = case.edits.iter().map(|edit| {
-            let told = judge(&case.file, edit, &case.name);
-            told.as_ref().map_or_else(|refusal| refusal.code, |_| 0)
+        let mut longest = 0;
+        let codes = case.edits.iter().map(|edit| {
+            match judge(&case.file, edit, &case.name) {
+                Ok(result) => longest = longest.max(result.len()),
+                Err(refusal) => return refusal.code,
+            }
+            0
         });
-        assert_eq!(told.collect::<Vec<u32>>(), codes, "{}", case.name);
-        let longest = case
-            .edits
-            .iter()
-            .filter_map(|edit| defined(&case.file, edit).ok());
-        let longest = longest.map(|result| result.len()).max();
-        match nth {
-            1 | 2 => assert_eq!(longest, Some(16_777_216), "{}", case.name),
-            _ => assert!(longest < Some(16_777_216), "{}", case.name),
-        }
+        assert_eq!(codes.collect::<Vec<u32>>(), told[nth / 2], "{}", case.name);
+        let at_limit = case.name.contains("-at-") || case.name.contains("-appended-");
+        assert_eq!(longest == LIMIT, at_limit, "{}", case.name);
     }
 }
 
