@@ -353,6 +353,11 @@ impl Batch {
         self.tally.met_in_corrections(what);
     }
 
+    /// Notes what edits met.
+    pub fn met_in_edits(&mut self, what: String) {
+        self.tally.met_in_edits(what);
+    }
+
     /// Notes that a channel of this maker named a sounder of the other.
     pub fn other_maker(&mut self, channel: Maker) {
         self.tally.other_maker(channel);

@@ -1,10 +1,11 @@
 //! What is compared of a file: the check, the walks, pings and records read at many
-//! places, settings, a ping looked for in it and another beside it, salvage, and the normal
-//! form.
+//! places, settings, a ping looked for in it and another beside it, salvage, what is done to
+//! it, and the normal form.
 
 use crate::answers::{five, reply_numbers};
 use crate::batch::{Batch, File, FILLED, HALF_FILLED};
 use crate::corrections::compare_beside;
+use crate::edits::compare_own_edits;
 use crate::exports::{export, Export};
 use crate::kinds::header_numbers;
 use crate::records;
@@ -162,8 +163,8 @@ fn call_at(batch: &mut Batch, export: Export, file: &mut File, place: u64, numbe
 }
 
 /// The check, both walks, fields, samples and angles of each ping, the parents of the
-/// first and the last, settings, salvage and the normal form. Gives that, where there is
-/// one.
+/// first and the last, settings, salvage, edits and the normal form. Gives that, where
+/// there is one.
 pub fn compare_whole(batch: &mut Batch, case: &Case) -> io::Result<Option<Vec<u8>>> {
     let mut file = File::new(&case.bytes);
     check_file(batch, &mut file, case.expected);
@@ -171,6 +172,7 @@ pub fn compare_whole(batch: &mut Batch, case: &Case) -> io::Result<Option<Vec<u8
     each_ping(batch, &mut file, &tuples)?;
     compare_settings(batch, &mut file, Tries::One)?;
     compare_salvage(batch, &mut file)?;
+    compare_own_edits(batch, &mut file)?;
     compare_normal(batch, export("normalise"), normalise, &mut file)
 }
 
@@ -238,6 +240,7 @@ pub fn compare_file(
     compare_settings(batch, &mut file, Tries::All)?;
     compare_beside(batch, &mut file)?;
     compare_salvage(batch, &mut file)?;
+    compare_own_edits(batch, &mut file)?;
     compare_normal(batch, export("normalise"), normalise, &mut file)
 }
 

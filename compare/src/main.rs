@@ -13,6 +13,7 @@ mod batch;
 mod boundary;
 mod cases;
 mod corrections;
+mod edits;
 mod exports;
 mod files;
 mod kinds;

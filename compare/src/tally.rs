@@ -1,10 +1,10 @@
 //! What was compared: how often each export was called, which codes it gave, how
 //! many identifiers it told as compared, which records were met and which files, and
-//! what salvage, settings and corrections met in these.
+//! what salvage, settings, corrections and edits met in these.
 
 use crate::exports::{Export, EXPORTS};
 use crate::kinds::KINDS;
-use crate::{corrections, salvage, settings};
+use crate::{corrections, edits, salvage, settings};
 use second::kinds::{Kind, KINDS as PING_KINDS};
 use second::layout::{CHANNEL_LIMIT, FILE_LIMIT};
 use second::{Maker, Order, PingKind};
@@ -182,10 +182,11 @@ pub struct Tally {
     other_maker: [u64; 2],
     /// In the order of the kinds of ping.
     pings: [Pings; PING_KINDS.len()],
-    /// What salvage met, what settings met, and what corrections did.
+    /// What salvage met, what settings met, what corrections did, and what edits did.
     salvage: Met,
     settings: Met,
     corrections: Met,
+    edits: Met,
     pub cases: u64,
     files: u64,
     bytes: u64,
@@ -203,6 +204,7 @@ impl Default for Tally {
             salvage: Met::default(),
             settings: Met::default(),
             corrections: Met::default(),
+            edits: Met::default(),
             cases: 0,
             files: 0,
             bytes: 0,
@@ -257,6 +259,11 @@ impl Tally {
     /// Counts what corrections met.
     pub fn met_in_corrections(&mut self, what: String) {
         self.corrections.note(what);
+    }
+
+    /// Counts what edits met.
+    pub fn met_in_edits(&mut self, what: String) {
+        self.edits.note(what);
     }
 
     /// Of each kind of ping and each deed how often it was done, without a length and with
@@ -317,6 +324,7 @@ impl Tally {
         self.salvage.add(&other.salvage);
         self.settings.add(&other.settings);
         self.corrections.add(&other.corrections);
+        self.edits.add(&other.edits);
         let sums = self.pings.as_flattened_mut().as_flattened_mut();
         for (sum, times) in sums
             .iter_mut()
@@ -329,7 +337,7 @@ impl Tally {
     /// In words, a line each: cases and files; each export's calls with the codes
     /// that they gave and the identifiers compared; the records; the channels that
     /// named a sounder of the other maker; the pings of each kind; what salvage,
-    /// settings and corrections met.
+    /// settings, corrections and edits met.
     pub fn tell(&self) -> Vec<String> {
         let [lsb, msb] = &self.marked;
         let calls: u64 = self.exports.iter().map(Count::calls).sum();
@@ -417,7 +425,7 @@ impl Tally {
     /// What was not compared: codes that no call gave; what an export or a record
     /// never did; files at the limit and past it in either order; a sounder of the
     /// other maker named by a channel of either; pings of each kind; what salvage,
-    /// settings and corrections have to meet.
+    /// settings, corrections and edits have to meet.
     pub fn missing(&self, given: &[Given]) -> Vec<String> {
         let mut missing = Vec::new();
         for (export, count) in EXPORTS.iter().zip(&self.exports) {
@@ -460,11 +468,12 @@ impl Tally {
     }
 
     /// What was met, by the name of those who met it, and what they have to meet.
-    fn all_met(&self) -> [(&'static str, &Met, Wanted); 3] {
+    fn all_met(&self) -> [(&'static str, &Met, Wanted); 4] {
         [
             ("salvage", &self.salvage, salvage::wanted),
             ("settings", &self.settings, settings::wanted),
             ("corrections", &self.corrections, corrections::wanted),
+            ("edits", &self.edits, edits::wanted),
         ]
     }
 }

@@ -6,27 +6,14 @@ use crate::layout::{self, class, Class};
 use crate::links::{ChannelLink, DocumentId, Links, Maker, SoftwareChannel, SounderLink};
 use crate::order::{four_at, two_at, Order};
 use crate::records::judge_fields;
-use crate::samples::{judge_ping, normal_ping_length};
+use crate::samples::judge_ping;
 use crate::walk::{frame, mark, Tuple};
-
-/// What a survey is made for. The normaliser alone has to know how long the normal
-/// form is, and of a ping of words that takes another look at each of them.
-#[derive(Clone, Copy, PartialEq, Eq)]
-pub(crate) enum Purpose {
-    Check,
-    Normal,
-}
 
 /// What one pass over an accepted file finds out.
 pub(crate) struct Survey {
     pub order: Order,
     pub tuples: u64,
     pub links: Links,
-    purpose: Purpose,
-    /// Length of the normal form, mark and all, where the survey is made for that.
-    pub normal_length: u64,
-    /// Code 18: the first unlisted type outside the index class, in MSB order.
-    pub not_turnable: Option<u64>,
 }
 
 /// The classes seen so far that a file must have.
@@ -97,30 +84,22 @@ pub(crate) fn judge_samples(bytes: &[u8], code: u16, order: Order) -> Result<(),
     }
 }
 
-/// Length of a judged tuple's normal form, 0 for the index class.
-pub(crate) fn normal_length(bytes: &[u8], code: u16, order: Order) -> u64 {
-    match PingKind::of(code) {
-        Some(kind) => normal_ping_length(bytes, kind, order),
-        None if class(code) == Some(Class::Index) => 0,
-        None => bytes.len() as u64,
-    }
-}
-
-/// Whether code 18 bars a type: its bytes can't be turned.
-pub(crate) fn not_turnable(code: u16, order: Order) -> bool {
-    order == Order::Msb && !layout::is_listed(code) && class(code) != Some(Class::Index)
-}
-
 /// The one pass: the check's refusals, or what it found.
-pub(crate) fn survey(file: &[u8], purpose: Purpose) -> Result<Survey, Answer> {
+pub(crate) fn survey(file: &[u8]) -> Result<Survey, Answer> {
+    survey_each(file, |_, _, _| {})
+}
+
+/// The same for who looks at each judged tuple on the way: at its frame, its bytes and their
+/// order.
+pub(crate) fn survey_each(
+    file: &[u8],
+    mut each: impl FnMut(&Tuple, &[u8], Order),
+) -> Result<Survey, Answer> {
     let order = mark(file).map_err(|code| Answer::refused(code, 0))?;
     let mut survey = Survey {
         order,
         tuples: 0,
         links: Links::default(),
-        purpose,
-        normal_length: 4,
-        not_turnable: None,
     };
     let mut seen = Seen::default();
     let mut place = 4;
@@ -131,7 +110,9 @@ pub(crate) fn survey(file: &[u8], purpose: Purpose) -> Result<Survey, Answer> {
         let tuple = survey
             .take_tuple(file, place, &mut seen)
             .map_err(|fault| fault.at(place as u64))?;
-        place += tuple.length as usize;
+        let end = place + tuple.length as usize;
+        each(&tuple, &file[place..end], order);
+        place = end;
         if tuple.code == layout::END_OF_FILE {
             break;
         }
@@ -166,12 +147,6 @@ impl Survey {
         judge_fields(bytes, tuple.code, order)?;
         judge_links(&mut self.links, &tuple, bytes, order)?;
         judge_samples(bytes, tuple.code, order)?;
-        if self.purpose == Purpose::Normal {
-            self.normal_length += normal_length(bytes, tuple.code, order);
-        }
-        if self.not_turnable.is_none() && not_turnable(tuple.code, order) {
-            self.not_turnable = Some(tuple.place);
-        }
         seen.note(class(tuple.code));
         self.tuples += 1;
         Ok(tuple)
@@ -180,7 +155,7 @@ impl Survey {
 
 /// Checks a whole file.
 pub fn check(file: &[u8]) -> Answer {
-    match survey(file, Purpose::Check) {
+    match survey(file) {
         Ok(survey) => survey.accepted(0),
         Err(refusal) => refusal,
     }

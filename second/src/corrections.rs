@@ -1,7 +1,7 @@
 //! Request k of 02: corrections beside the deposit.
 
 use crate::answer::Answer;
-use crate::check::{survey, Purpose};
+use crate::check::survey;
 use crate::kinds::PingKind;
 use crate::links::SoftwareChannel;
 use crate::order::Order;
@@ -57,7 +57,7 @@ struct Passed<'a> {
 impl<'a> Passed<'a> {
     /// Checks a file: its own refusal, with its mark.
     fn check(mark: WhichFile, file: &'a [u8]) -> Result<Passed<'a>, Corrected<'a>> {
-        match survey(file, Purpose::Check) {
+        match survey(file) {
             Ok(survey) => Ok(Passed {
                 mark,
                 file,

@@ -1,7 +1,7 @@
 //! Request h of 02: an index that stays true.
 
 use crate::answer::Answer;
-use crate::check::{survey, Purpose, Survey};
+use crate::check::{survey, Survey};
 use crate::layout::{class, Class, END_OF_FILE, FILE_LIMIT};
 use crate::order::{put_four, put_two, two_at, Order};
 use crate::walk::frame;
@@ -148,7 +148,7 @@ impl<'a> Tuples<'a> {
 /// Hands back the result of a call on a checked file: what the check says against the
 /// result, then 19 at 0 where it has no room.
 fn hand_back(checked: &Survey, result: &[u8], out: &mut [u8]) -> Result<Answer, Answer> {
-    survey(result, Purpose::Check)?;
+    survey(result)?;
     let out = out.get_mut(..result.len());
     let out = out.ok_or(Answer::refused(19, 0))?;
     out.copy_from_slice(result);
@@ -156,13 +156,13 @@ fn hand_back(checked: &Survey, result: &[u8], out: &mut [u8]) -> Result<Answer, 
 }
 
 fn try_index(file: &[u8], out: &mut [u8]) -> Result<Answer, Answer> {
-    let checked = survey(file, Purpose::Check)?;
+    let checked = survey(file)?;
     let result = Tuples::of_file(&checked, file).reindexed();
     hand_back(&checked, &result, out)
 }
 
 fn try_append(file: &[u8], bytes: &[u8], out: &mut [u8]) -> Result<Answer, Answer> {
-    let checked = survey(file, Purpose::Check)?;
+    let checked = survey(file)?;
     if bytes.len() as u64 > FILE_LIMIT {
         return Err(Answer::refused(1, 0));
     }
@@ -182,7 +182,7 @@ fn try_append(file: &[u8], bytes: &[u8], out: &mut [u8]) -> Result<Answer, Answe
 }
 
 fn try_remove(file: &[u8], place: u64, out: &mut [u8]) -> Result<Answer, Answer> {
-    let checked = survey(file, Purpose::Check)?;
+    let checked = survey(file)?;
     let mut all = Tuples::of_file(&checked, file);
     all.take_at(place).ok_or(Answer::refused(3, place))?;
     hand_back(&checked, &all.reindexed(), out)

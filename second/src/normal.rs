@@ -1,28 +1,83 @@
 //! Chapter "Content and normal form": the normaliser.
 
 use crate::answer::Answer;
-use crate::check::{survey, Purpose};
+use crate::check::{survey_each, Survey};
+use crate::index::Types;
 use crate::kinds::{PingKind, COUNT_AT, HEADER_END, TAIL};
 use crate::layout::{self, class, Class, Field, FILE_LIMIT, HAC_IDENTIFIER, ROW_START};
 use crate::order::{four_at, put_four, put_two, two_at, Order};
-use crate::samples::normal_samples;
-use crate::walk::frame;
+use crate::samples::{normal_ping, normal_samples};
+use crate::walk::{frame, Tuple};
 
-/// Writes the normal form of a file. The check's refusals, then 18, 20, 19;
-/// a refusal leaves every byte of `out`, success leaves those past the length
-/// written. Two passes: the check, then the writing.
+/// What the normaliser has to know of a file before it writes anything.
+struct Measure {
+    /// The normal form's length, mark and all but its index.
+    length: u64,
+    /// The types that its tuples have.
+    types: Types,
+    /// Code 18: the first unlisted type outside the index class, in MSB order.
+    not_turnable: Option<u64>,
+}
+
+impl Measure {
+    /// The check's refusals, or what it found, and the measure.
+    fn of(file: &[u8]) -> Result<(Survey, Measure), Answer> {
+        let mut measure = Measure {
+            length: 4,
+            types: Types::none(),
+            not_turnable: None,
+        };
+        let survey = survey_each(file, |tuple, bytes, order| {
+            measure.take(tuple, bytes, order);
+        })?;
+        measure.length += measure.types.index_length() as u64;
+        Ok((survey, measure))
+    }
+
+    fn take(&mut self, tuple: &Tuple, bytes: &[u8], order: Order) {
+        let (code, length) = normal_shape(bytes, tuple.code, order);
+        self.types.note(code);
+        self.length += length;
+        if self.not_turnable.is_none() && not_turnable(tuple.code, order) {
+            self.not_turnable = Some(tuple.place);
+        }
+    }
+}
+
+/// Type and length of a judged tuple's normal form; the length is 0 for the index class. Of a
+/// ping of words it takes another look at each of them.
+pub(crate) fn normal_shape(bytes: &[u8], code: u16, order: Order) -> (u16, u64) {
+    match PingKind::of(code) {
+        Some(kind) => {
+            let (normal, length) = normal_ping(bytes, kind, order);
+            (normal.row().code, length)
+        }
+        None if class(code) == Some(Class::Index) => (code, 0),
+        None => (code, bytes.len() as u64),
+    }
+}
+
+/// Whether code 18 bars a type: its bytes can't be turned.
+pub(crate) fn not_turnable(code: u16, order: Order) -> bool {
+    order == Order::Msb && !layout::is_listed(code) && class(code) != Some(Class::Index)
+}
+
+/// Writes the normal form of a file: the tuples outside the index class, and just before the
+/// end of file the index of those written. The check's refusals, then 18, 20, 19; a refusal
+/// leaves every byte of `out`, success leaves those past the length written. Two passes: the
+/// check, then the writing.
 pub fn normalise(file: &[u8], out: &mut [u8]) -> Answer {
-    let survey = match survey(file, Purpose::Normal) {
-        Ok(survey) => survey,
+    let (survey, measure) = match Measure::of(file) {
+        Ok(found) => found,
         Err(refusal) => return refusal,
     };
-    if let Some(place) = survey.not_turnable {
+    if let Some(place) = measure.not_turnable {
         return Answer::refused(18, place);
     }
-    if survey.normal_length > FILE_LIMIT {
+    if measure.length > FILE_LIMIT {
         return Answer::refused(20, 0);
     }
-    let Some(out) = out.get_mut(..survey.normal_length as usize) else {
+    let Some(out) = out.get_mut(..measure.length as usize) else {
         return Answer::refused(19, 0);
     };
     out[..4].copy_from_slice(&Order::Lsb.mark());
@@ -30,6 +85,9 @@ pub fn normalise(file: &[u8], out: &mut [u8]) -> Answer {
     let mut place = 4;
     while let Ok(tuple) = frame(file, survey.order, place) {
         let end = place + tuple.length as usize;
+        if tuple.code == layout::END_OF_FILE {
+            written += measure.types.put_index(Order::Lsb, &mut out[written..]);
+        }
         written += write_normal(
             &file[place..end],
             tuple.code,

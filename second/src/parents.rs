@@ -1,7 +1,7 @@
 //! Asking for a ping's channel and sounder.
 
 use crate::answer::{Answer, Reply};
-use crate::check::{survey, Purpose};
+use crate::check::survey;
 use crate::kinds::PingKind;
 use crate::links::{DocumentId, SoftwareChannel};
 use crate::order::two_at;
@@ -38,7 +38,7 @@ fn tuple_starting_at(file: &[u8], asked: u64) -> Option<Tuple> {
 /// the whole file, then 9 at the place where no listed ping starts. Accepts
 /// with the file's number of tuples and the check's comparisons.
 pub fn parents(file: &[u8], place: u64) -> Reply<Parents> {
-    let survey = survey(file, Purpose::Check)?;
+    let survey = survey(file)?;
     let refusal = Answer::refused(9, place);
     let tuple = tuple_starting_at(file, place).ok_or(refusal)?;
     if PingKind::of(tuple.code).is_none() {

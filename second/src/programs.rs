@@ -1,8 +1,8 @@
 //! Chapter "Two programs": from input bytes to printed bytes.
 
 use crate::answer::Answer;
-use crate::check::{judge_samples, normal_length, not_turnable};
-use crate::normal::{normalise, write_normal};
+use crate::check::judge_samples;
+use crate::normal::{normal_shape, normalise, not_turnable, write_normal};
 use crate::order::Order;
 use crate::records::judge_fields;
 use crate::walk::{forward, frame, mark, Step};
@@ -114,7 +114,8 @@ fn try_tuple(file: &[u8], out: &mut [u8]) -> Result<Answer, Answer> {
     if not_turnable(tuple.code, order) {
         return Err(at_tuple(18));
     }
-    let length = 4 + normal_length(bytes, tuple.code, order) as usize;
+    let (_, normal_length) = normal_shape(bytes, tuple.code, order);
+    let length = 4 + normal_length as usize;
     let out = out.get_mut(..length).ok_or(Answer::refused(19, 0))?;
     out[..4].copy_from_slice(&Order::Lsb.mark());
     write_normal(bytes, tuple.code, order, &mut out[4..]);

@@ -62,12 +62,12 @@ pub(crate) fn take_angles(
     listed!(kind, order, take_angles(tuple, numbers, angles))
 }
 
-/// The length of a judged ping's normal form.
-pub(crate) fn normal_ping_length(tuple: &[u8], kind: PingKind, order: Order) -> u64 {
+/// The kind and the length of a judged ping's normal form.
+pub(crate) fn normal_ping(tuple: &[u8], kind: PingKind, order: Order) -> (PingKind, u64) {
     if kind.row().is_packed() {
-        packed!(kind, order, normal_length(tuple))
+        packed!(kind, order, normal(tuple))
     } else {
-        tuple.len() as u64
+        (kind, tuple.len() as u64)
     }
 }
 
@@ -161,11 +161,14 @@ impl<const K: usize, const MSB: bool> Packed<K, MSB> {
         Self::ends_in_run(words) || most > reach && u64::from(Self::samples(words)) > reach
     }
 
-    fn normal_length(tuple: &[u8]) -> u64 {
+    fn normal(tuple: &[u8]) -> (PingKind, u64) {
         let words = Self::words_of(tuple);
         match Self::ROW.family.listed() {
-            Some(listed) if !Self::stay(words) => listed.row().length(stated::<MSB>(tuple).into()),
-            _ => Self::ROW.length(Self::fewest(words)),
+            Some(listed) if !Self::stay(words) => {
+                let count = stated::<MSB>(tuple);
+                (listed, listed.row().length(count.into()))
+            }
+            _ => (Self::ROW.kind, Self::ROW.length(Self::fewest(words))),
         }
     }
 

@@ -1,7 +1,7 @@
 //! Request l of 02: which settings held at each ping.
 
 use crate::answer::Answer;
-use crate::check::{survey, Purpose};
+use crate::check::survey;
 use crate::kinds::PingKind;
 use crate::layout;
 use crate::links::SoftwareChannel;
@@ -89,7 +89,7 @@ pub fn settings(
     thresholds: &mut [u64],
     attitudes: &mut [u64],
 ) -> Answer {
-    let survey = match survey(file, Purpose::Check) {
+    let survey = match survey(file) {
         Ok(survey) => survey,
         Err(refusal) => return refusal,
     };

@@ -3,12 +3,13 @@
 
 mod common;
 
-use common::{bytes, count, frame_faults, lent, marked, seed, survey, tuples};
-use common::{Bytes, File, FIRST_PING};
+use common::indexed::{divided, indexed, is_index, reindexed, without_index};
+use common::{bytes, count, lent, marked, seed, survey, tuples, written, Bytes, FIRST_PING};
 use second::gen::{big_edit, big_edit_count, edit_case, file_case, Case, Edit, Rng};
 use second::layout::{class, Class};
+use second::programs::normalise_tuple;
 use second::{append, check, content, index, normalise, remove, Answer, Order};
-use std::collections::{BTreeMap, BTreeSet};
+use std::collections::BTreeMap;
 
 /// The call of an edit.
 fn call(file: &[u8], edit: &Edit, out: &mut [u8]) -> Answer {
@@ -17,64 +18,6 @@ fn call(file: &[u8], edit: &Edit, out: &mut [u8]) -> Answer {
         Edit::Append(bytes) => append(file, bytes, out),
         Edit::Remove(place) => remove(file, *place, out),
     }
-}
-
-fn is_index(code: u64) -> bool {
-    (65406..=65515).contains(&code)
-}
-
-/// Tuples as a list: where each starts, its type and its bytes.
-type Item = (usize, u64, Vec<u8>);
-
-/// The tuples behind a mark, as far as they go, and what is left.
-fn divided(marked: &[u8]) -> (Vec<Item>, Vec<u8>) {
-    let file = File::new(marked).expect("a mark");
-    let mut items = Vec::new();
-    let mut at = 4;
-    while frame_faults(&file, at).is_empty() {
-        let to = at + file.number(at, 4) as usize + 10;
-        items.push((at, file.number(at + 4, 2), marked[at..to].to_vec()));
-        at = to;
-    }
-    (items, marked[at..].to_vec())
-}
-
-/// A file of some tuples, those of the index class left out, and of bytes behind them.
-fn without_index(mark: &[u8], items: &[Item], behind: &[u8]) -> Vec<u8> {
-    let mut file = mark.to_vec();
-    for (_, _, bytes) in items.iter().filter(|(_, code, _)| !is_index(*code)) {
-        file.extend(bytes);
-    }
-    file.extend(behind);
-    file
-}
-
-/// Table 14's tuple of a list of types.
-fn index_of(order: Order, types: &BTreeSet<u64>) -> Vec<u8> {
-    let spaces = types.len() % 2;
-    let mut tuple = Bytes::new(order);
-    tuple.tuple(65406, 20 + 2 * (types.len() + spaces), |bytes| {
-        bytes.two(0);
-        bytes.four(0);
-        for code in types {
-            bytes.two(*code as u16);
-        }
-    });
-    tuple.bytes
-}
-
-/// 02's sentence: all tuples of the index class are dropped, and one equal to the list worked
-/// out afresh stands just before the end of file.
-fn reindexed(mark: &[u8], mut items: Vec<Item>) -> Vec<u8> {
-    let codes = items.iter().map(|(_, code, _)| *code);
-    let types = codes.filter(|code| !is_index(*code)).collect();
-    let order = Order::of(mark).expect("a mark");
-    let mut behind = index_of(order, &types);
-    if items.last().is_some_and(|(_, code, _)| *code == 65534) {
-        let (_, _, end) = items.pop().unwrap();
-        behind.extend(end);
-    }
-    without_index(mark, &items, &behind)
 }
 
 /// What a call writes, or its refusal, by 02 and its readings.
@@ -218,25 +161,23 @@ fn any_file() {
 /// Results at the limit and past it.
 #[test]
 fn limits() {
+    const LIMIT: usize = 16_777_216;
     #[rustfmt::skip]
-    let codes: [&[u32]; 4] = [&[1, 1, 3, 4], &[0, 1, 3, 5, 1], &[0, 1], &[0, 1]];
-    assert_eq!(codes.len(), big_edit_count());
-    for (nth, codes) in codes.into_iter().enumerate() {
+    let told: [&[u32]; 5] = [&[1, 0, 1], &[1, 1, 3, 4], &[0, 1, 3, 5, 1], &[0, 1], &[0, 1]];
+    assert_eq!(2 * told.len(), big_edit_count());
+    for nth in 0..big_edit_count() {
         let case = big_edit(nth);
-        let told = case.edits.iter().map(|edit| {
-            let told = judge(&case.file, edit, &case.name);
-            told.as_ref().map_or_else(|refusal| refusal.code, |_| 0)
+        let mut longest = 0;
+        let codes = case.edits.iter().map(|edit| {
+            match judge(&case.file, edit, &case.name) {
+                Ok(result) => longest = longest.max(result.len()),
+                Err(refusal) => return refusal.code,
+            }
+            0
         });
-        assert_eq!(told.collect::<Vec<u32>>(), codes, "{}", case.name);
-        let longest = case
-            .edits
-            .iter()
-            .filter_map(|edit| defined(&case.file, edit).ok());
-        let longest = longest.map(|result| result.len()).max();
-        match nth {
-            1 | 2 => assert_eq!(longest, Some(16_777_216), "{}", case.name),
-            _ => assert!(longest < Some(16_777_216), "{}", case.name),
-        }
+        assert_eq!(codes.collect::<Vec<u32>>(), told[nth / 2], "{}", case.name);
+        let at_limit = case.name.contains("-at-") || case.name.contains("-appended-");
+        assert_eq!(longest == LIMIT, at_limit, "{}", case.name);
     }
 }
 
@@ -389,6 +330,86 @@ fn an_index_by_hand() {
     }
 }
 
+/// A ping of words: its header's channel, how many of them are values, and these.
+fn words(order: Order, code: u16, count: u32, words: [u32; 2]) -> Vec<u8> {
+    let mut ping = Bytes::new(order);
+    let length = if code == 10010 { 44 } else { 40 };
+    ping.tuple(code, length, |bytes| {
+        for number in [0, 0, 0, 1, 0, 0, 0, 0, 0] {
+            bytes.two(number);
+        }
+        bytes.four(count);
+        for word in words {
+            match code {
+                10010 => bytes.four(word),
+                _ => bytes.two(word as u16),
+            }
+        }
+    });
+    ping.bytes
+}
+
+/// The normal form has its own tuples' types: a ping that becomes another kind has that one's,
+/// whatever the file's own index said; and all spellings have one normal form, index and all.
+#[test]
+fn the_normal_form_has_its_own_types() {
+    for order in Order::BOTH {
+        // a value last, and a run last, in words of four bytes and of two
+        let values = [
+            words(order, 10010, 2, [5, 6]),
+            words(order, 10040, 2, [5, 6]),
+        ];
+        let runs = [
+            words(order, 10010, 1, [5, 0xFFFF_0000]),
+            words(order, 10040, 1, [5, 0xFF00]),
+        ];
+        for (pings, index) in [
+            (
+                values.concat(),
+                "1a000000 7eff 0000 00000000 1400 6400 e803 1027 2e27 feff ffff 0000 00000000 24000000",
+            ),
+            (
+                runs.concat(),
+                "1a000000 7eff 0000 00000000 1400 6400 e803 1a27 3827 feff ffff 0000 00000000 24000000",
+            ),
+            (
+                [values.concat(), runs.concat()].concat(),
+                "1e000000 7eff 0000 00000000 1400 6400 e803 1027 1a27 2e27 3827 feff ffff 0000 \
+                 00000000 28000000",
+            ),
+        ] {
+            let file = survey(order, |file| file.bytes.extend(pings));
+            let own = result(&file, Edit::Index);
+            let normal = written(|out| normalise(&file, out));
+            assert_eq!(written(|out| normalise(&own, out)), normal);
+            let index = bytes(&index.replace(' ', ""));
+            let start = normal.len() - 24 - index.len();
+            assert_eq!(normal[start..normal.len() - 24], index, "{order:?}");
+            assert_eq!(indexed(&normal), normal);
+            let checked = check(&file);
+            let tuples = checked.tuples + 1;
+            assert_eq!(check(&normal), Answer { tuples, ..checked });
+        }
+    }
+}
+
+/// One tuple's normal form has no index, and an index's own is the mark alone.
+#[test]
+fn one_tuple_has_no_index() {
+    for order in Order::BOTH {
+        let alone = |tuple: &[u8]| [&order.mark()[..], tuple].concat();
+        let normal = |tuple: &[u8]| written(|out| normalise_tuple(&alone(tuple), out));
+        let mark = Order::Lsb.mark();
+        assert_eq!(
+            normal(&ping(order, 1)),
+            [&mark[..], &ping(Order::Lsb, 1)].concat()
+        );
+        let end = tuple(Order::Lsb, 65534, 24);
+        assert_eq!(normal(&tuple(order, 65534, 24)), [&mark[..], &end].concat());
+        assert_eq!(normal(&small_index(order)), mark);
+    }
+}
+
 /// Seven types: a space behind them, and four bytes more.
 #[test]
 fn an_odd_number_of_types_has_a_space() {
@@ -528,18 +549,9 @@ fn appends_that_break_a_rule() {
             refused(&[&index, &sound, &index, &ping(order, 2)]),
             (13, end + 40)
         );
-        // a count of samples, which a C-32 ping of one run hasn't
-        let mut silent = Bytes::new(order);
-        silent.tuple(10010, 40, |bytes| {
-            for number in [0, 0, 0, 1, 0, 0, 0, 0, 0] {
-                bytes.two(number);
-            }
-            bytes.four(1);
-            bytes.four(0xFFFF_0000);
-        });
-        let place = order.read_two(&silent.bytes, 12);
-        assert_eq!(place, Some(1));
-        assert_eq!(refused(&[&silent.bytes]), (25, end + 24));
+        // one value is said to be two
+        let miscounted = words(order, 10010, 2, [5, 0xFFFF_0000]);
+        assert_eq!(refused(&[&miscounted]), (25, end + 24));
         let sounder = declaring(order, 100, 1, 8);
         let whole = [sounder, channel, ping(order, 2)].concat();
         result(&file, Edit::Append(whole));

@@ -4,6 +4,7 @@
 
 mod common;
 
+use common::indexed::indexed;
 use common::{bytes, count, is_run, lent, marked, ping_header, seed, survey, word_places};
 use common::{first_sample_fault, word_value, word_width, written, Bytes, File, FIRST_PING};
 use second::gen::{equal_pair, file_case, unequal_pair, Rng};
@@ -128,7 +129,7 @@ fn becomes(stored: &Stored, normal: &Stored) {
             "{name}"
         );
         let file = whole(order, &[stored.clone(), stored.clone()]);
-        let expected = whole(Order::Lsb, &[normal.clone(), normal.clone()]);
+        let expected = indexed(&whole(Order::Lsb, &[normal.clone(), normal.clone()]));
         assert_eq!(check(&file), Answer::checked(7, 0, 3), "{name}");
         assert_eq!(written(|out| normalise(&file, out)), expected, "{name}");
         assert!(content(&file) == content(&expected), "{name}");

@@ -4,6 +4,7 @@
 
 mod common;
 
+use common::indexed::indexed;
 use common::{bytes, count, is_run, lent, marked, ping_header, seed, survey, tuples};
 use common::{word_places, word_width, written, Bytes, File, FIRST_PING};
 use second::gen::{equal_pair, file_case, frames, unequal_pair, Case, Rng};
@@ -108,7 +109,7 @@ fn becomes(stored: &Stored, normal: &Stored) {
         assert_eq!(normal_tuple(&expected), expected, "{name}");
         assert_eq!(printed(program_two, &tuple), lines(&expected), "{name}");
         let file = whole(order, &[stored.clone(), stored.clone()]);
-        let expected = whole(Order::Lsb, &[normal.clone(), normal.clone()]);
+        let expected = indexed(&whole(Order::Lsb, &[normal.clone(), normal.clone()]));
         assert_eq!(check(&file), Answer::checked(7, 0, 3), "{name}");
         assert_eq!(normal_file(&file), expected, "{name}");
         assert_eq!(printed(program_one, &file), lines(&expected), "{name}");
@@ -323,7 +324,7 @@ fn one_silence_one_form() {
     for values in before {
         for silence in SILENCES {
             let fewest = [values, &full_first(silence)].concat();
-            let expected = whole(Order::Lsb, &[Words(fewest)]);
+            let expected = indexed(&whole(Order::Lsb, &[Words(fewest)]));
             for runs in cuts(silence) {
                 let stored = Words([values, &runs].concat());
                 for order in Order::BOTH {

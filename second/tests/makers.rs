@@ -3,6 +3,7 @@
 
 mod common;
 
+use common::indexed::indexed;
 use common::said::{accepted, file, place, rate, refused, sample_type, Said};
 use common::{bytes, lent, limit_case, tuples, tuples_found, Bytes, File};
 use second::gen::{file_case, frames, Case, Rng};
@@ -230,7 +231,7 @@ fn normal_tuples() {
 /// 18 for the types that once gave it.
 #[test]
 fn normal_file() {
-    let normal = whole(Order::Lsb, "0000");
+    let normal = indexed(&whole(Order::Lsb, "0000"));
     let checked = Answer::checked(8, 0, 1 + 1 + 1 + 2);
     for (order, space) in [
         (Order::Lsb, "0000"),
@@ -240,8 +241,8 @@ fn normal_file() {
     ] {
         let file = whole(order, space);
         assert_eq!(check(&file), checked, "{order:?}");
-        let mut out = lent(464);
-        let length = 464;
+        let length = normal.len() as u64;
+        let mut out = lent(normal.len());
         assert_eq!(normalise(&file, &mut out), Answer { length, ..checked });
         assert_eq!(out, normal, "{order:?} {space}");
         let printed = program_one(frames(&file).join("\n").as_bytes());

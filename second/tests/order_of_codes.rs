@@ -289,9 +289,9 @@ fn eighteen_comes_last_but_before_nineteen() {
     assert_eq!(check(&sound), Answer::checked(7, 0, compared));
     assert_eq!(
         normalise(&sound, &mut out),
-        Answer::checked(7, 308, compared)
+        Answer::checked(7, 308 + 32, compared) // the index of six types
     );
-    assert_eq!(normalise(&sound, &mut out[..307]), Answer::refused(19, 0));
+    assert_eq!(normalise(&sound, &mut out[..339]), Answer::refused(19, 0));
 
     let unlisted = bytes(&[&head, index, private, private, end].concat());
     assert_eq!(check(&unlisted), Answer::checked(9, 0, compared));

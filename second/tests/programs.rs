@@ -210,7 +210,7 @@ fn generated_lines() {
 }
 
 /// Program two on each tuple of an accepted file prints that tuple's line in
-/// program one's print.
+/// program one's print, which has the index's line before the last.
 #[test]
 fn programs_agree_on_tuples() {
     let seed = seed();
@@ -223,11 +223,14 @@ fn programs_agree_on_tuples() {
             }
             let whole =
                 String::from_utf8(program_one(&frames(file).join("\n").into_bytes())).unwrap();
-            let mut lines = whole.lines();
             if whole.starts_with("refused 18") {
                 assert_eq!(Order::of(file), Some(Order::Msb), "{name}");
                 continue;
             }
+            let mut lines: Vec<&str> = whole.lines().collect();
+            let index = lines.remove(lines.len() - 2);
+            assert_eq!(index.get(8..12), Some("7eff"), "{name}: {index:.40}");
+            let mut lines = lines.into_iter();
             assert_eq!(lines.next(), Some("ac000000"), "{name}: {whole:.40}");
             for tuple in tuples(file) {
                 let single = [&file[..4], tuple.bytes(file)].concat();

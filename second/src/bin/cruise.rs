@@ -4,7 +4,7 @@
 //! one normal form; and the cruise once more as a damaged disk gives it, with what can
 //! be salvaged of it. Each file as lines and as bytes. The same bytes come at every run.
 
-use second::gen::{frames, render, Body, Draft, Piece, PingStyle, Rng, Style};
+use second::gen::{frames, index_of, render, Body, Draft, Piece, PingStyle, Rng, Style};
 use second::layout::*;
 use second::programs::BYTE_LIMIT;
 use second::walk::{forward, Step};
@@ -555,17 +555,34 @@ fn normal_form(file: &[u8]) -> io::Result<Vec<u8>> {
     Ok(out)
 }
 
-/// The types of a file's pings, in order.
-fn ping_types(file: &[u8]) -> Vec<u16> {
+/// The types of a file's tuples, in order.
+fn types(file: &[u8]) -> Vec<u16> {
     let mut types = Vec::new();
     let mut place = 4;
     while let Step::Tuple { tuple, next } = forward(file, place) {
-        if class(tuple.code) == Some(Class::Ping) {
-            types.push(tuple.code);
-        }
+        types.push(tuple.code);
         place = next;
     }
     types
+}
+
+/// Those of its pings.
+fn ping_types(file: &[u8]) -> Vec<u16> {
+    let mut types = types(file);
+    types.retain(|code| class(*code) == Some(Class::Ping));
+    types
+}
+
+/// A survey's plain spelling with its index, just before the end of file.
+fn plain(survey: &Survey) -> Vec<u8> {
+    let style = Style::plain(Order::Lsb);
+    let rendered = |drafts: &[Draft]| render(drafts, &style, &mut Rng::new(survey.stream)).bytes;
+    let mut drafts = survey.drafts.clone();
+    let mut listed = types(&rendered(&drafts));
+    listed.sort_unstable();
+    listed.dedup();
+    drafts.insert(drafts.len() - 1, index_of(&listed));
+    rendered(&drafts)
 }
 
 fn write_both(dir: &Path, of: &str, name: &str, file: &[u8]) -> io::Result<()> {
@@ -574,12 +591,11 @@ fn write_both(dir: &Path, of: &str, name: &str, file: &[u8]) -> io::Result<()> {
     fs::write(dir.join(format!("{of}-{name}.hac")), file)
 }
 
-/// Writes a survey's files. Its plain spelling is its normal form, by the encoder of the
-/// drafts; fails where the normaliser makes another, of it or of any spelling, and
+/// Writes a survey's files. Its plain spelling with its index is its normal form, by the
+/// encoder of the drafts; fails where the normaliser makes another, of it or of any spelling, and
 /// where the spellings don't show what they are for.
 fn write_survey(dir: &Path, survey: &Survey) -> io::Result<()> {
-    let plain = Style::plain(Order::Lsb);
-    let normal = render(&survey.drafts, &plain, &mut Rng::new(survey.stream)).bytes;
+    let normal = plain(survey);
     if normal_form(&normal)? != normal {
         return Err(io::Error::other(survey.name));
     }

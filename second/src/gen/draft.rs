@@ -595,12 +595,30 @@ fn cut_words(
     words
 }
 
+/// The type of the Index 1 tuple: TR's Table 14.
+pub(super) const INDEX_1: u16 = 65406;
+
 /// An index-class tuple with anything in it.
 pub(super) fn index_tuple(rng: &mut Rng) -> Draft {
     let code = rng.pick(&[65406, 65407, 65450, 65514, 65515]);
     let data = rng.index(6) * 4 + 6;
     let data = rng.bytes(data);
     Draft::new(rng, code, Body::Raw(data))
+}
+
+/// TR's Index 1 tuple of these types, with a space of 0 where they are odd in number.
+pub fn index_of(types: &[u16]) -> Draft {
+    let mut pieces = vec![Piece::Two(0), Piece::Four(0)];
+    pieces.extend(types.iter().copied().map(Piece::Two));
+    if types.len() % 2 == 1 {
+        pieces.push(Piece::Two(0));
+    }
+    Draft {
+        code: INDEX_1,
+        body: Body::Fields(pieces),
+        attribute: 0,
+        patch: None,
+    }
 }
 
 /// The bytes of a whole file, mark first.

@@ -2,10 +2,10 @@
 //! it: its index is written, bytes are appended, tuples are removed.
 
 use super::corrections::bytes_of;
-use super::draft::{index_tuple, render, Body, Draft, Pen, Piece, Style};
+use super::draft::{index_of, index_tuple, render, Body, Draft, Pen, Piece, Style, INDEX_1};
 use super::faults::{bad_size, declared, spoilt_behind, unused_channel, unused_document};
 use super::faults::{Document, Software};
-use super::limits::{filled, FILE_LIMIT};
+use super::limits::{filled, FILE_LIMIT, FILLED_INDEX};
 use super::sound::*;
 use super::Rng;
 use crate::order::Order;
@@ -112,23 +112,6 @@ const APPENDS_IF_REFUSED: u64 = 2;
 
 /// So many tuples of a file are removed at the most, its first and last ones among them.
 const REMOVES: usize = 20;
-
-/// The Index 1 tuple of Table 14.
-const INDEX_1: u16 = 65406;
-
-fn index_of(types: &[u16]) -> Draft {
-    let mut pieces = vec![Two(0), Four(0)];
-    pieces.extend(types.iter().copied().map(Two));
-    if types.len() % 2 == 1 {
-        pieces.push(Two(0));
-    }
-    Draft {
-        code: INDEX_1,
-        body: Body::Fields(pieces),
-        attribute: 0,
-        patch: None,
-    }
-}
 
 /// An index that is wrong in one thing: a type too few or too many, one twice, their order, the
 /// time, the attribute, the type of the tuple itself.
@@ -502,70 +485,101 @@ pub fn edit_case(seed: u64, number: u64) -> EditCase {
     }
 }
 
-/// The bytes of the index of a filled file: six types and that of event markers, so a space.
-const FILLED_INDEX: usize = 20 + 16;
-
-/// How many cases there are of about 16 MiB.
+/// How many cases there are of about 16 MiB: each in both byte orders.
 pub fn big_edit_count() -> usize {
-    4
+    2 * BIG.len()
 }
 
-/// Cases of about 16 MiB, each with a result at the limit and one past it. Files: one that has
-/// just no room for an index, and one that just has; both leave no room for a tuple more. A
-/// short one, to which as much is appended as there is room for, and a tuple more; bytes that
-/// are themselves at the limit, and past it, though they would be dropped.
+/// Cases of about 16 MiB, with results at the limit and past it, by name: files at the limit
+/// itself, that have just no room for an index, and that just have; a shorter one, to which as
+/// much is appended as there is room for, and more; a short one, and bytes that are themselves
+/// at the limit, and past it, though they would be dropped.
+const BIG: [(&str, MakeBig); 5] = [
+    ("full", full_file),
+    ("past", past_by_index),
+    ("at", at_with_index),
+    ("appended", appended_up_to),
+    ("dropped", dropped_up_to),
+];
+
+/// The file, and what to do with it, in a style.
+type MakeBig = fn(&Style) -> (Vec<u8>, Vec<Edit>);
+
+/// The lengths of an end of file, and of the longest tuple.
+const END: usize = 24;
+const LONGEST: usize = 1 << 18;
+
+/// Where the first of the markers that fill a file starts: behind mark, signature, sounder,
+/// channel, position and silent ping.
+const FILLED_FROM: u64 = 4 + 24 + 72 + 108 + 36 + 40;
+
+/// A tuple of zeros.
+fn zeros(style: &Style, code: u16, length: usize) -> Vec<u8> {
+    let mut rng = Rng::new(0);
+    let draft = Draft::new(&mut rng, code, Body::Raw(vec![0; length - 10]));
+    written(&mut rng, &[draft], style)
+}
+
+/// A type that isn't listed.
+const PRIVATE: u16 = 65400;
+
+fn full_file(style: &Style) -> (Vec<u8>, Vec<Edit>) {
+    let file = filled(style.order, FILE_LIMIT);
+    let end = (FILE_LIMIT - END) as u64;
+    let places = [4, FILLED_FROM, end];
+    (file, places.map(Edit::Remove).to_vec())
+}
+
+fn past_by_index(style: &Style) -> (Vec<u8>, Vec<Edit>) {
+    let file = filled(style.order, FILE_LIMIT - FILLED_INDEX + 4);
+    let end = (file.len() - END) as u64;
+    let edits = vec![
+        Edit::Index,
+        Edit::Append(Vec::new()),
+        Edit::Remove(0),
+        Edit::Remove(end),
+    ];
+    (file, edits)
+}
+
+/// Without its end of file the file has room for some zeros, which are no tuple.
+fn at_with_index(style: &Style) -> (Vec<u8>, Vec<Edit>) {
+    let file = filled(style.order, FILE_LIMIT - FILLED_INDEX);
+    let room = FILLED_INDEX + END;
+    let edits = vec![
+        Edit::Index,
+        Edit::Append(zeros(style, PRIVATE, 16)),
+        Edit::Append(vec![0; 3]),
+        Edit::Append(vec![0; room]),
+        Edit::Append(vec![0; room + 1]),
+    ];
+    (file, edits)
+}
+
+/// The index lists one type more, which its space takes.
+fn appended_up_to(style: &Style) -> (Vec<u8>, Vec<Edit>) {
+    let length = 1 << 20;
+    let file = filled(style.order, length);
+    let whole = zeros(style, PRIVATE, LONGEST).repeat(FILE_LIMIT / LONGEST - 5);
+    let half = zeros(style, PRIVATE, LONGEST / 2);
+    let left = FILE_LIMIT - length - FILLED_INDEX - whole.len() - half.len();
+    let with = |last| [&whole[..], &half, &zeros(style, PRIVATE, last)].concat();
+    let edits = [with(left), with(left + 4)].map(Edit::Append);
+    (file, edits.to_vec())
+}
+
+fn dropped_up_to(style: &Style) -> (Vec<u8>, Vec<Edit>) {
+    let at = zeros(style, INDEX_1, LONGEST).repeat(FILE_LIMIT / LONGEST);
+    let past = [&at[..], &[0]].concat();
+    let edits = [at, past].map(Edit::Append);
+    (filled(style.order, 1 << 12), edits.to_vec())
+}
+
+/// The big case of a number.
 pub fn big_edit(nth: usize) -> EditCase {
-    let order = Order::BOTH[nth % 2];
-    let style = Style::plain(order);
-    let mut rng = Rng::new(nth as u64);
-    let mut private = |length: usize| {
-        let draft = Draft::new(&mut rng, 65400, Body::Raw(vec![0; length - 10]));
-        written(&mut rng, &[draft], &style)
-    };
-    let (name, file, edits) = match nth {
-        0 => {
-            let file = filled(order, FILE_LIMIT - FILLED_INDEX + 4);
-            let edits = vec![
-                Edit::Index,
-                Edit::Append(Vec::new()),
-                Edit::Remove(0),
-                Edit::Remove(file.len() as u64 - 24),
-            ];
-            ("past", file, edits)
-        }
-        1 => {
-            let file = filled(order, FILE_LIMIT - FILLED_INDEX);
-            let edits = vec![
-                Edit::Index,
-                Edit::Append(private(16)),
-                Edit::Append(vec![0; 3]),
-                Edit::Append(vec![0; FILLED_INDEX + 24]),
-                Edit::Append(vec![0; FILLED_INDEX + 25]),
-            ];
-            ("at", file, edits)
-        }
-        2 => {
-            // the index lists one type more, which its space takes
-            let length = 1 << 20;
-            let file = filled(order, length);
-            let whole = private(1 << 18).repeat((FILE_LIMIT >> 18) - 5);
-            let left = FILE_LIMIT - length - FILLED_INDEX - whole.len();
-            let last = private(1 << 17);
-            let rest = private(left - last.len());
-            let fits = [&whole[..], &last, &rest].concat();
-            let longer = [&whole[..], &last, &private(left - last.len() + 4)].concat();
-            let edits = vec![Edit::Append(fits), Edit::Append(longer)];
-            ("appended", file, edits)
-        }
-        _ => {
-            let draft = Draft::new(&mut rng, INDEX_1, Body::Raw(vec![0; (1 << 18) - 10]));
-            let at = written(&mut rng, &[draft], &style).repeat(FILE_LIMIT >> 18);
-            let mut past = at.clone();
-            past.push(0);
-            let edits = vec![Edit::Append(at), Edit::Append(past)];
-            ("dropped", filled(order, 1 << 12), edits)
-        }
-    };
+    let (name, make) = BIG[nth / 2 % BIG.len()];
+    let style = Style::plain(Order::BOTH[nth % 2]);
+    let (file, edits) = make(&style);
     EditCase {
         name: format!("edits-16mib-{name}-{}", style.name()),
         file,

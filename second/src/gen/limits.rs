@@ -1,6 +1,6 @@
 //! Limit cases, each with the answer that its limit tells.
 
-use super::draft::{coding, most_words, no_runs, radix, render, run};
+use super::draft::{coding, index_of, most_words, no_runs, radix, render, run};
 use super::draft::{Body, Cut, Draft, Patch, Piece, PingStyle, Style};
 use super::sound::*;
 use super::vessels::{self, MOST_CHANNELS, MOST_SOUNDERS};
@@ -645,12 +645,13 @@ pub fn big_limit_count() -> usize {
 }
 
 /// A limit case of 8 to 16 MiB: files at and past the limit, and files whose
-/// normal form is at it or past it (the check accepts these two).
+/// normal form is at it or past it (the check accepts these two). Of the two at the
+/// limit the first has no index, and so its normal form is past it, too.
 pub fn big_limit(nth: usize) -> Case {
     const LIMIT: usize = FILE_LIMIT;
     let (name, order, bytes, code) = match nth {
         0 => ("at", Order::Lsb, filled(Order::Lsb, LIMIT), 0),
-        1 => ("at", Order::Msb, filled(Order::Msb, LIMIT), 0),
+        1 => ("at", Order::Msb, filled_and_indexed(Order::Msb, LIMIT), 0),
         2 => ("past-by-4", Order::Lsb, filled(Order::Lsb, LIMIT + 4), 1),
         3 => {
             let mut bytes = filled(Order::Msb, LIMIT);
@@ -665,8 +666,12 @@ pub fn big_limit(nth: usize) -> Case {
     Case::new(name, bytes, Some((code, 0)))
 }
 
-/// Length of the normal form of some drafts, all listed: that of the file in
-/// U-32.
+/// The bytes of the index of a filled file: the base's six types and that of event markers, so
+/// there is a space, which may be another type.
+pub(super) const FILLED_INDEX: usize = 20 + 16;
+
+/// Length of the normal form of some drafts, all listed, without its index: that of the
+/// file in U-32.
 fn plain_length(drafts: &[Draft]) -> usize {
     let mut rng = Rng::new(1);
     render(drafts, &Style::plain(Order::Lsb), &mut rng)
@@ -674,7 +679,8 @@ fn plain_length(drafts: &[Draft]) -> usize {
         .len()
 }
 
-/// Fills drafts up with event markers until the normal form has some length.
+/// Fills drafts up with event markers until the normal form has some length, its index not
+/// counted.
 fn fill(rng: &mut Rng, drafts: &mut Vec<Draft>, length: usize) {
     let mut left = length - plain_length(drafts);
     while left > 0 {
@@ -693,8 +699,17 @@ fn fill(rng: &mut Rng, drafts: &mut Vec<Draft>, length: usize) {
 
 /// A file of event markers, exactly so long.
 pub(super) fn filled(order: Order, length: usize) -> Vec<u8> {
+    filled_with(order, length, Vec::new())
+}
+
+/// The same with an index, though of other types.
+fn filled_and_indexed(order: Order, length: usize) -> Vec<u8> {
+    filled_with(order, length, vec![index_of(&[7; 8])])
+}
+
+fn filled_with(order: Order, length: usize, more: Vec<Draft>) -> Vec<u8> {
     let mut rng = Rng::new(length as u64);
-    let mut drafts = base(&mut rng);
+    let mut drafts = with(&mut rng, more);
     fill(&mut rng, &mut drafts, length);
     render(&drafts, &Style::plain(order), &mut rng).bytes
 }
@@ -709,7 +724,7 @@ fn dense(order: Order, length: usize) -> Vec<u8> {
         })
         .collect();
     let mut drafts = with(&mut rng, pings);
-    fill(&mut rng, &mut drafts, length);
+    fill(&mut rng, &mut drafts, length - FILLED_INDEX);
     let style = Style {
         pings: PingStyle::Packed,
         ..Style::plain(order)

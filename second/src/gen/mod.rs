@@ -20,7 +20,7 @@ mod vessels;
 
 pub use corrections::{correction_case, CorrectionCase, Question};
 pub use disk::{disk_fault, DiskFault, DISK_FAULTS};
-pub use draft::{render, Body, Draft, Patch, Piece, PingStyle, Rendered, Style};
+pub use draft::{index_of, render, Body, Draft, Patch, Piece, PingStyle, Rendered, Style};
 pub use edits::{big_edit, big_edit_count, edit_case, Edit, EditCase};
 pub use faults::{fault, noise, random_damage, two_faults, Kind, Spot, FAULT_KINDS, LONG_KIND};
 pub use limits::{big_limit, big_limit_count, limit, limit_count};

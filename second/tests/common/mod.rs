@@ -1,6 +1,7 @@
 //! What the tests share.
 #![allow(dead_code)]
 
+pub mod indexed;
 pub mod said;
 
 use second::gen::{limit, limit_count, Case};

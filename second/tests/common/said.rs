@@ -1,5 +1,6 @@
 //! Files of tuples that declare and name, said in a line each.
 
+use super::indexed::indexed;
 use super::{lent, word_width, Bytes};
 use second::{check, normalise, parents, Answer, Order};
 use Said::*;
@@ -135,11 +136,13 @@ pub fn accepted(name: &str, said: &[Said], compared: u64) {
                 assert_eq!(asked.map(|(answer, _)| answer), Ok(checked), "{name}");
             }
         }
-        let mut out = lent(file.len());
+        // the normal form is as long as the file with its index, which is one tuple more
+        let mut out = indexed(&file);
         let normal = normalise(&file, &mut out);
-        let length = file.len() as u64;
+        let length = out.len() as u64;
         assert_eq!(normal, Answer { length, ..checked }, "{name}");
-        assert_eq!(check(&out), checked, "{name}");
+        let tuples = checked.tuples + 1;
+        assert_eq!(check(&out), Answer { tuples, ..checked }, "{name}");
     }
 }
 
