@@ -2,9 +2,9 @@
 
 use crate::answer::{Answer, Reply};
 use crate::check::survey;
-use crate::links::{ChannelLink, Maker};
 use crate::natural::Natural;
 use crate::parents::{asked_ping, linked_pings, LinkedPing};
+use crate::quantity::Quantity;
 use std::sync::OnceLock;
 
 /// Values are stepped down to multiples of 0.05 dB, of which 1 dB has so many.
@@ -79,19 +79,10 @@ fn sum(values: &[i32], per_db: i32) -> Result<u64, usize> {
     Ok(values.iter().map(|value| linears[below(value)]).sum())
 }
 
-/// Whether a channel's samples are Sv, by its maker's table: TR's Tables 4 and 5.
-fn is_sv(channel: &ChannelLink) -> bool {
-    let sv = match channel.maker {
-        Maker::Biosonics => 1,
-        Maker::Simrad => 2,
-    };
-    channel.type_of_data_sample == sv
-}
-
 /// 28 at the ping, then 29 at the value's place in the list of samples.
 fn ping_energy(ping: &LinkedPing) -> Result<u64, Answer> {
-    let unit = ping.kind.row().family.per_db();
-    let per_db = unit.filter(|_| is_sv(ping.channel));
+    let sv = Quantity::of(ping.channel).filter(|quantity| *quantity == Quantity::Sv);
+    let per_db = sv.and_then(|sv| sv.units(ping.kind.row().family));
     let per_db = per_db.ok_or(Answer::refused(28, ping.place))?;
     let (_, values) = ping.samples();
     sum(&values, per_db).map_err(|nth| Answer::refused(29, nth as u64))

@@ -44,8 +44,18 @@ impl Family {
         }
     }
 
-    /// How many of its values' units are 1 dB, where the channel's samples are in dB; none
-    /// where its values are angles.
+    /// How many of its values' units are 1 volt, where the channel's samples are in volts;
+    /// none where its values are angles.
+    pub const fn per_volt(self) -> Option<i32> {
+        match self {
+            Family::Bits32 => Some(1_000_000),
+            Family::Bits16 => Some(1_000),
+            Family::Ce16 => Some(10_000),
+            Family::U32_16Angles | Family::U16Angles => None,
+        }
+    }
+
+    /// The same of 1 dB, where they are in dB.
     pub const fn per_db(self) -> Option<i32> {
         match self {
             Family::Bits32 => Some(1_000_000),

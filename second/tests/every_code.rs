@@ -1,5 +1,5 @@
-//! Every code is really given by something: those from 1 to 29, but for 10, which
-//! request c of 02 took away, and 31, request k's.
+//! Every code is really given by something: those from 1 to 31, but for 10, which
+//! request c of 02 took away.
 
 mod common;
 
@@ -7,7 +7,9 @@ use common::{lent, seed, tuples_found};
 use second::gen::{big_limit, energy_case, file_case};
 use second::pings::{read_samples, write_c32, write_u32, Ping, PingHeader};
 use second::programs::normalise_tuple;
-use second::{check, corrected, energy, normalise, parents, salvage, Order, SoftwareChannel};
+use second::{
+    check, corrected, energy, normalise, parents, readings, salvage, Order, SoftwareChannel,
+};
 use std::collections::BTreeSet;
 
 /// The codes that calls give for a file, at the places of its tuples too.
@@ -24,6 +26,7 @@ fn codes(file: &[u8]) -> Vec<u32> {
             read_samples(file, tuple.place, &mut [0; 9], &mut [0; 9]).code,
             Ping::read(file, tuple.place).map_or_else(|refusal| refusal.code, |_| 0),
             energy(file, tuple.place).map_or_else(|refusal| refusal.code, |_| 0),
+            readings(file, tuple.place, 0, &mut [], &mut []).code,
         ]);
     }
     codes.push(parents(file, 4).map_or_else(|refusal| refusal.code, |_| 0));
@@ -66,6 +69,5 @@ fn every_code_is_seen() {
             seen.insert(write_c32(&header, 0, numbers, values, length, Order::Lsb, out).code);
         }
     }
-    let codes = (0..=29).filter(|code| *code != 10);
-    assert_eq!(seen, codes.chain([31]).collect());
+    assert_eq!(seen, (0..=31).filter(|code| *code != 10).collect());
 }

@@ -1,5 +1,5 @@
-//! Files of echoes, for request i of 02: pings of Sv channels and of others, with values
-//! about the limits and about the steps.
+//! Files of echoes, for requests i and j of 02: pings of Sv channels and of others, with
+//! values about the limits and about the steps.
 
 use super::corrections::bytes_of;
 use super::draft::{spellings, suits, word, Draft, Piece, Style};
@@ -11,7 +11,7 @@ use crate::links::Maker;
 
 /// How loud values are.
 #[derive(Clone, Copy)]
-enum Levels {
+pub(super) enum Levels {
     /// Anywhere from -150 to 0 dB.
     Inside,
     /// Those two and next to them.
@@ -27,29 +27,35 @@ enum Levels {
 }
 
 /// How a file is made.
-struct Recipe {
-    name: &'static str,
+pub(super) struct Recipe {
+    pub name: &'static str,
     /// Out of a hundred channels so many are Sv.
-    sv: u64,
+    pub sv: u64,
     /// Out of a hundred pings so many are of angles, and of the others so many silent.
-    angles: u64,
-    silent: u64,
-    levels: Levels,
+    pub angles: u64,
+    pub silent: u64,
+    pub levels: Levels,
     /// Out of a hundred pings with values so many have some outside the limits.
-    outside: u64,
+    pub outside: u64,
+    /// Whether values are anything in place of these.
+    pub wild: bool,
     /// Whether a ping has as many values as there can be.
-    full: bool,
-    refused: bool,
+    pub full: bool,
+    /// Whether the last sample of a 32-bit ping has the last number that there is.
+    pub far: bool,
+    pub refused: bool,
 }
 
-const MIXED: Recipe = Recipe {
+pub(super) const MIXED: Recipe = Recipe {
     name: "mixed",
     sv: 70,
     angles: 10,
     silent: 10,
     levels: Levels::Mixed,
     outside: 20,
+    wild: false,
     full: false,
+    far: false,
     refused: false,
 };
 
@@ -166,6 +172,9 @@ fn put_outside(rng: &mut Rng, family: Family, samples: &mut [(u32, i32)]) {
 
 /// A sound list of samples with such values.
 fn echo_list(rng: &mut Rng, family: Family, recipe: &Recipe) -> Vec<(u32, i32)> {
+    if recipe.wild {
+        return sample_list(rng, family, true);
+    }
     let mut samples = if recipe.full {
         (0..MOST_VALUES).map(|number| (number, 0)).collect()
     } else {
@@ -185,16 +194,27 @@ fn echo_list(rng: &mut Rng, family: Family, recipe: &Recipe) -> Vec<(u32, i32)> 
     samples
 }
 
+/// Moves a list of 32-bit samples up to the last number that there is.
+fn move_up(samples: &mut [(u32, i32)]) {
+    let up = samples.last().map_or(0, |(last, _)| u32::MAX - last);
+    for (number, _) in samples {
+        *number += up;
+    }
+}
+
 fn echo_ping(rng: &mut Rng, channel: u16, recipe: &Recipe) -> Draft {
     if rng.chance(recipe.angles) {
         return angle_ping(rng, channel);
     }
     let family = rng.pick(&FAMILIES);
-    let samples = if rng.chance(recipe.silent) {
+    let mut samples = if rng.chance(recipe.silent) {
         Vec::new()
     } else {
         echo_list(rng, family, recipe)
     };
+    if recipe.far && family == Family::Bits32 {
+        move_up(&mut samples);
+    }
     let length = any_length(rng, family, &samples);
     family_ping(rng, channel, family, samples, length)
 }
@@ -220,7 +240,7 @@ fn add_channel(plan: &mut Plan, rng: &mut Rng, sv: u64) {
 
 /// Mostly a few pings of a few channels, now and then some tens, and one or two where they
 /// are full.
-fn drafts(rng: &mut Rng, recipe: &Recipe) -> Vec<Draft> {
+pub(super) fn echo_drafts(rng: &mut Rng, recipe: &Recipe) -> Vec<Draft> {
     let mut plan = Plan::begin(rng);
     for _ in 0..1 + rng.below(2) {
         plan.add_sounder(rng);
@@ -256,7 +276,7 @@ pub fn energy_case(seed: u64, number: u64) -> Case {
     let mut rng = Rng::of_case(seed ^ STREAM, number);
     let recipe = &RECIPES[(number % RECIPES.len() as u64) as usize];
     let style = Style::any(&mut rng);
-    let drafts = drafts(&mut rng, recipe);
+    let drafts = echo_drafts(&mut rng, recipe);
     let bytes = bytes_of(&mut rng, drafts, &style, recipe.refused);
     let name = format!("energy-{}-{}", recipe.name, style.name());
     let expected = (!recipe.refused).then_some((0, 0));

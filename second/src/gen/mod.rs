@@ -1,7 +1,7 @@
 //! A seeded generator of cases: sound files, some of them of settings, damaged ones, by
 //! rule, blindly and as disks do it, limit cases, pairs of files, pairs of a deposit and its
-//! corrections, files to be indexed, appended to and removed from, files of echoes, and lines
-//! for the two programs.
+//! corrections, files to be indexed, appended to and removed from, files of echoes and what a
+//! viewer may ask of them, and lines for the two programs.
 //!
 //! It has an encoder of its own, so that a fault of the library's writers or
 //! tables shows against it. A case is a function of its seed and its number.
@@ -18,6 +18,7 @@ mod pairs;
 mod settings;
 mod sound;
 mod vessels;
+mod views;
 
 pub use corrections::{correction_case, CorrectionCase, Question};
 pub use disk::{disk_fault, DiskFault, DISK_FAULTS};
@@ -30,6 +31,7 @@ pub use lines::{frames, hex, line_case, LineCase};
 pub use pairs::{equal_pair, unequal_pair};
 pub use settings::settings_case;
 pub use sound::{angle_list, any_length, sample_list, sound_drafts, Wish, FAMILIES};
+pub use views::{viewer_case, View, ViewerCase};
 
 use faults::kind_in_turn;
 
