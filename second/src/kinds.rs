@@ -43,6 +43,27 @@ impl Family {
             Family::Ce16 => None,
         }
     }
+
+    /// How many of its values' units are 1 volt, where the channel's samples are in volts;
+    /// none where its values are angles.
+    pub const fn per_volt(self) -> Option<i32> {
+        match self {
+            Family::Bits32 => Some(1_000_000),
+            Family::Bits16 => Some(1_000),
+            Family::Ce16 => Some(10_000),
+            Family::U32_16Angles | Family::U16Angles => None,
+        }
+    }
+
+    /// The same of 1 dB, where they are in dB.
+    pub const fn per_db(self) -> Option<i32> {
+        match self {
+            Family::Bits32 => Some(1_000_000),
+            Family::Bits16 => Some(100),
+            Family::Ce16 => Some(1_000),
+            Family::U32_16Angles | Family::U16Angles => None,
+        }
+    }
 }
 
 /// How a kind of ping stores its samples. A listed kind stores of each its number and

@@ -51,7 +51,15 @@ pub(crate) fn take_samples(
     }
 }
 
-/// The same of a ping that has them.
+/// The same in lists of their own.
+pub(crate) fn sample_lists(tuple: &[u8], kind: PingKind, order: Order) -> (Vec<u32>, Vec<i32>) {
+    let count = judge_ping(tuple, kind, order).unwrap_or(0) as usize;
+    let (mut numbers, mut values) = (vec![0; count], vec![0; count]);
+    take_samples(tuple, kind, order, &mut numbers, &mut values);
+    (numbers, values)
+}
+
+/// Takes the samples of a judged ping that has angles.
 pub(crate) fn take_angles(
     tuple: &[u8],
     kind: PingKind,

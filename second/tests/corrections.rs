@@ -4,11 +4,8 @@
 mod common;
 
 use common::said::{file, place, Said};
-use common::{count, seed, survey, Bytes, File, FIRST_PING, PINGS};
-use second::gen::{
-    correction_case, fault, file_case, limit, limit_count, Case, CorrectionCase, Question, Rng,
-    FAULT_KINDS, LONG_KIND,
-};
+use common::{count, every_refusal, seed, survey, Bytes, File, FIRST_PING, PINGS};
+use second::gen::{correction_case, file_case, limit, limit_count, Case, CorrectionCase, Question};
 use second::{check, corrected, Answer, Corrected, Order, SoftwareChannel, WhichFile};
 use std::collections::{BTreeMap, BTreeSet};
 use Said::*;
@@ -672,27 +669,7 @@ fn passes_on(refused: &[u8], name: &str) -> Answer {
 /// Every refusal of the check, in both orders, of either file.
 #[test]
 fn refusals_of_the_check() {
-    let seed = seed();
-    let mut seen = BTreeSet::new();
-    let kinds = FAULT_KINDS.iter().copied().chain([LONG_KIND]);
-    for (nth, kind) in kinds.enumerate() {
-        for index in 0..10 {
-            let mut rng = Rng::of_case(seed ^ 0xBE51DE, nth as u64 * 10 + index);
-            let Case { name, bytes, .. } = fault(&mut rng, kind);
-            let answer = passes_on(&bytes, &format!("seed {seed} {name}"));
-            seen.insert((Order::of(&bytes) == Some(Order::Msb), answer.code));
-        }
-    }
-    let long = vec![0; 16_777_217];
-    assert_eq!(passes_on(&long, "a long file"), Answer::refused(1, 0));
-    // a file without a mark is of no order
-    seen.insert((true, 2));
-    let others = [1, 10, 18, 19, 20, 21, 22];
-    let codes: BTreeSet<u32> = (1..=25).filter(|code| !others.contains(code)).collect();
-    for msb in [false, true] {
-        let given = seen.iter().filter(|seen| seen.0 == msb).map(|seen| seen.1);
-        assert_eq!(given.collect::<BTreeSet<u32>>(), codes, "{msb}");
-    }
+    every_refusal(0xBE51DE, 10, passes_on);
 }
 
 /// What is met, and what it is called.

@@ -1,13 +1,15 @@
-//! Every code is really given by something: those from 1 to 27, but for 10, which
-//! request c of 02 took away, and 31, request k's.
+//! Every code is really given by something: those from 1 to 31, but for 10, which
+//! request c of 02 took away.
 
 mod common;
 
 use common::{lent, seed, tuples_found};
-use second::gen::{big_limit, file_case};
+use second::gen::{big_limit, energy_case, file_case};
 use second::pings::{read_samples, write_c32, write_u32, Ping, PingHeader};
 use second::programs::normalise_tuple;
-use second::{check, corrected, normalise, parents, salvage, Order, SoftwareChannel};
+use second::{
+    check, corrected, energy, normalise, parents, readings, salvage, Order, SoftwareChannel,
+};
 use std::collections::BTreeSet;
 
 /// The codes that calls give for a file, at the places of its tuples too.
@@ -23,6 +25,8 @@ fn codes(file: &[u8]) -> Vec<u32> {
             normalise_tuple(&alone, &mut lent(60)).code,
             read_samples(file, tuple.place, &mut [0; 9], &mut [0; 9]).code,
             Ping::read(file, tuple.place).map_or_else(|refusal| refusal.code, |_| 0),
+            energy(file, tuple.place).map_or_else(|refusal| refusal.code, |_| 0),
+            readings(file, tuple.place, 0, &mut [], &mut []).code,
         ]);
     }
     codes.push(parents(file, 4).map_or_else(|refusal| refusal.code, |_| 0));
@@ -38,6 +42,9 @@ fn every_code_is_seen() {
         for case in file_case(seed(), index) {
             seen.extend(codes(&case.bytes));
         }
+    }
+    for index in 0..24 {
+        seen.extend(codes(&energy_case(seed(), index).bytes));
     }
     let header = PingHeader {
         time_fraction: 0,
@@ -62,6 +69,5 @@ fn every_code_is_seen() {
             seen.insert(write_c32(&header, 0, numbers, values, length, Order::Lsb, out).code);
         }
     }
-    let codes = (0..=27).filter(|code| *code != 10);
-    assert_eq!(seen, codes.chain([31]).collect());
+    assert_eq!(seen, (0..=31).filter(|code| *code != 10).collect());
 }

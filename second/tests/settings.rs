@@ -4,11 +4,8 @@
 mod common;
 
 use common::said::{file, place, Said, ALL};
-use common::{count, seed, tuples, Bytes, File, PINGS};
-use second::gen::{
-    fault, file_case, limit, limit_count, settings_case, sound_case, Case, Rng, FAULT_KINDS,
-    LONG_KIND,
-};
+use common::{count, every_refusal, seed, tuples, Bytes, File, PINGS};
+use second::gen::{file_case, limit, limit_count, settings_case, sound_case, Case, Rng};
 use second::walk::Tuple;
 use second::{check, settings, Answer, Order};
 use std::collections::{BTreeMap, BTreeSet};
@@ -178,28 +175,7 @@ fn settings_are_what_02_says() {
 /// Every refusal of the check is passed on, in both orders, before 19.
 #[test]
 fn refusals_of_the_check() {
-    let seed = seed();
-    let mut seen = BTreeSet::new();
-    let kinds = FAULT_KINDS.iter().copied().chain([LONG_KIND]);
-    for (nth, kind) in kinds.enumerate() {
-        for index in 0..20 {
-            let mut rng = Rng::of_case(seed ^ 0x0F_A117, nth as u64 * 20 + index);
-            let Case { name, bytes, .. } = fault(&mut rng, kind);
-            let answer = judge(&bytes, &format!("seed {seed} {name}"));
-            assert!(!answer.is_accepted(), "{name}");
-            seen.insert((Order::of(&bytes) == Some(Order::Msb), answer.code));
-        }
-    }
-    let long = vec![0; 16_777_217];
-    assert_eq!(judge(&long, "a long file"), Answer::refused(1, 0));
-    // a file without a mark is of no order
-    seen.insert((true, 2));
-    let others = [1, 10, 18, 19, 20, 21, 22];
-    let codes: BTreeSet<u32> = (1..=25).filter(|code| !others.contains(code)).collect();
-    for msb in [false, true] {
-        let given = seen.iter().filter(|seen| seen.0 == msb).map(|seen| seen.1);
-        assert_eq!(given.collect::<BTreeSet<u32>>(), codes, "{msb}");
-    }
+    every_refusal(0x0F_A117, 20, judge);
 }
 
 /// Rows of the numbers of tuples said: a ping, its threshold and its attitude. 0 is none,

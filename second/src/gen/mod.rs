@@ -1,7 +1,7 @@
 //! A seeded generator of cases: sound files, some of them of settings, damaged ones, by
 //! rule, blindly and as disks do it, limit cases, pairs of files, pairs of a deposit and its
-//! corrections, files to be indexed, appended to and removed from, and lines for the two
-//! programs.
+//! corrections, files to be indexed, appended to and removed from, files of echoes and what a
+//! viewer may ask of them, and lines for the two programs.
 //!
 //! It has an encoder of its own, so that a fault of the library's writers or
 //! tables shows against it. A case is a function of its seed and its number.
@@ -9,6 +9,7 @@
 mod corrections;
 mod disk;
 mod draft;
+mod echoes;
 mod edits;
 mod faults;
 mod limits;
@@ -17,10 +18,12 @@ mod pairs;
 mod settings;
 mod sound;
 mod vessels;
+mod views;
 
 pub use corrections::{correction_case, CorrectionCase, Question};
 pub use disk::{disk_fault, DiskFault, DISK_FAULTS};
 pub use draft::{index_of, render, Body, Draft, Patch, Piece, PingStyle, Rendered, Style};
+pub use echoes::energy_case;
 pub use edits::{big_edit, big_edit_count, edit_case, Edit, EditCase};
 pub use faults::{fault, noise, random_damage, two_faults, Kind, Spot, FAULT_KINDS, LONG_KIND};
 pub use limits::{big_limit, big_limit_count, limit, limit_count};
@@ -28,6 +31,7 @@ pub use lines::{frames, hex, line_case, LineCase};
 pub use pairs::{equal_pair, unequal_pair};
 pub use settings::settings_case;
 pub use sound::{angle_list, any_length, sample_list, sound_drafts, Wish, FAMILIES};
+pub use views::{viewer_case, View, ViewerCase};
 
 use faults::kind_in_turn;
 

@@ -271,17 +271,20 @@ pub(super) fn any_ping(rng: &mut Rng, channel: u16, wild: bool) -> Draft {
         0..=3 => Family::Bits32,
         4..=6 => Family::Bits16,
         7 | 8 => Family::Ce16,
-        _ => {
-            let kind = rng.pick(&ANGLES);
-            let samples = angle_list(rng, kind);
-            let bits = |angle: i16| u32::from(angle as u16);
-            let samples = samples.into_iter().map(|(n, angles)| (n, angles.map(bits)));
-            return listed_ping(rng, channel, kind, samples.collect());
-        }
+        _ => return angle_ping(rng, channel),
     };
     let samples = sample_list(rng, family, wild);
     let length = any_length(rng, family, &samples);
     family_ping(rng, channel, family, samples, length)
+}
+
+/// A sound ping of either kind with angles.
+pub(super) fn angle_ping(rng: &mut Rng, channel: u16) -> Draft {
+    let kind = rng.pick(&ANGLES);
+    let samples = angle_list(rng, kind);
+    let bits = |angle: i16| u32::from(angle as u16);
+    let samples = samples.into_iter().map(|(n, angles)| (n, angles.map(bits)));
+    listed_ping(rng, channel, kind, samples.collect())
 }
 
 /// A ping of any kind with or without a sample, a length or angles.

@@ -1,14 +1,15 @@
 //! What the tests share.
 #![allow(dead_code)]
 
+pub mod echoes;
 pub mod indexed;
 pub mod said;
 
-use second::gen::{limit, limit_count, Case};
+use second::gen::{fault, limit, limit_count, Case, Rng, FAULT_KINDS, LONG_KIND};
 use second::pings::PingHeader;
 use second::walk::{forward, Step, Tuple};
 use second::{Answer, Order, SoftwareChannel};
-use std::collections::BTreeMap;
+use std::collections::{BTreeMap, BTreeSet};
 
 /// The seed of the generated cases; SECOND_SEED sets another.
 pub fn seed() -> u64 {
@@ -45,6 +46,34 @@ pub fn limit_case(name: &str) -> Case {
     let mut cases = (0..limit_count()).flat_map(limit);
     let found = cases.find(|case| case.name == wanted);
     found.unwrap_or_else(|| panic!("no {wanted}"))
+}
+
+/// Every refusal of the check is passed on: `judge` gives what a call answers for files with
+/// each kind of damage made by rule, so many of a stream, and for one that is too long. All
+/// of the check's codes come, in both orders.
+pub fn every_refusal(stream: u64, each: u64, mut judge: impl FnMut(&[u8], &str) -> Answer) {
+    let seed = seed();
+    let mut seen = BTreeSet::new();
+    let kinds = FAULT_KINDS.iter().copied().chain([LONG_KIND]);
+    for (nth, kind) in kinds.enumerate() {
+        for index in 0..each {
+            let mut rng = Rng::of_case(seed ^ stream, nth as u64 * each + index);
+            let Case { name, bytes, .. } = fault(&mut rng, kind);
+            let answer = judge(&bytes, &format!("seed {seed} {name}"));
+            assert!(!answer.is_accepted(), "{name}");
+            seen.insert((Order::of(&bytes) == Some(Order::Msb), answer.code));
+        }
+    }
+    let long = vec![0; 16_777_217];
+    assert_eq!(judge(&long, "a long file"), Answer::refused(1, 0));
+    // a file without a mark is of no order
+    seen.insert((true, 2));
+    let others = [1, 10, 18, 19, 20, 21, 22];
+    let codes: BTreeSet<u32> = (1..=25).filter(|code| !others.contains(code)).collect();
+    for msb in [false, true] {
+        let given = seen.iter().filter(|seen| seen.0 == msb).map(|seen| seen.1);
+        assert_eq!(given.collect::<BTreeSet<u32>>(), codes, "{msb}");
+    }
 }
 
 /// The tuples of an accepted file, in order.
