@@ -19,6 +19,10 @@ const CRUISE_CHANNELS: u16 = 3;
 /// pings that end in a value.
 const GROWING_LIMIT: usize = FILE_LIMIT / 4 * 3;
 
+/// Those of a deposit of small tuples or short pings, whose normal form has its index
+/// besides.
+const INDEXED_LIMIT: usize = FILE_LIMIT - 64;
+
 /// The channels of a deposit with some, and of one with as many as may be.
 const SOME_CHANNELS: u16 = 64;
 const MOST_CHANNELS: u16 = CHANNEL_LIMIT as u16;
@@ -463,7 +467,7 @@ pub fn rubbish(limit: usize) -> Vec<u8> {
 /// Pings of one sample, the shortest there are, so that linking them weighs the
 /// most. `named` gives the number of the channel that a ping names.
 fn short_pings(channels: u16, mut named: impl FnMut(u32) -> u16) -> Result<Vec<u8>, Refusal> {
-    Draft::new(Order::Lsb, channels)?.fill(FILE_LIMIT, |order, count, tuple| {
+    Draft::new(Order::Lsb, channels)?.fill(INDEXED_LIMIT, |order, count, tuple| {
         let header = header(nth_channel(named(count)), count);
         write_u32(&header, 0, &[0], &[5], order, tuple)
     })
@@ -691,13 +695,13 @@ pub fn encodings() -> Result<Vec<Deposit>, Refusal> {
 
 /// Those of every kind, each as long as may be.
 pub fn long() -> Result<Vec<Deposit>, Refusal> {
-    let small = Draft::new(Order::Lsb, 1)?.fill(FILE_LIMIT, navigation)?;
+    let small = Draft::new(Order::Lsb, 1)?.fill(INDEXED_LIMIT, navigation)?;
     let refused = refused_at_last(&small);
     let mut long = taken([
         ("28-byte tuples, LSB", small),
         (
             "28-byte tuples, MSB",
-            Draft::new(Order::Msb, 1)?.fill(FILE_LIMIT, navigation)?,
+            Draft::new(Order::Msb, 1)?.fill(INDEXED_LIMIT, navigation)?,
         ),
         ("C-32 pings, short runs", SHORT_RUNS.pings(Order::Lsb)?),
         ("C-32 pings, long runs", LONG_RUNS.pings(Order::Lsb)?),
