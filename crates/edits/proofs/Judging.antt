@@ -25,19 +25,19 @@ use Rattle.intake.specs.declared.Tally.{Tally}
 use Rattle.intake.specs.declared.Turned.{Turned}
 use Rattle.intake.specs.declared.Turned.the-variants.{On, Done}
 use Rattle.intake.specs.Check.{Course, begin, Turn, stop, go, after, turnOn, checkFile}
-use Rattle.intake.specs.inner.Tallies.{Tables, Sized, courseOf, turnOf, StandsOn, SteadyOn, TurnedTo, PassedIndex, tallyBegin}
+use Rattle.intake.specs.inner.Tallies.{Tables, Sized, courseOf, turnOf, StandsOn, SteadyOn, PassedIndex, tallyBegin}
 use Rattle.intake.proofs.Turns.{judgement, turn-on-parts}
 use Rattle.intake.proofs.Accepted.{fine-frame}
 use Rattle.intake.proofs.Runs.{standing-begin, steady-begin}
-use Rattle.intake.proofs.Parts.{turn-on-same, turned-past}
+use Rattle.intake.proofs.Parts.{turn-on-same}
 use Rattle.index.specs.Index.{typesOf}
 use Rattle.index.proofs.Laws.{few-types, index-framed, index-digest}
 use Rattle.edits.specs.Edits.{restIn}
 use Rattle.edits.specs.inner.Parts.{isFine, isTuple, isDropped, keptOf, allOf, indexIn, tailOf, resultOf}
 use Rattle.edits.specs.inner.Left.{left}
 use Rattle.edits.specs.inner.Judging.{Ready, Closes, Passed, Answered, PartTo, IndexOf, SaidBehind}
-use Rattle.edits.proofs.Dividing.{Front, rest-stop, rest-none}
-use Rattle.edits.proofs.Keeping.{here, ends-within, left-is, all-dropped, all-kept, all-stop, kept-none}
+use Rattle.edits.proofs.Dividing.{Front, rest-none}
+use Rattle.edits.proofs.Keeping.{here, ends-within, left-is, all-dropped, kept-none}
 use Rattle.edits.proofs.Left.{nothing-left, left-stop, left-go, file-left}
 use Rattle.edits.proofs.Joining.{tail-whole, tail-none, length-result}
 
@@ -84,18 +84,8 @@ dropped-class o q e = by-test (isTuple o q) (inClass Types.index (kindAt o q)) e
     by-test true b h = h
     by-test false b h = absurd (true≢false (sym h))
 
-kept-class : (o : Bool) (q : List ℕ) → isDropped o q ≡ false → isTuple o q ≡ true → inClass Types.index (kindAt o q) ≡ false
-kept-class o q e t = by-test (isTuple o q) (inClass Types.index (kindAt o q)) e t
-  where
-    by-test : (a b : Bool) → a && b ≡ false → a ≡ true → b ≡ false
-    by-test true b h g = h
-    by-test false b h g = absurd (true≢false (sym g))
-
 module _ {o : Bool} {n : ℕ} {part : List ℕ} {w₀ : Tally} {c₀ : Tables} {at : ℕ} {w : Tally} {c : Tables}
     (s : Judging o n part w₀ c₀ at w c) (bytes : Bytes part) where
-  abbrev q : List ℕ
-  q = drop at part
-
   -- ---- a tuple dropped
   module _ (e : isDropped o (drop at part) ≡ true) where
     pub dropped-front : Front o (drop at part)
@@ -114,82 +104,6 @@ module _ {o : Bool} {n : ℕ} {part : List ℕ} {w₀ : Tally} {c₀ : Tables} {
           rest = ap (restIn o) l ∙ sym (p .rest) ∙ s .rest;
           same = λ behind. s .same behind ∙ ap (λ (x : List ℕ). left o n (courseOf w c) (x ++ behind)) k;
         }
-
-  -- ---- a tuple judged
-  module _ (e : isDropped o (drop at part) ≡ false) (x : Turned) (d : Tables) (t : TurnedTo o n (drop at part) w c x d) where
-    turned : {y : Turned} → x ≡ y → turnOn o n (courseOf w c) (drop at part) ≡ turnOf y d
-    turned h = sym (t .turns) ∙ ap (λ (y : Turned). turnOf y d) h
-
-    -- its turn, with what is kept of the part behind it
-    kept-turn : (p : Front o (drop at part)) (behind : List ℕ)
-        → turnOn o n (courseOf w c) (frame o (p .tuple) ++ (keptOf o (p .left) ++ behind)) ≡ turnOn o n (courseOf w c) (drop at part)
-    kept-turn p behind =
-        turn-front o n (courseOf w c) (p .tuple) (keptOf o (p .left) ++ behind) (p .left) (p .framed)
-        ∙ ap (turnOn o n (courseOf w c)) (sym (p .bytes))
-
-    kept-bytes : (p : Front o (drop at part)) → isTuple o (drop at part) ≡ true → (behind : List ℕ)
-        → keptOf o (drop at part) ++ behind ≡ frame o (p .tuple) ++ (keptOf o (p .left) ++ behind)
-    kept-bytes p h behind =
-        ap (λ (y : List ℕ). y ++ behind) (all-kept o (drop at part) p (kept-class o (drop at part) e h))
-        ∙ append-assoc (frame o (p .tuple)) (keptOf o (p .left)) behind
-
-    -- one that goes on
-    module _ (v : Tally) (h : x ≡ On v) where
-      fine : isTuple o (drop at part) ≡ true
-      fine = ap isFine (turned-past t h .framed)
-
-      pub judged-front : Front o (drop at part)
-      judged-front = here o part at bytes fine
-
-      pub judged-at : v .at ≡ w .at + lenAt o (drop at part)
-      judged-at = turned-past t h .at
-
-      pub judging-again : (m : ℕ) → m ≡ lenAt o (drop at part) → Judging o n part w₀ c₀ (at + m) v d
-      judging-again m a =
-          let p = judged-front in
-          let l : drop (at + m) part ≡ p .left = ap (λ (k : ℕ). drop (at + k) part) a ∙ left-is o part at p in
-          let k : keptOf o (drop at part) ≡ frame o (p .tuple) ++ keptOf o (p .left) =
-          all-kept o (drop at part) p (kept-class o (drop at part) e fine) in
-          record {
-            within = omega (arith, ends-within o part at p (s .within), a);
-            ready = record {
-              standing = subst StandsOn h (t .stands);
-              steady = subst (λ (y : Turned). SteadyOn y d) h (t .steady);
-              sized = t .sized;
-            };
-            place =
-                omega (
-                  arith,
-                  s .place,
-                  judged-at,
-                  p .size,
-                  ap length k,
-                  length-append (frame o (p .tuple)) (keptOf o (p .left)),
-                  length-frame o (p .tuple),
-                  ap (λ (y : List ℕ). length (keptOf o y)) l,
-                );
-            rest = ap (restIn o) l ∙ sym (p .rest) ∙ s .rest;
-            same = λ behind. s .same behind
-                ∙ ap (left o n (courseOf w c)) (kept-bytes p fine behind)
-                ∙ left-past o n (courseOf w c) (courseOf v d) (p .tuple) (keptOf o (p .left) ++ behind) (p .framed)
-                (kept-turn p behind ∙ turned h)
-                ∙ ap (λ (y : List ℕ). left o n (courseOf v d) (keptOf o y ++ behind)) (sym l);
-          }
-
-    -- one that ends the check
-    pub judging-done : at < length part → (a : Answer) → x ≡ Done a → Answered o n part w₀ c₀ a
-    judging-done low a h behind closes = s .same behind ∙ by-tuple (isTuple o (drop at part)) refl
-      where
-        by-tuple : (b : Bool) → isTuple o (drop at part) ≡ b → left o n (courseOf w c) (keptOf o (drop at part) ++ behind) ≡ a
-        by-tuple true g =
-            let p = here o part at bytes g in
-            ap (left o n (courseOf w c)) (kept-bytes p g behind)
-            ∙ left-stop o n (courseOf w c) (frame o (p .tuple) ++ (keptOf o (p .left) ++ behind)) a (kept-turn p behind ∙ turned h)
-        by-tuple false g =
-            let r : restIn o part ≡ drop at part = sym (s .rest) ∙ rest-stop o (drop at part) g in
-            let none = closes (ne-eqb (length (restIn o part)) 0 (λ z. let y = ap length r in omega (arith, length-drop at part))) in
-            ap (left o n (courseOf w c)) (ap₂ (λ (y z : List ℕ). y ++ z) (all-stop o (drop at part) g) none ∙ append-nil (drop at part))
-            ∙ left-stop o n (courseOf w c) (drop at part) a (turned h)
 
   -- ---- the part's end
   pub judging-end : length part ≤ at → Passed o n part w₀ c₀ w c

@@ -3,6 +3,7 @@ pub mod Keeping
 pub mod Joining
 pub mod Left
 pub mod Judging
+pub mod Stretches
 pub mod Sizes
 pub mod Results
 pub mod Ends

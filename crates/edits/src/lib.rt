@@ -11,7 +11,7 @@ use links::CHANNELS;
 use links::Row;
 use links::SOUNDERS;
 ghost use mathlib.Core.Path.{_≡_};
-ghost use mathlib.Core.Bool.{true};
+ghost use mathlib.Core.Bool.{true, false};
 ghost use Prim.Native.Nat.{_+_, _-_, _*_, _≤_, _<_};
 ghost use lib.ListN.{length, drop, replicate};
 ghost use lib.Seq.{sets};
@@ -21,8 +21,8 @@ ghost use Rattle.index.specs.Index.{beforeEnd};
 ghost use Rattle.intake.specs.inner.Sound.{Accepts};
 ghost use Rattle.edits.specs.Edits.{tuplesIn, appendedFile, removedFile, Indexed, Appended, Removed};
 ghost use Rattle.edits.specs.inner.Places.{Sought, Taken};
-ghost use Rattle.edits.specs.inner.Parts.{isTuple, isDropped, keptLength, keptTuples, keptOf, Divides, allOf, resultOf, Cut, SizeOf, Rewritten};
-ghost use Rattle.edits.specs.inner.Parts.{Surveyed};
+ghost use Rattle.edits.specs.inner.Parts.{isTuple, isDropped, isKept, keptLength, keptTuples, keptOf, Divides, allOf, resultOf, Cut, SizeOf, Rewritten};
+ghost use Rattle.edits.specs.inner.Parts.{Surveyed, Stretch};
 ghost use Rattle.index.specs.Index.{typesOf};
 ghost use Rattle.index.specs.inner.Flags.{flagAll, flaggedTypes};
 ghost use Rattle.intake.specs.Check.{checkFile};
@@ -106,7 +106,35 @@ fn is_dropped(part: &[u8], at: usize, msb: bool) -> bool
     false
 }
 
-// Judges what is kept of a part of a result of so many bytes, turn by turn, as the check would where the tally stands.
+// Whether the tuple at a place of a part is kept: one stands there that isn't of the index class.
+fn is_kept(part: &[u8], at: usize, msb: bool) -> bool
+    requires { ⌜ at ≤ length (now part) ⌝ }
+    ensures { λ r. ⌜ r ≡ isKept msb (drop at (now (part .entry))) ⌝ }
+{
+    if is_tuple(part, at, msb) {
+        return !layout::in_class(layout::INDEX, frame::kind_at(part, at, msb));
+    }
+    false
+}
+
+// Where the stretch of a part ends that starts at a place, with a tuple that is kept or bytes that are none: before the next tuple of
+// the index class, else at the part's end.
+fn stretch_end(part: &[u8], from: usize, msb: bool) -> usize
+    requires { ⌜ from < length (now part) ⌝ }
+    requires { ⌜ isDropped msb (drop from (now part)) ≡ false ⌝ }
+    ensures { λ r. ⌜ Stretch msb (now (part .entry)) from r ⌝ }
+{
+    let mut at = from;
+    while is_kept(part, at, msb) {
+        at += frame::length_at(part, at, msb);
+    }
+    if is_tuple(part, at, msb) {
+        return at;
+    }
+    part.len()
+}
+
+// Judges what is kept of a part of a result of so many bytes, stretch by stretch, as the check would where the tally stands.
 fn judge_part(
     part: &[u8],
     total: usize,
@@ -129,10 +157,22 @@ fn judge_part(
         if is_dropped(part, at, msb) {
             at += frame::length_at(part, at, msb);
         } else {
-            match intake::turn(part, at, total, msb, w, sounders, channels, notes) {
+            let end = stretch_end(part, at, msb);
+            let until = w.at + (end - at);
+            match intake::run_on(
+                &part[..end],
+                at,
+                total,
+                msb,
+                w,
+                until,
+                sounders,
+                channels,
+                notes,
+            ) {
                 Turned::On(next) => {
-                    at += next.at - w.at;
                     w = next;
+                    at = end;
                 }
                 Turned::Done(answer) => {
                     return Turned::Done(answer);

@@ -15,7 +15,7 @@ use links::Row;
 use links::SOUNDERS;
 use links::Sounder;
 ghost use mathlib.Core.Path.{_≡_};
-ghost use Prim.Native.Nat.{_+_, _^_, _<_, _≤_};
+ghost use Prim.Native.Nat.{_+_, _-_, _^_, _<_, _≤_};
 ghost use lib.ListN.{length, drop};
 ghost use mathlib.Core.Bool.{true, _&&_, _||_};
 ghost use Rattle.layout.specs.Types;
@@ -25,7 +25,7 @@ ghost use Rattle.frame.specs.Files.{limit};
 ghost use Rattle.links.specs.Links.{mostChannels, Steady};
 ghost use Rattle.intake.specs.inner.Tallies.{Here, Fits, headVerdict, innerVerdict, ownVerdict, sounderAt, channelAt, namedAt};
 ghost use Rattle.intake.specs.inner.Tallies.{linkTold, turnTold, tallyBegin, tallyPast, Standing, Held, Tables, tables, Sized};
-ghost use Rattle.intake.specs.inner.Tallies.{courseOf, TurnedTo, PassedIndex, RunTo, AskIn, askWhere};
+ghost use Rattle.intake.specs.inner.Tallies.{courseOf, TurnedTo, PassedIndex, RanTo, RunTo, AskIn, askWhere};
 ghost use Rattle.intake.specs.Alone.{alone};
 ghost use Rattle.intake.specs.Check.{checkFile, ending, Checked};
 ghost use Rattle.intake.specs.Asking.{AskedFor, askAccepted};
@@ -404,7 +404,7 @@ fn may_declare(code: u16) -> bool
 
 // One turn, in a file of so many bytes in all: the tuple where the tally stands, which is this place of a part of the file, is judged,
 // its declaration is kept with its place in the file, and the tally passes it.
-pub fn turn(
+fn turn(
     part: &[u8],
     from: usize,
     total: usize,
@@ -481,7 +481,46 @@ pub fn pass_index(w: Tally, whole: usize) -> Tally
     }
 }
 
-// Turns, one by one, until the tally stands at a place or the check ends.
+// Turns, one by one, over a part of a file of so many bytes, from the tuple where the tally stands, which is this place of the part,
+// until it stands at a place of the file or the check ends. The one loop of turns there is, so that the turn is inlined into it.
+pub fn run_on(
+    part: &[u8],
+    from: usize,
+    total: usize,
+    msb: bool,
+    start: Tally,
+    until: usize,
+    sounders: &mut [Row; SOUNDERS],
+    channels: &mut [Row; CHANNELS],
+    notes: &mut [u16; CHANNELS],
+) -> Turned
+    requires { ⌜ Standing start ⌝ }
+    requires { ⌜ Steady (courseOf start (tables (now sounders) (now channels)) .links) ⌝ }
+    requires { ⌜ from ≤ length (now part) ⌝ }
+    requires { ⌜ start .at + (length (now part) - from) ≤ limit ⌝ }
+    requires { ⌜ Sized (tables (now sounders) (now channels)) ⌝ }
+    ensures { λ r. ⌜ RanTo msb total until (drop from (now (part .entry))) start
+        (tables (now (sounders .entry)) (now (channels .entry)))
+        r
+        (tables (now (sounders .exit)) (now (channels .exit))) ⌝ }
+{
+    let mut w = start;
+    let mut at = from;
+    while w.at != until {
+        match turn(part, at, total, msb, w, sounders, channels, notes) {
+            Turned::On(next) => {
+                at += next.at - w.at;
+                w = next;
+            }
+            Turned::Done(answer) => {
+                return Turned::Done(answer);
+            }
+        }
+    }
+    Turned::On(w)
+}
+
+// The turns of a whole file, from its mark until the tally stands at a place or the check ends.
 fn run(
     file: &[u8],
     msb: bool,
@@ -496,18 +535,18 @@ fn run(
     ensures { λ r. ⌜ RunTo msb (now (file .entry)) until r
         (tables (now (sounders .exit)) (now (channels .exit))) ⌝ }
 {
-    let mut w = Tally::begin();
-    while w.at != until {
-        match turn(file, w.at, file.len(), msb, w, sounders, channels, notes) {
-            Turned::On(next) => {
-                w = next;
-            }
-            Turned::Done(answer) => {
-                return Turned::Done(answer);
-            }
-        }
-    }
-    Turned::On(w)
+    let begin = Tally::begin();
+    run_on(
+        file,
+        frame::MARKED,
+        file.len(),
+        msb,
+        begin,
+        until,
+        sounders,
+        channels,
+        notes,
+    )
 }
 
 // The check of a file: 1, 2; tuple by tuple as `judge` orders them; 15, 16, 17. It accepts with the tuples and the

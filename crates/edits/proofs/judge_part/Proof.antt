@@ -1,17 +1,17 @@
--- `edits::judge_part` meets its contract: with what is left of the part, the check is the same (`Judging`). Assumes nothing.
-use mathlib.Core.Path.{_≡_, sym, ap, _∙_}
-use Prim.Native.Nat.{ℕ, _+_, _-_, _≤_}
+-- `edits::judge_part` meets its contract: with what is left of the part, the check is the same (`Judging`), stretch by stretch. Assumes nothing.
+use mathlib.Core.Path.{_≡_, refl, sym, ap, _∙_}
+use Prim.Native.Nat.{ℕ, _+_, _-_, _≤_, _<_}
 use native.Mathlib.Omega.{arith}
 use borrow.Author.Needs.{needs}
 use lib.ListN.{length, drop}
+use lib.Seq.{length-take-le}
 use Rattle.order.specs.Order.{Bytes}
 use Rattle.order.proofs.Laws.{bytes-of}
 use Rattle.frame.specs.Files.{limit}
-use Rattle.frame.specs.Frames.{lenAt}
 use Rattle.intake.specs.inner.Tallies.{tables}
 use Rattle.edits.proofs.Keeping.{holds-16, ends-within}
-use Rattle.edits.proofs.Judging.{Judging, judging-begin, dropped-front, judging-dropped, judged-front, judged-at, judging-again}
-use Rattle.edits.proofs.Judging.{judging-done, judging-end}
+use Rattle.edits.proofs.Judging.{Judging, judging-begin, dropped-front, judging-dropped, judging-end}
+use Rattle.edits.proofs.Stretches.{stretch-small, stretch-on, stretch-done}
 use Rattle.edits.proofs.judge_part.Statement.{statement}
 use Rattle.edits.proofs.judge_part.Tie as tie
 
@@ -29,14 +29,14 @@ Loop = tie.At-loop Inv-loop μ-loop
 abbrev seen : tie.After-is-dropped Inv-loop μ-loop → Loop
 seen c = c .before .before
 
-abbrev kept : tie.After-turn Inv-loop μ-loop → tie.Else1 Inv-loop μ-loop
-kept t = t .before .before .before .before
+abbrev ended : tie.After-struct-known Inv-loop μ-loop → tie.After-stretch-end Inv-loop μ-loop
+ended c = c .before
 
-abbrev next : tie.After-struct-known2 Inv-loop μ-loop → tie.After-next Inv-loop μ-loop
-next c = c .before .before .before
+abbrev kept : tie.After-stretch-end Inv-loop μ-loop → tie.Else1 Inv-loop μ-loop
+kept c = c .before
 
-abbrev turned : tie.After-next Inv-loop μ-loop → tie.After-turn Inv-loop μ-loop
-turned c = c .before .before
+abbrev measured : tie.After-run-on Inv-loop μ-loop → tie.After-struct-known Inv-loop μ-loop
+measured r = r .before .before .before .before .before
 
 -- the part's elements are bytes
 bytes : (l : Loop) → Bytes (l .before .before .args .part .now)
@@ -66,67 +66,47 @@ loop-again c =
     let l = seen (c .before .before) in
     judging-dropped (l .loop .inv) (bytes l) (sym (c .before .before .is-dropped .ensures) ∙ c .before .if1 .taken) _ (c .length-at .ensures)
 
--- ---- a tuple judged
-turn-requires : tie.Need-turn-requires Inv-loop μ-loop
-turn-requires c κs =
-    let l = seen (c .before .before .before .before) in
-    let g = l .loop .inv in
-    (g .ready .standing, (g .ready .steady, (omega (arith, g .place, l .before .before .pre .1), (g .within, g .ready .sized))))
+-- ---- a stretch judged
+stretch-end-requires : tie.Need-stretch-end-requires Inv-loop μ-loop
+stretch-end-requires c κs = (c .before .before .loop-test .taken, sym (c .before .is-dropped .ensures) ∙ c .if1 .left)
 
--- one that goes on has so many bytes
-module _ (c : tie.After-struct-known2 Inv-loop μ-loop) where
-  abbrev n : tie.After-next Inv-loop μ-loop
-  n = next c
+-- the stretch is within the limit
+small : (c : tie.After-stretch-end Inv-loop μ-loop) → let l = seen (kept c .before) in
+    (l .loop .at < c .stretch-end .result) × (l .loop .w .at + (c .stretch-end .result - l .loop .at) ≤ limit)
+small c =
+    let l = seen (kept c .before) in
+    let g = c .stretch-end .ensures in
+    let m = stretch-small (l .loop .inv) g (l .loop .w .at + (c .stretch-end .result - l .loop .at)) refl in
+    (g .far, omega (arith, m, l .loop .inv .place, l .before .before .pre .1))
 
-  abbrev t : tie.After-turn Inv-loop μ-loop
-  t = turned (next c)
-
-  abbrev e : tie.Else1 Inv-loop μ-loop
-  e = kept (turned (next c))
-
-  abbrev l : Loop
-  l = seen (kept (turned (next c)) .before)
-
-  passed : n .next .given .0 .0 .at ≡ l .loop .w .at + lenAt (l .before .before .args .msb) (drop (l .loop .at) (l .before .before .args .part .now))
-  passed = judged-at (l .loop .inv) (bytes l) (sym (e .before .is-dropped .ensures) ∙ e .if1 .left) _ _ (t .turn .ensures) _ (n .next .given .1)
-
-  within : l .loop .at + lenAt (l .before .before .args .msb) (drop (l .loop .at) (l .before .before .args .part .now)) ≤ length (l .before .before .args .part .now)
-  within =
-      ends-within _ _ _
-      (judged-front (l .loop .inv) (bytes l) (sym (e .before .is-dropped .ensures) ∙ e .if1 .left) _ _ (t .turn .ensures) _ (n .next .given .1))
-      (l .loop .inv .within)
-
-  long : 16 ≤ lenAt (l .before .before .args .msb) (drop (l .loop .at) (l .before .before .args .part .now))
-  long =
-      let p = judged-front (l .loop .inv) (bytes l) (sym (e .before .is-dropped .ensures) ∙ e .if1 .left) _ _ (t .turn .ensures) _ (n .next .given .1) in
-      omega (arith, p .size, p .long)
-
-sub-at : tie.Need-sub-at Inv-loop μ-loop
-sub-at c = omega (arith, passed c)
-
-add-at-2 : tie.Need-add-at-2 Inv-loop μ-loop
-add-at-2 c = omega (arith, passed c, within c, l c .before .before .good)
+run-on-requires : tie.Need-run-on-requires Inv-loop μ-loop
+run-on-requires c κs =
+    let e = ended (c .before .before .before .before) in
+    let l = seen (kept e .before) in
+    let g = l .loop .inv .ready in
+    let n = length-take-le (e .stretch-end .result) (l .before .before .args .part .now) (e .stretch-end .ensures .within) in
+    (g .standing, (g .steady, (omega (arith, n, small e .0), (omega (arith, n, small e .1), g .sized))))
 
 loop-less-2 : tie.Need-loop-less-2 Inv-loop μ-loop
-loop-less-2 c = omega (arith, passed c, within c, long c)
+loop-less-2 c =
+    let e = ended (measured (c .before .before .before)) in
+    omega (arith, small e .0, e .stretch-end .ensures .within)
 
 loop-again-2 : tie.Need-loop-again-2 Inv-loop μ-loop
 loop-again-2 c =
-    let n = next c in
-    let t = turned n in
-    let e = kept t in
-    let l = seen (e .before) in
-    judging-again (l .loop .inv) (bytes l) (sym (e .before .is-dropped .ensures) ∙ e .if1 .left) _ _ (t .turn .ensures) _ (n .next .given .1)
-    (n .next .given .0 .0 .at - l .loop .w .at) (omega (arith, passed c))
+    let n = c .before in
+    let r = n .before .before in
+    let e = ended (measured r) in
+    let l = seen (kept e .before) in
+    stretch-on (l .loop .inv) (e .stretch-end .ensures) _ refl _ _ (r .run-on .ensures) _ (n .next .given .1)
 
 returns : tie.Need-returns Inv-loop μ-loop
 returns c =
     let n = c .before in
-    let t = n .before .before in
-    let e = kept t in
-    let l = seen (e .before) in
-    judging-done (l .loop .inv) (bytes l) (sym (e .before .is-dropped .ensures) ∙ e .if1 .left) _ _ (t .turn .ensures)
-    (e .before .before .loop-test .taken) _ (n .answer .given .1)
+    let r = n .before .before in
+    let e = ended (measured r) in
+    let l = seen (kept e .before) in
+    stretch-done (l .loop .inv) (e .stretch-end .ensures) _ refl _ _ (r .run-on .ensures) _ (n .answer .given .1)
 
 pub judge-part-spec : {M : Type 1} → statement M
 judge-part-spec =
@@ -140,10 +120,12 @@ judge-part-spec =
     add-at
     loop-less
     loop-again
-    turn-requires
+    stretch-end-requires
+    (λ c. omega (arith, small c .0))
+    (λ c. omega (arith, small (ended c) .1))
+    (λ c. let e = ended (c .before) in sym (length-take-le _ (seen (kept e .before) .before .before .args .part .now) (e .stretch-end .ensures .within)))
+    run-on-requires
     (λ c. search needs)
-    sub-at
-    add-at-2
     loop-less-2
     loop-again-2
     (λ c. search needs)

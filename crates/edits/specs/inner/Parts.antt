@@ -1,6 +1,6 @@
 -- A result in parts: two that stand before the index and one behind it, each cut out of the file or handed in. Assumes nothing.
 use mathlib.Core.Path.{_≡_}
-use Prim.Native.Nat.{ℕ, _+_, _≤_}
+use Prim.Native.Nat.{ℕ, _+_, _≤_, _<_}
 use mathlib.Core.Bool.{Bool, true, false, cond, not, _&&_}
 use mathlib.Core.List.{List, [], _∷_, _++_}
 use lib.Dec.{eqb}
@@ -13,6 +13,7 @@ use Rattle.layout.specs.Types
 use Rattle.layout.specs.Types.{inClass}
 use Rattle.frame.specs.Frames.{Tup, lengthOf, frame, frames, kindAt, framing}
 use Rattle.frame.specs.Files.{limit, mark}
+use Rattle.frame.specs.Tuples.{AllFramed}
 use Rattle.index.specs.Index.{indexOf, beforeEnd, outside}
 use Rattle.index.specs.inner.Flags.{flagAll}
 use Rattle.edits.specs.declared.Size.{Size}
@@ -28,6 +29,9 @@ isTuple o r = isFine (framing o r)
 
 abbrev pub isDropped : Bool → List ℕ → Bool
 isDropped o r = isTuple o r && inClass Types.index (kindAt o r)
+
+abbrev pub isKept : Bool → List ℕ → Bool
+isKept o r = isTuple o r && not (inClass Types.index (kindAt o r))
 
 -- of a tuple of n bytes and a type: how many are kept
 abbrev pub keptLength : ℕ → ℕ → ℕ
@@ -86,3 +90,18 @@ pub record SizeOf (o : Bool) (a b z : List ℕ) (s : Size) : Type 0 where
 -- what is handed back of a result g, where the file handed in counts n
 abbrev pub Rewritten : List ℕ → Counts → List ℕ → Answer → List ℕ → Type 0
 Rewritten g n out r left = Edited (resultAnswer g (length out) n) g out r left
+
+-- ---- a stretch of a part from a place on: tuples that are kept, up to a place q where one of the index class stands or the part ends, and
+-- there the stretch ends; or where bytes stand that are no tuple, and they are of the stretch up to the part's end
+pub record Stretch (o : Bool) (part : List ℕ) (from end : ℕ) : Type 0 where
+  pub tuples : List Tup
+  pub until : ℕ
+  pub framed : AllFramed tuples
+  pub kept : outside tuples ≡ tuples
+  pub bytes : drop from part ≡ frames o tuples ++ drop until part
+  pub place : until ≡ from + length (frames o tuples)
+  pub within : end ≤ length part
+  pub far : from < end
+  pub broken : Bool
+  pub whole : broken ≡ false → end ≡ until
+  pub over : broken ≡ true → (isTuple o (drop until part) ≡ false) × (end ≡ length part) × (until < length part)

@@ -1,6 +1,6 @@
 -- Where the code's check stands: a tally and the tables of the declarations, and the course that they stand for. Assumes nothing.
 use mathlib.Core.Path.{_≡_}
-use Prim.Native.Nat.{ℕ, _+_, _-_, _*_, _≤_, _<_}
+use Prim.Native.Nat.{ℕ, zero, suc, _+_, _-_, _*_, _≤_, _<_}
 use mathlib.Core.Bool.{Bool, true, false, cond, _||_}
 use mathlib.Core.List.{List, [], _∷_, _++_}
 use mathlib.Core.Option.{some}
@@ -240,6 +240,24 @@ pub record PassedIndex (w : Tally) (m : ℕ) (v : Tally) : Type 0 where
       → turnOn o n (courseOf w c) r ≡ go (courseOf v c)
   pub stands : Standing v
   pub steady : (c : Tables) → Steady (courseOf w c .links) → Steady (courseOf v c .links)
+
+-- ---- turns one by one: from a course on, in a file of n bytes of which r are left, until it stands at a place p; at most k of them
+unfoldable pub turnsTo : ℕ → Bool → ℕ → ℕ → Course → List ℕ → Turn
+turnsTo zero o n p w r = go w
+turnsTo (suc k) o n p w r =
+    cond (eqb (w .at) p) (go w) (elim (turnOn o n w r) [ stop a ↦ stop a | go v ↦ turnsTo k o n p v (drop (lenAt o r) r) ])
+
+abbrev pub ThereOn : ℕ → Turned → Type 0
+ThereOn p (On w) = w .at ≡ p
+ThereOn p (Done a) = Unit {0}
+
+-- what they hand back; one turn a byte that is left, and one more, are enough
+pub record RanTo (o : Bool) (n p : ℕ) (r : List ℕ) (w : Tally) (c : Tables) (t : Turned) (d : Tables) : Type 0 where
+  pub turns : turnOf t d ≡ turnsTo (suc (length r)) o n p (courseOf w c) r
+  pub there : ThereOn p t
+  pub stands : StandsOn t
+  pub sized : Sized d
+  pub steady : SteadyOn t d
 
 -- ---- what the turns from the mark hand back: the tally that stands at a place p, with what is still to come of the check,
 pub record StoodAt (o : Bool) (f : List ℕ) (p : ℕ) (w : Tally) (c : Tables) : Type 0 where
