@@ -49,7 +49,8 @@ module _ (o : Bool) (us vs : List Tup) (gu : AllFramed us) (gv : AllFramed vs) w
       }
 
   -- bytes that divide
-  pub joined-whole : (ws : List Tup) → AllFramed ws → (bytes : List ℕ) → bytes ≡ frames o ws → joined o us bytes vs ≡ rewritten o (us ++ ws) vs
+  pub joined-whole : (ws : List Tup) → AllFramed ws → (bytes : List ℕ) → bytes ≡ frames o ws → joined o us bytes vs ≡ rewritten o
+      (us ++ ws) vs
   joined-whole ws gw bytes e =
       let r : restIn o bytes ≡ [] = ap (restIn o) e ∙ rest-in o ws gw in
       let t : tuplesIn o bytes ≡ ws = ap (tuplesIn o) e ∙ tuples-in o ws gw in
@@ -88,14 +89,17 @@ module _ (f : List ℕ) (b : Bytes f) (n : Counts) (t : Taken f n) (o : Bool) (h
         cut-last f b n t (beforeEnd (tuplesOf f)) (fromEnd (tuplesOf f)) (sym (end-split (tuplesOf f))) end h
         ∙ ap (λ (p : Bool). frames p (fromEnd (tuplesOf f))) (sym ho)
 
-    pub inserted-cut : (bytes : List ℕ) → length bytes ≤ limit → Cut o (take (end - 4) (drop 4 f)) bytes (take (length f - end) (drop end f))
+    pub inserted-cut : (bytes : List ℕ) → length bytes ≤ limit → Cut o (take (end - 4) (drop 4 f)) bytes
+        (take (length f - end) (drop end f))
     inserted-cut bytes l =
         let us = beforeEnd (tuplesOf f) in
         let vs = fromEnd (tuplesOf f) in
         let s = taken-small f b n t in
         let w = cut-within f b n t us vs (sym (end-split (tuplesOf f))) in
-        let o-length : (ws : List Tup) → length (frames o ws) ≡ length (frames (isMsb f) ws) = λ ws. ap (λ (p : Bool). length (frames p ws)) ho in
-        parts-cut o us vs (framed-left us vs halves) (framed-right us vs halves) (take (end - 4) (drop 4 f)) bytes (take (length f - end) (drop end f))
+        let o-length : (ws : List Tup) → length (frames o ws) ≡ length (frames (isMsb f) ws) = λ ws. ap
+        (λ (p : Bool). length (frames p ws)) ho in
+        parts-cut o us vs (framed-left us vs halves) (framed-right us vs halves) (take (end - 4) (drop 4 f)) bytes
+        (take (length f - end) (drop end f))
         front-is back-is (omega (arith, ap length front-is, o-length us, w, s)) l (omega (arith, ap length back-is, o-length vs, w, s))
 
     pub inserted-result : (bytes : List ℕ)
@@ -145,8 +149,11 @@ module _ (f : List ℕ) (b : Bytes f) (n : Counts) (k : Taken f n) (o : Bool) (h
 
   pub here-within : (4 ≤ at) × (at + lengthOf t + length (frames o vs) ≡ length f)
   here-within =
-      let w = cut-within f b n k us (t ∷ vs) e in
-      (omega (arith, ha), omega (arith, ha, w, length-append (frame (isMsb f) t) (frames (isMsb f) vs), length-frame (isMsb f) t, o-length vs))
+      let w = cut-within f b n k us (t ∷ vs) e in (
+        omega (arith, ha),
+        omega
+            (arith, ha, w, length-append (frame (isMsb f) t) (frames (isMsb f) vs), length-frame (isMsb f) t, o-length vs),
+      )
 
   module _ (next : ℕ) (hn : next ≡ at + lengthOf t) where
     behind-is : drop next f ≡ frames o vs
@@ -173,7 +180,15 @@ module _ (f : List ℕ) (b : Bytes f) (n : Counts) (k : Taken f n) (o : Bool) (h
       removed-within = (
         omega (arith, hn),
         omega (arith, he),
-        omega (arith, he, hn, here-within .1, ap length (sym behind-is ∙ split-is), length-append (frames o (beforeEnd vs)) (frames o (fromEnd vs))),
+        omega (
+          arith,
+          he,
+          hn,
+          here-within .1,
+          ap length (sym behind-is ∙ split-is),
+          length-append (frames o (beforeEnd vs))
+              (frames o (fromEnd vs)),
+        ),
       )
 
       first-is : take (at - 4) (drop 4 f) ≡ frames o us
@@ -212,7 +227,8 @@ module _ (f : List ℕ) (b : Bytes f) (n : Counts) (k : Taken f n) (o : Bool) (h
       pub removed-result : resultOf o (take (at - 4) (drop 4 f)) (take (end - next) (drop next f)) (take (length f - end) (drop end f))
           ≡ anew (isMsb f) (us ++ vs)
       removed-result =
-          let free = no-end (isMsb f) true start us t vs (subst (λ (ws : List Tup). Linked true start (digests (isMsb f) ws)) e (Accepted.divided f b n k .linked)) in
+          let free = no-end (isMsb f) true start us t vs
+          (subst (λ (ws : List Tup). Linked true start (digests (isMsb f) ws)) e (Accepted.divided f b n k .linked)) in
           parts-result o us (fromEnd vs) framed-us (framed-right (beforeEnd vs) (fromEnd vs) in-halves) (take (at - 4) (drop 4 f))
           (take (end - next) (drop next f)) (take (length f - end) (drop end f)) first-is last-is
           ∙ joined-whole o us (fromEnd vs) framed-us (framed-right (beforeEnd vs) (fromEnd vs) in-halves) (beforeEnd vs)

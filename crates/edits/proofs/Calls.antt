@@ -90,4 +90,5 @@ module _ (f out : List ℕ) where
       removed-given ts h r left w =
           edited-same w
           (ap (λ (x : Option (List Tup)). resultAnswer (removedBy (isMsb f) x) (length out) n) h
-          ∙ sym (ap (behindFile (removeBy f p (length out) left-out)) e ∙ ap (λ (x : Option (List Tup)). removeBy f p (length out) x n) h)) refl
+          ∙ sym (ap (behindFile (removeBy f p (length out) left-out)) e ∙ ap
+          (λ (x : Option (List Tup)). removeBy f p (length out) x n) h)) refl

@@ -116,7 +116,8 @@ front-of o t s g =
       fits = omega (arith, length-append (frame o t) s, length-frame o t);
       tuples = tuples;
       rest = ap (λ (ts : List Tup). drop (length (frames o ts)) r) tuples
-          ∙ ap (λ (n : ℕ). drop n r) (length-append (frame o t) (frames o (tuplesIn o s)) ∙ ap (λ (n : ℕ). n + length (frames o (tuplesIn o s))) (length-frame o t))
+          ∙ ap (λ (n : ℕ). drop n r)
+          (length-append (frame o t) (frames o (tuplesIn o s)) ∙ ap (λ (n : ℕ). n + length (frames o (tuplesIn o s))) (length-frame o t))
           ∙ sym (drop-drop (length (frames o (tuplesIn o s))) (lengthOf t) r)
           ∙ ap (drop (length (frames o (tuplesIn o s)))) (drop-at (frame o t) s (lengthOf t) (length-frame o t));
     }
@@ -151,7 +152,8 @@ rest-none o = rest-stop o [] (no-tuple o)
 
 pub tuples-in : (o : Bool) (ts : List Tup) → AllFramed ts → tuplesIn o (frames o ts) ≡ ts
 tuples-in o ts g =
-    ap (tuplesIn o) (sym (append-nil (frames o ts))) ∙ tuples-front o ts [] g ∙ ap (λ (us : List Tup). ts ++ us) (nothing-in o) ∙ append-nil ts
+    ap (tuplesIn o) (sym (append-nil (frames o ts))) ∙ tuples-front o ts [] g ∙ ap (λ (us : List Tup). ts ++ us) (nothing-in o)
+    ∙ append-nil ts
 
 pub rest-in : (o : Bool) (ts : List Tup) → AllFramed ts → restIn o (frames o ts) ≡ []
 rest-in o ts g = ap (restIn o) (sym (append-nil (frames o ts))) ∙ rest-front o ts [] g ∙ rest-none o

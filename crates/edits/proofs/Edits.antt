@@ -85,7 +85,8 @@ behind-file k f n e = by-check (checkFile f) refl e
     by-check (Refused c p) q h = refusal c p n h
 
 -- what is handed over is the result
-handed-over : (said : Answer) (result out left : List ℕ) (n : Counts) → Edited said result out (Accepted n) left → n .written ≡ length result
+handed-over : (said : Answer) (result out left : List ℕ) (n : Counts) → Edited said result out (Accepted n) left
+    → n .written ≡ length result
     → take (n .written) left ≡ result
 handed-over said result out left n p e =
     ap₂ take e (p .memory ∙ ap (λ (a : Answer). leftBy a result out) (sym (p .answer .is)))
@@ -132,7 +133,8 @@ module _ (f : List ℕ) (bf : Bytes f) where
   halves n e = subst AllFramed (sym (end-split (tuplesOf f))) (all-taken f bf n e)
 
   -- ---- the index written
-  index-result : {g : List ℕ} → Handed (Indexed f) g → (n : Counts) × ((m : Counts) × ((checkFile f ≡ Accepted n) × ((checkFile (indexedFile f) ≡ Accepted m) × (g ≡ indexedFile f))))
+  index-result : {g : List ℕ} → Handed (Indexed f) g → (n : Counts) ×
+      ((m : Counts) × ((checkFile f ≡ Accepted n) × ((checkFile (indexedFile f) ≡ Accepted m) × (g ≡ indexedFile f))))
   unfolding indexAnswer
   index-result h =
       let b = behind-file (resultAnswer (indexedFile f) (length (h .out))) f (h .counts) (sym (h .promise .answer .is)) in
@@ -144,7 +146,8 @@ module _ (f : List ℕ) (bf : Bytes f) where
             b .accepted,
             (
               a .accepted,
-              h .written ∙ handed-over (indexAnswer f (length (h .out))) (indexedFile f) (h .out) (h .left) (h .counts) (h .promise) (ap (λ (c : Counts). c .written) (a .told)),
+              h .written ∙ handed-over (indexAnswer f (length (h .out))) (indexedFile f) (h .out) (h .left) (h .counts) (h .promise)
+                  (ap (λ (c : Counts). c .written) (a .told)),
             ),
           ),
         ),
@@ -160,16 +163,19 @@ module _ (f : List ℕ) (bf : Bytes f) where
   unfolding indexedFile
   index-anew h =
       let r = index-result h in
-      subst (Anew (isMsb f) (tuplesOf f)) (sym (r .1 .1 .1 .1)) (anew-of (tuplesOf f) (halves (r .0) (r .1 .1 .0)) (r .1 .0) (r .1 .1 .1 .0))
+      subst (Anew (isMsb f) (tuplesOf f)) (sym (r .1 .1 .1 .1))
+      (anew-of (tuplesOf f) (halves (r .0) (r .1 .1 .0)) (r .1 .0) (r .1 .1 .1 .0))
 
   -- ---- tuples appended
   module _ (bytes : List ℕ) where
     append-result : {g : List ℕ} → Handed (Appended f bytes) g
-        → (n : Counts) × ((m : Counts) × ((checkFile f ≡ Accepted n) × ((checkFile (appendedFile f bytes) ≡ Accepted m) × (g ≡ appendedFile f bytes))))
+        → (n : Counts) × ((m : Counts) ×
+        ((checkFile f ≡ Accepted n) × ((checkFile (appendedFile f bytes) ≡ Accepted m) × (g ≡ appendedFile f bytes))))
     unfolding appendAnswer
     append-result h =
         let room = length (h .out) in
-        let b = behind-file (λ n. firstOf (appendRules bytes) (resultAnswer (appendedFile f bytes) room n)) f (h .counts) (sym (h .promise .answer .is)) in
+        let b = behind-file (λ n. firstOf (appendRules bytes) (resultAnswer (appendedFile f bytes) room n)) f (h .counts)
+        (sym (h .promise .answer .is)) in
         let a = accepting (appendedFile f bytes) room (b .counts) (h .counts)
         (within-limit (ltb limit (length bytes)) (resultAnswer (appendedFile f bytes) room (b .counts)) (h .counts) (b .told)) in (
           b .counts,
@@ -179,7 +185,8 @@ module _ (f : List ℕ) (bf : Bytes f) where
               b .accepted,
               (
                 a .accepted,
-                h .written ∙ handed-over (appendAnswer f bytes room) (appendedFile f bytes) (h .out) (h .left) (h .counts) (h .promise) (ap (λ (c : Counts). c .written) (a .told)),
+                h .written ∙ handed-over (appendAnswer f bytes room) (appendedFile f bytes) (h .out) (h .left) (h .counts) (h .promise)
+                    (ap (λ (c : Counts). c .written) (a .told)),
               ),
             ),
           ),
@@ -208,10 +215,12 @@ module _ (f : List ℕ) (bf : Bytes f) where
       whole =
           let o = isMsb f in
           let r = parts-result o us vs framed-us framed-vs (frames o us) bytes (frames o vs) refl refl in
-          let none = accepted-divides o (frames o us) bytes (frames o vs) (bytes-frames o us framed-us) bb (rest-in o us framed-us) m (ap checkFile r ∙ c) in
+          let none = accepted-divides o (frames o us) bytes (frames o vs) (bytes-frames o us framed-us) bb (rest-in o us framed-us) m
+          (ap checkFile r ∙ c) in
           divided o bytes bb .bytes ∙ ap (λ (l : List ℕ). frames o (tuplesIn o bytes) ++ l) none ∙ append-nil (frames o (tuplesIn o bytes))
 
-      pub append-whole : appendedFile f bytes ≡ rewritten (isMsb f) (beforeEnd (tuplesOf f) ++ tuplesIn (isMsb f) bytes) (fromEnd (tuplesOf f))
+      pub append-whole : appendedFile f bytes ≡ rewritten (isMsb f) (beforeEnd (tuplesOf f) ++ tuplesIn (isMsb f) bytes)
+          (fromEnd (tuplesOf f))
       unfolding appendedFile
       append-whole =
           let o = isMsb f in
@@ -225,7 +234,8 @@ module _ (f : List ℕ) (bf : Bytes f) where
         let w = append-whole bb (r .0) (r .1 .0) (r .1 .1 .0) (r .1 .1 .1 .0) in
         subst (Anew o (withTuples f bytes)) (sym (r .1 .1 .1 .1 ∙ w))
         (result-anew o (us ++ tuplesIn o bytes) (tuplesOf f)
-        (framed-join us (tuplesIn o bytes) (framed-left us (fromEnd (tuplesOf f)) (halves (r .0) (r .1 .1 .0))) (divided o bytes bb .framed))
+        (framed-join us (tuplesIn o bytes) (framed-left us (fromEnd (tuplesOf f)) (halves (r .0) (r .1 .1 .0)))
+        (divided o bytes bb .framed))
         (framed-right us (fromEnd (tuplesOf f)) (halves (r .0) (r .1 .1 .0))) (r .1 .0) (ap checkFile (sym w) ∙ r .1 .1 .1 .0))
 
   -- ---- a tuple removed
@@ -293,7 +303,8 @@ unfolding appendAnswer resultAnswer
 append-said f bytes out {n = n} w e l g =
     w .answer .is
     ∙ ap (behindFile (λ m. firstOf (appendRules bytes) (resultAnswer (appendedFile f bytes) (length out) m))) e
-    ∙ sym (first-eq {rs = appendRules bytes} {d = resultAnswer (appendedFile f bytes) (length out) n} (pass (le-ltb limit (length bytes) l) none))
+    ∙ sym (first-eq {rs = appendRules bytes} {d = resultAnswer (appendedFile f bytes) (length out) n}
+    (pass (le-ltb limit (length bytes) l) none))
     ∙ ap (behindResult (appendedFile f bytes) (length out) n) g
 
 remove-said : (f : List ℕ) (at : ℕ) (out : List ℕ) {left : List ℕ} {r : Answer} {n : Counts} {c p : ℕ} → Removed f at out r left
@@ -365,7 +376,8 @@ module _ (f : List ℕ) (bf : Bytes f) (t : Tup) (gt : Framed t) (out-of : inCla
 
     framed-front : AllFramed (beforeEnd (tuplesOf f) ++ (t ∷ []))
     framed-front =
-        framed-join (beforeEnd (tuplesOf f)) (t ∷ []) (framed-left (beforeEnd (tuplesOf f)) (fromEnd (tuplesOf f)) (halves f bf n e)) one-framed
+        framed-join (beforeEnd (tuplesOf f)) (t ∷ [])
+        (framed-left (beforeEnd (tuplesOf f)) (fromEnd (tuplesOf f)) (halves f bf n e)) one-framed
 
     framed-back : AllFramed (fromEnd (tuplesOf f))
     framed-back = framed-right (beforeEnd (tuplesOf f)) (fromEnd (tuplesOf f)) (halves f bf n e)
@@ -399,7 +411,8 @@ module _ (f : List ℕ) (bf : Bytes f) (t : Tup) (gt : Framed t) (out-of : inCla
   undoing g a r =
       let x = append-result f bf (frame (isMsb f) t) a in
       let y = remove-result g (subst Bytes (sym (x .1 .1 .1 .1 ∙ appended-one (x .0) (x .1 .1 .0)))
-      (result-bytes (isMsb f) (beforeEnd (tuplesOf f) ++ (t ∷ [])) (tuplesOf f) (framed-front (x .0) (x .1 .1 .0)) (framed-back (x .0) (x .1 .1 .0))))
+      (result-bytes (isMsb f) (beforeEnd (tuplesOf f) ++ (t ∷ [])) (tuplesOf f) (framed-front (x .0) (x .1 .1 .0))
+      (framed-back (x .0) (x .1 .1 .0))))
       (behindKept f) r in
       y .result ∙ undone (x .0) (x .1 .1 .0) g (x .1 .1 .1 .1) (y .tuples) (y .found)
 

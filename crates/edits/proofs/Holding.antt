@@ -113,7 +113,8 @@ module _ (o : Bool) (us ws : List Tup) (gu : AllFramed us) (gw : AllFramed (from
 
   pub result-others : outside (outside us ++ (indexOf o (us ++ fromEnd ws) ∷ outside (fromEnd ws))) ≡ outside (us ++ fromEnd ws)
   result-others =
-      outside-append (outside us) (X ∷ outside vs) ∙ ap₂ (λ (ps qs : List Tup). ps ++ qs) (outside-again us) dropped ∙ sym (outside-append us vs)
+      outside-append (outside us) (X ∷ outside vs) ∙ ap₂ (λ (ps qs : List Tup). ps ++ qs) (outside-again us) dropped ∙ sym
+      (outside-append us vs)
 
   same-types : typesOf T ≡ typesOf (us ++ vs)
   same-types = sym (types-outside T) ∙ ap typesOf result-others ∙ types-outside (us ++ vs)

@@ -69,7 +69,8 @@ module _ (o : Bool) (a b z : List ℕ) where
     unfolding resultOf rewritten
     whole-result wb =
         let x = indexIn o a b z in
-        (λ i. mark o ++ (kept-whole o a wa i ++ (kept-whole o b wb i ++ (tail-whole wb ∙ ap (λ (l : List ℕ). frame o x ++ l) (kept-whole o z wz)) i)))
+        (λ i. mark o ++ (kept-whole o a wa i ++
+        (kept-whole o b wb i ++ (tail-whole wb ∙ ap (λ (l : List ℕ). frame o x ++ l) (kept-whole o z wz)) i)))
         ∙ ap (λ (l : List ℕ). mark o ++ l)
         (sym (append-assoc (keptTuples o a) (keptTuples o b) (frame o x ++ keptTuples o z))
         ∙ ap (λ (l : List ℕ). l ++ (frame o x ++ keptTuples o z)) (sym (kept-two o (tuplesIn o a) (tuplesIn o b)))

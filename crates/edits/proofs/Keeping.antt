@@ -31,7 +31,8 @@ unfolding outside
 outside-one o t ts = by-test (inClass Types.index (t .kind))
   where
     by-test : (b : Bool)
-        → frames o (elim b as (λ _. List Tup) [ true ↦ outside ts | false ↦ t ∷ outside ts ]) ≡ cond b [] (frame o t) ++ frames o (outside ts)
+        → frames o (elim b as (λ _. List Tup) [ true ↦ outside ts | false ↦ t ∷ outside ts ]) ≡ cond b [] (frame o t) ++ frames o
+        (outside ts)
     by-test true = refl
     by-test false = refl
 

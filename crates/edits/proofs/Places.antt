@@ -65,7 +65,14 @@ module _ (f : List ℕ) (b : Bytes f) (n : Counts) (k : Taken f n) (p : ℕ) whe
     where
       by-list : (ts : List Tup) → g .coming ≡ ts → Coming at g
       by-list [] e =
-          absurd (omega (arith, h, g .place, cut-within f b n k (g .passed) (g .coming) (g .all), ap (λ (ts : List Tup). length (frames (isMsb f) ts)) e))
+          absurd (omega (
+            arith,
+            h,
+            g .place,
+            cut-within f b n k (g .passed) (g .coming) (g .all),
+            ap
+                (λ (ts : List Tup). length (frames (isMsb f) ts)) e,
+          ))
       by-list (t ∷ ts) e = record { tuple = t; later = ts; next = e; all = g .all ∙ ap (λ (us : List Tup). g .passed ++ us) e }
 
   module _ (at : ℕ) (g : Between f p at) (h : at < length f) where
@@ -83,7 +90,8 @@ module _ (f : List ℕ) (b : Bytes f) (n : Counts) (k : Taken f n) (p : ℕ) whe
     pub next-long : 16 ≤ lengthOf (coming-next at g h .tuple)
     next-long =
         let c = coming-next at g h in
-        allowed-16 (lengthOf (c .tuple)) (framed-right (g .passed) (c .tuple ∷ c .later) (subst AllFramed (c .all) (all-taken f b n k)) .0 .allowed)
+        allowed-16 (lengthOf (c .tuple))
+        (framed-right (g .passed) (c .tuple ∷ c .later) (subst AllFramed (c .all) (all-taken f b n k)) .0 .allowed)
 
     pub between-next : (at ≡ p → ⊥) → (m : ℕ) → m ≡ lengthOf (coming-next at g h .tuple) → Between f p (at + m)
     between-next ne m e =
@@ -124,7 +132,8 @@ module _ (f : List ℕ) (b : Bytes f) (n : Counts) (k : Taken f n) (p : ℕ) whe
         by-list (t ∷ ts) e =
             let all = s .between .all ∙ ap (λ (us : List Tup). s .between .passed ++ us) e in
             let w = here-within f b n k (isMsb f) refl (s .between .passed) t ts all at (s .between .place) in
-            let l = allowed-16 (lengthOf t) (framed-right (s .between .passed) (t ∷ ts) (subst AllFramed all (all-taken f b n k)) .0 .allowed) in
+            let l = allowed-16 (lengthOf t)
+            (framed-right (s .between .passed) (t ∷ ts) (subst AllFramed all (all-taken f b n k)) .0 .allowed) in
             absurd (omega (arith, h, w .1, l))
 
     pub sought-none : (at ≡ p → ⊥) → without p 4 (tuplesOf f) ≡ none

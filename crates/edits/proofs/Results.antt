@@ -111,7 +111,8 @@ module _ (o : Bool) (a b z : List ℕ) (ba : Bytes a) (bb : Bytes b) (wa : restI
   unfolding resultOf
   in-order = msb-mark o (keptOf o a ++ (keptOf o b ++ tailOf o a b z))
 
-  none-over : (n : Counts) → checkFile (resultOf o a b z) ≡ Accepted n → Bytes (resultOf o a b z) → restIn o (drop 4 (resultOf o a b z)) ≡ []
+  none-over : (n : Counts) → checkFile (resultOf o a b z) ≡ Accepted n → Bytes (resultOf o a b z) → restIn o
+      (drop 4 (resultOf o a b z)) ≡ []
   none-over n h y =
       let d = Accepted.divided G y n h in
       let ts = tuplesOf G in

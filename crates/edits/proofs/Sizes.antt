@@ -38,7 +38,8 @@ module _ (o : Bool) (a b z : List ℕ) (ga gb gz : List ℕ) (ka ea kb eb kz ez 
   all-flags =
       sz .flags
       ∙ ap (λ (g : List ℕ). flagAll g (tuplesIn o z))
-      (sb .flags ∙ ap (λ (g : List ℕ). flagAll g (tuplesIn o b)) (sa .flags) ∙ sym (flagAll-append (replicate 8192 0) (tuplesIn o a) (tuplesIn o b)))
+      (sb .flags ∙ ap (λ (g : List ℕ). flagAll g (tuplesIn o b)) (sa .flags) ∙ sym
+      (flagAll-append (replicate 8192 0) (tuplesIn o a) (tuplesIn o b)))
       ∙ sym (flagAll-append (replicate 8192 0) (tuplesIn o a ++ tuplesIn o b) (tuplesIn o z))
 
   pub all-types : flaggedTypes gz ≡ typesOf (allOf o a b z)
@@ -107,7 +108,8 @@ module _ (o : Bool) (a b z : List ℕ) (c : Cut o a b z) (d : restIn o b ≡ [])
   in-row : resultOf o a b z ≡ (((mark o ++ A) ++ B) ++ X) ++ Z
   unfolding resultOf
   in-row =
-      (λ i. mark o ++ (kept-whole o a (c .first) i ++ (kept-whole o b d i ++ (tail-whole o a b z d ∙ ap (λ (l : List ℕ). X ++ l) (kept-whole o z (c .last))) i)))
+      (λ i. mark o ++ (kept-whole o a (c .first) i ++
+      (kept-whole o b d i ++ (tail-whole o a b z d ∙ ap (λ (l : List ℕ). X ++ l) (kept-whole o z (c .last))) i)))
       ∙ regroup (mark o) A B X Z
     where
       regroup : (m a b x z : List ℕ) → m ++ (a ++ (b ++ (x ++ z))) ≡ (((m ++ a) ++ b) ++ x) ++ z

@@ -213,7 +213,8 @@ module _ {o : Bool} {part : List ℕ} {from at : ℕ} (s : Stretching o part fro
           }
 
 -- ---- what is kept of framed tuples and bytes behind them
-kept-front : (o : Bool) (ts : List Tup) (r : List ℕ) → AllFramed ts → outside ts ≡ ts → keptOf o (frames o ts ++ r) ≡ frames o ts ++ keptOf o r
+kept-front : (o : Bool) (ts : List Tup) (r : List ℕ) → AllFramed ts → outside ts ≡ ts → keptOf o
+    (frames o ts ++ r) ≡ frames o ts ++ keptOf o r
 unfolding keptOf
 kept-front o ts r g k =
     ap₂ (λ (us : List Tup) (x : List ℕ). frames o (outside us) ++ x) (tuples-front o ts r g) (rest-front o ts r g)
@@ -407,7 +408,14 @@ module _ {o : Bool} {n : ℕ} {part : List ℕ} {w₀ : Tally} {c₀ : Tables} {
             let r = drop (g .until) part in
             let k = all-stop o r (g .over f .0) in
             let some : length (restIn o part) ≡ 0 → ⊥ = λ z.
-            omega (arith, z, ap length (sym (s .rest) ∙ rest-here ∙ rest-stop o r (g .over f .0)), length-drop (g .until) part, g .over f .2) in
+            omega (
+              arith,
+              z,
+              ap length (sym (s .rest) ∙ rest-here ∙ rest-stop o r (g .over f .0)),
+              length-drop
+                  (g .until) part,
+              g .over f .2,
+            ) in
             let none = closes (ne-eqb (length (restIn o part)) 0 some) in
             s .same behind
             ∙ ap₂ (λ (y z : List ℕ). left o n (courseOf w c) (y ++ z)) (kept-here ∙ ap (λ (y : List ℕ). frames o (g .tuples) ++ y) k) none

@@ -58,7 +58,8 @@ pub record Without (f : List ℕ) (p : ℕ) : Type 0 where
 pub record Edits : Type 0 where
   -- what each result holds
   pub indexed : (f : List ℕ) {g : List ℕ} → Bytes f → Handed (Indexed f) g → Anew (isMsb f) (tuplesOf f) g
-  pub appended : (f bytes : List ℕ) {g : List ℕ} → Bytes f → Bytes bytes → Handed (Appended f bytes) g → Anew (isMsb f) (withTuples f bytes) g
+  pub appended : (f bytes : List ℕ) {g : List ℕ} → Bytes f → Bytes bytes → Handed (Appended f bytes) g → Anew (isMsb f)
+      (withTuples f bytes) g
   pub removed : (f : List ℕ) (p : ℕ) {g : List ℕ} → Bytes f → Handed (Removed f p) g → (w : Without f p) × Anew (isMsb f) (w .tuples) g
   -- what the check would say of the result is what is answered
   pub indexSaid : (f out : List ℕ) {left : List ℕ} {r : Answer} {n : Counts} {c p : ℕ} → Indexed f out r left → checkFile f ≡ Accepted n

@@ -85,7 +85,14 @@ add-at c =
 loop-less : tie.Need-loop-less Inv-loop μ-loop
 loop-less c =
     let t = entered (measured c) in
-    omega (arith, ends-within _ _ _ (front t) (stands t .loop .inv .within), front t .size, front t .long, measured c .before .before .length-at .ensures)
+    omega (
+      arith,
+      ends-within _ _ _ (front t)
+          (stands t .loop .inv .within),
+      front t .size,
+      front t .long,
+      measured c .before .before .length-at .ensures,
+    )
 
 loop-again : tie.Need-loop-again Inv-loop μ-loop
 loop-again c =

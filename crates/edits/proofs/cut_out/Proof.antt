@@ -38,15 +38,18 @@ abbrev it : (c : tie.After-slice-known) → let s = start c in
     Coming (s .args .file .now) (bytes c) (s .args .counts) (s .pre .0) (s .args .at) (s .args .at) (s .pre .1 .0 .between)
 it c =
     let s = start c in
-    coming-next (s .args .file .now) (bytes c) (s .args .counts) (s .pre .0) (s .args .at) (s .args .at) (s .pre .1 .0 .between) (s .pre .1 .1)
+    coming-next (s .args .file .now) (bytes c) (s .args .counts) (s .pre .0) (s .args .at) (s .args .at) (s .pre .1 .0 .between)
+    (s .pre .1 .1)
 
 -- it is within the file
 room : (c : tie.After-slice-known) → let s = start c in
     (s .args .at + lengthOf (it c .tuple) ≤ length (s .args .file .now)) × (16 ≤ lengthOf (it c .tuple))
 room c =
     let s = start c in (
-      next-within (s .args .file .now) (bytes c) (s .args .counts) (s .pre .0) (s .args .at) (s .args .at) (s .pre .1 .0 .between) (s .pre .1 .1),
-      next-long (s .args .file .now) (bytes c) (s .args .counts) (s .pre .0) (s .args .at) (s .args .at) (s .pre .1 .0 .between) (s .pre .1 .1),
+      next-within (s .args .file .now) (bytes c) (s .args .counts) (s .pre .0) (s .args .at) (s .args .at) (s .pre .1 .0 .between)
+          (s .pre .1 .1),
+      next-long (s .args .file .now) (bytes c) (s .args .counts) (s .pre .0) (s .args .at) (s .args .at) (s .pre .1 .0 .between)
+          (s .pre .1 .1),
     )
 
 -- where it ends
@@ -59,7 +62,8 @@ next-is c =
     ap (λ (m : ℕ). s .args .at + m)
     (c .length-at .ensures
     ∙ ap (λ (o : Bool). lenAt o (drop (s .args .at) (s .args .file .now))) (i .is-msb .ensures)
-    ∙ next-size (s .args .file .now) (bytes k) (s .args .counts) (s .pre .0) (s .args .at) (s .args .at) (s .pre .1 .0 .between) (s .pre .1 .1))
+    ∙ next-size (s .args .file .now) (bytes k) (s .args .counts) (s .pre .0) (s .args .at) (s .args .at) (s .pre .1 .0 .between)
+    (s .pre .1 .1))
 
 next-within-file : (c : tie.After-length-at) → let s = start (ordered c .before) in
     s .args .at + c .length-at .result ≤ length (s .args .file .now)
@@ -75,7 +79,8 @@ end-is c =
     let k = i .before in
     let s = start k in
     let t = it k in
-    end-behind (s .args .file .now) (bytes k) (s .args .counts) (s .pre .0) (i .is-msb .result) (i .is-msb .ensures) (s .pre .1 .0 .between .passed)
+    end-behind (s .args .file .now) (bytes k) (s .args .counts) (s .pre .0) (i .is-msb .result) (i .is-msb .ensures)
+    (s .pre .1 .0 .between .passed)
     (t .tuple) (t .later) (t .all) (s .args .at) (s .pre .1 .0 .between .place) _ (next-is l) _ (c .find-end .ensures)
 
 within : (c : tie.After-find-end) → let l = sized c in let s = start (ordered l .before) in
@@ -88,7 +93,8 @@ within c =
     let k = i .before in
     let s = start k in
     let t = it k in
-    removed-within (s .args .file .now) (bytes k) (s .args .counts) (s .pre .0) (i .is-msb .result) (i .is-msb .ensures) (s .pre .1 .0 .between .passed)
+    removed-within (s .args .file .now) (bytes k) (s .args .counts) (s .pre .0) (i .is-msb .result) (i .is-msb .ensures)
+    (s .pre .1 .0 .between .passed)
     (t .tuple) (t .later) (t .all) (s .args .at) (s .pre .1 .0 .between .place) _ (next-is l) _ (end-is c)
 
 rewrite-requires : tie.Need-rewrite-requires
@@ -99,7 +105,8 @@ rewrite-requires c κs =
     let k = i .before in
     let s = start k in
     let t = it k in
-    removed-cut (s .args .file .now) (bytes k) (s .args .counts) (s .pre .0) (i .is-msb .result) (i .is-msb .ensures) (s .pre .1 .0 .between .passed)
+    removed-cut (s .args .file .now) (bytes k) (s .args .counts) (s .pre .0) (i .is-msb .result) (i .is-msb .ensures)
+    (s .pre .1 .0 .between .passed)
     (t .tuple) (t .later) (t .all) (s .args .at) (s .pre .1 .0 .between .place) _ (next-is l) _ (end-is e)
 
 returns : tie.Need-returns
@@ -112,9 +119,11 @@ returns c =
     let s = start k in
     let t = it k in
     subst (λ (g : List ℕ). Rewritten g (s .args .counts) (s .args .out .now) (r .rewrite .result) (r .rewrite .last .1 .1 .1 .1 .1 .0))
-    (removed-result (s .args .file .now) (bytes k) (s .args .counts) (s .pre .0) (i .is-msb .result) (i .is-msb .ensures) (s .pre .1 .0 .between .passed)
+    (removed-result (s .args .file .now) (bytes k) (s .args .counts) (s .pre .0) (i .is-msb .result) (i .is-msb .ensures)
+    (s .pre .1 .0 .between .passed)
     (t .tuple) (t .later) (t .all) (s .args .at) (s .pre .1 .0 .between .place) _ (next-is l) _ (end-is e)
-    ∙ sought-file (s .args .file .now) (bytes k) (s .args .counts) (s .pre .0) (s .args .at) (s .args .at) (s .pre .1 .0) (s .pre .1 .1) refl)
+    ∙ sought-file (s .args .file .now) (bytes k) (s .args .counts) (s .pre .0) (s .args .at) (s .args .at) (s .pre .1 .0)
+    (s .pre .1 .1) refl)
     (r .rewrite .ensures)
 
 pub cut-out-spec : {M : Type 1} → statement M

@@ -62,7 +62,8 @@ find-end-spec =
     (λ c. seeking-begin _ _)
     (λ c κs. c .loop .inv .within)
     kind-at-requires
-    (λ c. let t = c .before .before in seeking-found (t .before .before .loop .inv) (front t) (sym (c .before .kind-at .ensures) ∙ c .if2 .taken))
+    (λ c. let t = c .before .before in seeking-found (t .before .before .loop .inv) (front t)
+    (sym (c .before .kind-at .ensures) ∙ c .if2 .taken))
     length-at-requires
     add-at
     loop-less

@@ -50,7 +50,8 @@ low c =
 -- the tuple there has so many bytes
 size : (c : tie.After-length-at Inv-loop μ-loop) → let l = c .before .before in let k = known l in
     c .length-at .result
-    ≡ lengthOf (coming-next (start k .args .file .now) (bytes k) _ (taken k) (start k .args .place) (l .loop .at) (l .loop .inv .between) (low (c .before) .0) .tuple)
+    ≡ lengthOf (coming-next (start k .args .file .now) (bytes k) _ (taken k) (start k .args .place) (l .loop .at) (l .loop .inv .between)
+    (low (c .before) .0) .tuple)
 size c =
     let l = c .before .before in
     let k = known l in
@@ -79,7 +80,8 @@ next c =
     let f = start k .args .file .now in
     let w = next-within f (bytes k) _ (taken k) _ (l .loop .at) (l .loop .inv .between) (low (c .before) .0) in
     record {
-      between = between-next f (bytes k) _ (taken k) _ (l .loop .at) (l .loop .inv .between) (low (c .before) .0) (λ e. omega (arith, e, low (c .before) .1)) _ (size c);
+      between = between-next f (bytes k) _ (taken k) _ (l .loop .at) (l .loop .inv .between) (low (c .before) .0)
+          (λ e. omega (arith, e, low (c .before) .1)) _ (size c);
       within = omega (arith, w, size c);
     }
 

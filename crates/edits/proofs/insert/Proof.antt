@@ -45,7 +45,12 @@ add-end : tie.Need-add-end
 add-end c =
     let i = ordered c in
     let s = start (i .before) in
-    omega (arith, end-within (s .args .file .now) (bytes (i .before)) _ (s .pre .0) (i .is-msb .result) (i .is-msb .ensures) _ (end-is c) .1, s .good)
+    omega (
+      arith,
+      end-within (s .args .file .now) (bytes (i .before)) _ (s .pre .0) (i .is-msb .result) (i .is-msb .ensures) _
+          (end-is c) .1,
+      s .good,
+    )
 
 within : (c : tie.After-find-end) → let f = start (ordered c .before) .args .file .now in 4 + c .find-end .result ≤ length f
 within c =
@@ -67,7 +72,8 @@ returns c =
     let i = ordered e in
     let s = start (i .before) in
     subst (λ (g : List ℕ). Rewritten g (s .args .counts) (s .args .out .now) (r .rewrite .result) (r .rewrite .last .1 .1 .1 .1 .1 .0))
-    (inserted-result (s .args .file .now) (bytes (i .before)) _ (s .pre .0) (i .is-msb .result) (i .is-msb .ensures) _ (end-is e) _) (r .rewrite .ensures)
+    (inserted-result (s .args .file .now) (bytes (i .before)) _ (s .pre .0) (i .is-msb .result) (i .is-msb .ensures) _ (end-is e) _)
+    (r .rewrite .ensures)
 
 pub insert-spec : {M : Type 1} → statement M
 insert-spec =

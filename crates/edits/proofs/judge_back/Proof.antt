@@ -33,8 +33,11 @@ judge-part-requires : tie.Need-judge-part-requires
 judge-part-requires c κs =
     let i = c .before .before .before in
     let s = start (i .before .before) in
-    let p = i .pass-index .ensures in
-    (record { standing = p .stands; steady = p .steady _ (s .pre .0 .steady); sized = s .pre .0 .sized }, omega (arith, p .at, s .pre .1 .0))
+    let p = i .pass-index .ensures in (
+      record { standing = p .stands; steady = p .steady _ (s .pre .0 .steady); sized = s .pre .0 .sized },
+      omega
+          (arith, p .at, s .pre .1 .0),
+    )
 
 returns-2 : tie.Need-returns-2
 returns-2 c =
@@ -43,7 +46,8 @@ returns-2 c =
     let i = passing j in
     let a = start (i .before .before) .args in
     rw (c .refuse2 .ensures)
-    (back-open (a .msb) (a .size .whole) (a .last .now) (a .size .index) (a .from) (tables (a .sounders .now) (a .channels .now)) _ (i .pass-index .ensures) _ _ (part-to (a .msb) (a .size .whole) (a .last .now) _ _ _ _ _ (j .judge-part .ensures) (n .next .given .1)))
+    (back-open (a .msb) (a .size .whole) (a .last .now) (a .size .index) (a .from) (tables (a .sounders .now) (a .channels .now)) _
+    (i .pass-index .ensures) _ _ (part-to (a .msb) (a .size .whole) (a .last .now) _ _ _ _ _ (j .judge-part .ensures) (n .next .given .1)))
 
 returns-3 : tie.Need-returns-3
 returns-3 c =
@@ -51,7 +55,8 @@ returns-3 c =
     let j = n .before .before in
     let i = passing j in
     let a = start (i .before .before) .args in
-    back-done (a .msb) (a .size .whole) (a .last .now) (a .size .index) (a .from) (tables (a .sounders .now) (a .channels .now)) _ (i .pass-index .ensures) _ (part-to (a .msb) (a .size .whole) (a .last .now) _ _ _ _ _ (j .judge-part .ensures) (n .answer .given .1))
+    back-done (a .msb) (a .size .whole) (a .last .now) (a .size .index) (a .from) (tables (a .sounders .now) (a .channels .now)) _
+    (i .pass-index .ensures) _ (part-to (a .msb) (a .size .whole) (a .last .now) _ _ _ _ _ (j .judge-part .ensures) (n .answer .given .1))
 
 pub judge-back-spec : {M : Type 1} → statement M
 judge-back-spec =

@@ -64,7 +64,8 @@ loop-less c =
 loop-again : tie.Need-loop-again Inv-loop μ-loop
 loop-again c =
     let l = seen (c .before .before) in
-    judging-dropped (l .loop .inv) (bytes l) (sym (c .before .before .is-dropped .ensures) ∙ c .before .if1 .taken) _ (c .length-at .ensures)
+    judging-dropped (l .loop .inv) (bytes l) (sym (c .before .before .is-dropped .ensures) ∙ c .before .if1 .taken) _
+    (c .length-at .ensures)
 
 -- ---- a stretch judged
 stretch-end-requires : tie.Need-stretch-end-requires Inv-loop μ-loop
@@ -123,7 +124,8 @@ judge-part-spec =
     stretch-end-requires
     (λ c. omega (arith, small c .0))
     (λ c. omega (arith, small (ended c) .1))
-    (λ c. let e = ended (c .before) in sym (length-take-le _ (seen (kept e .before) .before .before .args .part .now) (e .stretch-end .ensures .within)))
+    (λ c. let e = ended (c .before) in sym
+    (length-take-le _ (seen (kept e .before) .before .before .args .part .now) (e .stretch-end .ensures .within)))
     run-on-requires
     (λ c. search needs)
     loop-less-2

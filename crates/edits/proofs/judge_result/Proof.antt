@@ -57,7 +57,8 @@ first-passed c =
     let j = one c in
     let b = begun (j .before) in
     let a = start b .args in
-    part-to (a .msb) (a .size .whole) (a .first .now) (b .begin .result) zeroed (j .judge-part .result) _ _ (j .judge-part .ensures) (c .w .given .1)
+    part-to (a .msb) (a .size .whole) (a .first .now) (b .begin .result) zeroed (j .judge-part .result) _ _ (j .judge-part .ensures)
+    (c .w .given .1)
 
 -- and the second
 second-passed : (c : tie.After-v) → let j = two c in let f = first (j .before) in let a = start (begun (one f .before)) .args in
@@ -77,7 +78,8 @@ judge-part-requires-2 c κs =
     let a = start b .args in
     let p = start b .pre in (
       first-passed f .ready,
-      second-small (a .msb) (a .first .now) (a .second .now) (a .last .now) _ (p .1 .0 .whole) (p .1 .1) _ zeroed (b .begin .ensures) _ _ (first-passed f),
+      second-small (a .msb) (a .first .now) (a .second .now) (a .last .now) _ (p .1 .0 .whole) (p .1 .1) _ zeroed (b .begin .ensures) _ _
+          (first-passed f),
     )
 
 judge-back-requires : tie.Need-judge-back-requires
@@ -90,7 +92,8 @@ judge-back-requires c κs =
     let x = index-of (a .msb) (a .first .now) (a .second .now) (a .last .now) _ (p .1 .0 .index) in (
       second-passed s .ready,
       (
-        behind-small (a .msb) (a .first .now) (a .second .now) (a .last .now) _ (p .1 .0 .whole) (p .1 .1) _ zeroed (b .begin .ensures) _ _ (first-passed f) _ _ (second-passed s) _ (p .1 .0 .index),
+        behind-small (a .msb) (a .first .now) (a .second .now) (a .last .now) _ (p .1 .0 .whole) (p .1 .1) _ zeroed
+            (b .begin .ensures) _ _ (first-passed f) _ _ (second-passed s) _ (p .1 .0 .index),
         subst (λ (m : ℕ). allowed m ≡ true) (x .size) (x .framed .allowed),
       ),
     )
@@ -103,7 +106,8 @@ returns c =
     let a = start b .args in
     let p = start b .pre in
     first-done (a .msb) (a .first .now) (a .second .now) (a .last .now) _ (p .1 .0 .whole) (p .1 .1) _ zeroed (b .begin .ensures) (p .0) _
-    (part-to (a .msb) (a .size .whole) (a .first .now) (b .begin .result) zeroed (j .judge-part .result) _ _ (j .judge-part .ensures) (n .answer .given .1))
+    (part-to (a .msb) (a .size .whole) (a .first .now) (b .begin .result) zeroed (j .judge-part .result) _ _ (j .judge-part .ensures)
+    (n .answer .given .1))
 
 returns-2 : tie.Need-returns-2
 returns-2 c =
@@ -113,7 +117,8 @@ returns-2 c =
     let b = begun (one f .before) in
     let a = start b .args in
     let p = start b .pre in
-    second-done (a .msb) (a .first .now) (a .second .now) (a .last .now) _ (p .1 .0 .whole) (p .1 .1) _ zeroed (b .begin .ensures) _ _ (first-passed f) _
+    second-done (a .msb) (a .first .now) (a .second .now) (a .last .now) _ (p .1 .0 .whole) (p .1 .1) _ zeroed (b .begin .ensures) _ _
+    (first-passed f) _
     (part-to (a .msb) (a .size .whole) (a .second .now) _ _ (j .judge-part2 .result) _ _ (j .judge-part2 .ensures) (n .answer2 .given .1))
 
 returns-3 : tie.Need-returns-3
@@ -123,7 +128,8 @@ returns-3 c =
     let b = begun (one f .before) in
     let a = start b .args in
     let p = start b .pre in
-    behind-done (a .msb) (a .first .now) (a .second .now) (a .last .now) _ (p .1 .0 .whole) (p .1 .1) _ zeroed (b .begin .ensures) _ _ (first-passed f) _ _ (second-passed s) _ (p .1 .0 .index) _
+    behind-done (a .msb) (a .first .now) (a .second .now) (a .last .now) _ (p .1 .0 .whole) (p .1 .1) _ zeroed (b .begin .ensures) _ _
+    (first-passed f) _ _ (second-passed s) _ (p .1 .0 .index) _
     (c .judge-back .ensures)
 
 pub judge-result-spec : {M : Type 1} → statement M

@@ -38,7 +38,8 @@ one : (c : tie.After-survey) → let a = start c .args in
     Surveyed (a .msb) (a .first .now) (replicate 8192 0) (c .survey .result .kept) (c .survey .result .end) (c .survey .last .1 .1 .0)
 one c =
     let a = start c .args in
-    subst (λ (g : List ℕ). Surveyed (a .msb) (a .first .now) g (c .survey .result .kept) (c .survey .result .end) (c .survey .last .1 .1 .0)) (start c .pre .1) (c .survey .ensures)
+    subst (λ (g : List ℕ). Surveyed (a .msb) (a .first .now) g (c .survey .result .kept) (c .survey .result .end)
+    (c .survey .last .1 .1 .0)) (start c .pre .1) (c .survey .ensures)
 
 index-length-requires : tie.Need-index-length-requires
 index-length-requires c κs = omega (arith, c .count-types .ensures, few-flagged (c .before .before .survey3 .last .1 .1 .0))
@@ -51,7 +52,8 @@ index-bytes c =
     let b = second z in
     let f = first b in
     let a = start f .args in
-    index-size (a .msb) (a .first .now) (a .second .now) (a .last .now) _ _ _ _ _ _ _ _ _ (one f) (b .survey2 .ensures) (z .survey3 .ensures)
+    index-size (a .msb) (a .first .now) (a .second .now) (a .last .now) _ _ _ _ _ _ _ _ _ (one f) (b .survey2 .ensures)
+    (z .survey3 .ensures)
     _ (c .before .count-types .ensures) _ (c .index-length .ensures)
 
 -- all that is added stays small
@@ -99,7 +101,8 @@ returns c =
     let f = first b in
     let a = start f .args in (
       record {
-        whole = broken-size (a .msb) (a .first .now) (a .second .now) (a .last .now) _ _ _ _ _ _ _ _ _ (one f) (b .survey2 .ensures) (z .survey3 .ensures)
+        whole = broken-size (a .msb) (a .first .now) (a .second .now) (a .last .now) _ _ _ _ _ _ _ _ _ (one f) (b .survey2 .ensures)
+            (z .survey3 .ensures)
             (start f .pre .0) (c .before .if1 .taken);
         index = index-bytes i;
       },
@@ -120,7 +123,8 @@ returns-2 c =
     let f = first b in
     let a = start f .args in (
       record {
-        whole = whole-size (a .msb) (a .first .now) (a .second .now) (a .last .now) _ _ _ _ _ _ _ _ _ (one f) (b .survey2 .ensures) (z .survey3 .ensures)
+        whole = whole-size (a .msb) (a .first .now) (a .second .now) (a .last .now) _ _ _ _ _ _ _ _ _ (one f) (b .survey2 .ensures)
+            (z .survey3 .ensures)
             (start f .pre .0) (c .before .if1 .left) _ (index-bytes i);
         index = index-bytes i;
       },

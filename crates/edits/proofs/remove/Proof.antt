@@ -85,7 +85,8 @@ returns-4 c =
     let p = e .before .before in
     let a = begun p .args in
     removed-given (a .file .now) (a .out .now) (a .place) _ (accepted (taken p)) _
-    (sought-some (a .file .now) (bytes p) _ (accepted (taken p)) (a .place) (a .place) (here (e .before)) (low e) refl) _ _ (r .cut-out .ensures)
+    (sought-some (a .file .now) (bytes p) _ (accepted (taken p)) (a .place) (a .place) (here (e .before)) (low e) refl) _ _
+    (r .cut-out .ensures)
 
 pub remove-spec : {M : Type 1} → statement M
 remove-spec =

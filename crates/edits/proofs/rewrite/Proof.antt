@@ -38,7 +38,8 @@ returns-2 c =
     let j = k .before .before .before in
     let m = measured j in
     rw (c .refuse3 .ensures)
-    (result-no-room _ _ _ _ (sym (j .judge-result .ensures) ∙ k .before .enum-told .given .1) (omega (arith, m .measure .ensures .0 .whole, c .before .if2 .taken)))
+    (result-no-room _ _ _ _ (sym (j .judge-result .ensures) ∙ k .before .enum-told .given .1)
+    (omega (arith, m .measure .ensures .0 .whole, c .before .if2 .taken)))
 
 -- the second part divides, since the result is accepted
 divides : (c : tie.Else2) → let a = start (measured (judged c)) .args in Divides (a .msb) (a .second .now)
@@ -62,7 +63,11 @@ write-result-requires c κs =
         divides e,
         (
           m .measure .ensures .0,
-          (e .if2 .left, ap flaggedTypes (m .measure .ensures .1) ∙ flagged-types (allOf (a .msb) (a .first .now) (a .second .now) (a .last .now))),
+          (
+            e .if2 .left,
+            ap flaggedTypes (m .measure .ensures .1) ∙ flagged-types
+                (allOf (a .msb) (a .first .now) (a .second .now) (a .last .now)),
+          ),
         ),
       ),
     )
@@ -79,7 +84,8 @@ returns-4 c =
     let e = w .before .before .before in
     let j = judged e in
     let m = measured j in
-    result-written _ _ _ _ (sym (j .judge-result .ensures) ∙ e .before .before .enum-told .given .1) _ (m .measure .ensures .0 .whole) (e .if2 .left) _
+    result-written _ _ _ _ (sym (j .judge-result .ensures) ∙ e .before .before .enum-told .given .1) _ (m .measure .ensures .0 .whole)
+    (e .if2 .left) _
     (w .write-result .ensures)
 
 pub rewrite-spec : {M : Type 1} → statement M

@@ -117,9 +117,11 @@ returns c =
     let m = marked (f .before) in
     let s = start (m .before) in
     let a = s .args in
-    stored (a .msb) (a .first .now) (a .second .now) (a .last .now) (s .pre .0) (s .pre .1 .0) (a .out .now) _ _ _ _ _ _ _ _ (m .store4 .ensures)
+    stored (a .msb) (a .first .now) (a .second .now) (a .last .now) (s .pre .0) (s .pre .1 .0) (a .out .now) _ _ _ _ _ _ _ _
+    (m .store4 .ensures)
     (f .copy-kept .ensures .1) (f .copy-kept .ensures .0) (t .copy-kept2 .ensures .1) (t .copy-kept2 .ensures .0)
-    (i .write-index .ensures ∙ ap (λ (x : Tup). sets (t .copy-kept2 .last .1 .1 .0) (t .copy-kept2 .result) (frame (a .msb) x)) (written (i .before)))
+    (i .write-index .ensures ∙ ap (λ (x : Tup). sets (t .copy-kept2 .last .1 .1 .0) (t .copy-kept2 .result) (frame (a .msb) x))
+    (written (i .before)))
     (ap (λ (n : ℕ). t .copy-kept2 .result + n) (rows s .index)) (l .copy-kept3 .ensures .1)
 
 pub write-result-spec : {M : Type 1} → statement M
