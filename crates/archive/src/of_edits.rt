@@ -2,7 +2,6 @@
 use super::HEAD;
 use super::tell_answer;
 use layout::codes;
-ghost use mathlib.Core.Path.{_≡_};
 ghost use Rattle.edits.specs.Edits.{Indexed, Appended, Removed};
 ghost use Rattle.archive.specs.Saying.{Said};
 ghost use Rattle.archive.specs.Numbers.{five};

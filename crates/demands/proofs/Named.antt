@@ -23,7 +23,7 @@ use Rattle.frame.specs.Files.{mark, isMsb}
 use Rattle.frame.specs.Tuples.{tuplesOf}
 use Rattle.frame.proofs.Frames.{length-frame, tup-frame}
 use Rattle.frame.proofs.Files.{length-mark}
-use Rattle.frame.proofs.Tuples.{length-frames}
+use Rattle.frame.proofs.Tuples.{frames-append, length-frames}
 use Rattle.links.specs.declared.Sounder.{Sounder}
 use Rattle.links.specs.declared.Channel.{Channel}
 use Rattle.links.specs.Links.{Link, Digest, Links, start, placeOf, docOf, idOf, newSounders, newChannels, note}
@@ -191,11 +191,6 @@ module _ (o : Bool) (all : List Tup) (linked : Linked true start (digests o all)
 digests-append : (o : Bool) (xs ys : List Tup) → digests o (xs ++ ys) ≡ digests o xs ++ digests o ys
 digests-append o [] ys = refl
 digests-append o (x ∷ xs) ys = ap (λ (l : List Digest). digest o x ∷ l) (digests-append o xs ys)
-
-frames-append : (o : Bool) (xs ys : List Tup) → frames o (xs ++ ys) ≡ frames o xs ++ frames o ys
-frames-append o [] ys = refl
-frames-append o (x ∷ xs) ys =
-    ap (λ (l : List ℕ). frame o x ++ l) (frames-append o xs ys) ∙ sym (append-assoc (frame o x) (frames o xs) (frames o ys))
 
 -- each of sound tuples is sound
 sound-at : (o : Bool) (xs : List Tup) (t : Tup) (ys : List Tup) → AllSound o (xs ++ (t ∷ ys)) → Sound o t

@@ -1,8 +1,8 @@
 -- The parts that an accepted file is cut into, and the results that they make. Assumes nothing.
 use mathlib.Core.Path.{_≡_, refl, sym, ap, ap₂, subst, _∙_}
-use mathlib.Core.Bool.{Bool, true, false, cond}
+use mathlib.Core.Bool.{Bool, true, cond}
 use mathlib.Core.List.{List, [], _∷_, _++_, append-nil}
-use Prim.Native.Nat.{ℕ, zero, suc, _+_, _-_, _≤_, _<_}
+use Prim.Native.Nat.{ℕ, _+_, _-_, _≤_}
 use native.Mathlib.Omega.{arith}
 use lib.Dec.{eqb}
 use lib.ListN.{length, take, drop, length-append, length-drop}
@@ -12,7 +12,7 @@ use Rattle.layout.specs.declared.Counts.{Counts}
 use Rattle.frame.specs.Frames.{Tup, lengthOf, frame, frames}
 use Rattle.frame.specs.Files.{limit, isMsb}
 use Rattle.frame.specs.Tuples.{tuplesOf, AllFramed}
-use Rattle.frame.proofs.Frames.{length-frame, size-frame, allowed-16}
+use Rattle.frame.proofs.Frames.{length-frame, size-frame}
 use Rattle.frame.specs.Frames.{lenAt}
 use Rattle.links.specs.Links.{start}
 use Rattle.links.proofs.Linked.{Linked}
@@ -25,8 +25,8 @@ use Rattle.edits.specs.inner.Parts.{resultOf, Cut}
 use Rattle.edits.specs.inner.Places.{Taken}
 use Rattle.edits.proofs.Dividing.{tuples-in, rest-in}
 use Rattle.edits.proofs.Joining.{result-joined}
-use Rattle.index.proofs.Fresh.{frames-append}
-use Rattle.edits.proofs.Ends.{before-append, from-append, no-end, framed-left, framed-right, all-taken, taken-small, taken-4, cut-within}
+use Rattle.frame.proofs.Tuples.{frames-append, framed-left, framed-right}
+use Rattle.edits.proofs.Ends.{before-append, from-append, no-end, all-taken, taken-small, cut-within}
 use Rattle.edits.proofs.Ends.{cut-before, cut-behind, cut-last}
 
 -- ---- parts that are the frames of tuples

@@ -1,11 +1,9 @@
 -- The three calls by what the check says of the file handed in, and by the result. Assumes nothing.
-use mathlib.Core.Path.{_≡_, refl, sym, ap, ap₂, subst, _∙_}
-use mathlib.Core.Bool.{Bool, true, false}
-use mathlib.Core.List.{List, [], _∷_, _++_}
+use mathlib.Core.Path.{_≡_, refl, sym, ap, _∙_}
+use mathlib.Core.List.{List}
 use mathlib.Core.Option.{Option, some}
 use mathlib.Core.Option
-use Prim.Native.Nat.{ℕ, zero, suc, _+_, _-_, _≤_, _<_}
-use native.Mathlib.Omega.{arith}
+use Prim.Native.Nat.{ℕ, _-_, _≤_, _<_}
 use borrow.Author.Tests.{lt-ltb, le-ltb}
 use lib.ListN.{length}
 use Rattle.rules.specs.Rules.{firstOf}
@@ -18,7 +16,7 @@ use Rattle.frame.specs.Frames.{Tup}
 use Rattle.frame.specs.Files.{limit, isMsb}
 use Rattle.frame.specs.Tuples.{tuplesOf}
 use Rattle.intake.specs.Check.{checkFile}
-use Rattle.edits.specs.Edits.{indexedFile, appendedFile, removedFile, removedBy, without, anew, resultAnswer, behindFile, indexAnswer}
+use Rattle.edits.specs.Edits.{indexedFile, appendedFile, removedFile, removedBy, without, resultAnswer, behindFile, indexAnswer}
 use Rattle.edits.specs.Edits.{appendRules, appendAnswer, removeBy, removeAnswer, Indexed, Appended, Removed}
 use Rattle.edits.specs.inner.Parts.{Rewritten}
 use Rattle.edits.proofs.Results.{edited-refused, edited-same}

@@ -2,24 +2,21 @@
 use mathlib.Core.Path.{_≡_, refl, sym, ap, ap₂, subst, _∙_}
 use mathlib.Core.Bool.{Bool, true, false, true≢false}
 use mathlib.Core.List.{List, [], _∷_, _++_, append-assoc, append-nil}
-use Prim.Native.Nat.{ℕ, zero, suc, _+_, _-_, _≤_, _<_}
+use Prim.Native.Nat.{ℕ, zero, suc, _+_, _-_, _≤_}
 use native.Mathlib.Omega.{arith}
-use lib.ListN.{length, take, drop, length-append, length-drop}
-use lib.Seq.{drop-drop, drop-at, take-at}
+use lib.ListN.{length, drop, length-append, length-drop}
+use lib.Seq.{drop-drop, drop-at}
 use Rattle.order.specs.Order.{Bytes}
 use Rattle.order.proofs.Laws.{bytes-drop}
+use Rattle.layout.proofs.Verdicts.{fine-is}
 use Rattle.layout.specs.declared.Verdict.{Verdict}
 use Rattle.layout.specs.declared.Verdict.the-variants.{Fine, Fault}
 use Rattle.frame.specs.Frames.{Tup, lengthOf, frame, frames, lenAt, kindAt, tupAt, framing, Framed}
 use Rattle.frame.specs.Tuples.{tuplesFrom, AllFramed}
 use Rattle.frame.proofs.Frames.{length-frame, allowed-16, framed, cut, size-frame, kind-frame, tup-frame, framing-frame}
 use Rattle.edits.specs.Edits.{tuplesIn, restIn}
-use Rattle.edits.specs.inner.Parts.{isFine, isTuple}
-
--- ---- a verdict's test
-pub fine-of : (v : Verdict) → isFine v ≡ true → v ≡ Fine
-fine-of Fine e = refl
-fine-of (Fault c p) e = absurd (true≢false (sym e))
+use Rattle.layout.specs.Answers.{isFine}
+use Rattle.edits.specs.inner.Parts.{isTuple}
 
 -- ---- as many turns as there are bytes are enough
 from-next : (k : ℕ) (o : Bool) (r : List ℕ) (v : Verdict) → framing o r ≡ v
@@ -124,7 +121,7 @@ front-of o t s g =
 
 pub front : (o : Bool) (r : List ℕ) → Bytes r → isTuple o r ≡ true → Front o r
 front o r b e =
-    let fine = fine-of (framing o r) e in
+    let fine = fine-is (framing o r) e in
     subst (Front o) (sym (cut o r b fine)) (front-of o (tupAt o r) (drop (lenAt o r) r) (framed o r b fine))
 
 -- ---- bytes that are the frames of tuples, and others behind them

@@ -4,15 +4,15 @@ use mathlib.Core.Bool.{Bool, true, false, cond, true≢false}
 use mathlib.Core.List.{List, [], _∷_, _++_, append-assoc, append-nil}
 use mathlib.Core.Option.{Option, some}
 use mathlib.Core.Option
-use Prim.Native.Nat.{ℕ, zero, suc, _+_, _-_, _≤_, _<_}
+use Prim.Native.Nat.{ℕ, _+_, _-_, _≤_}
 use native.Mathlib.Omega.{arith}
-use borrow.Author.Tests.{le-ltb, ltb-false, ne-eqb}
+use borrow.Author.Tests.{le-ltb}
 use lib.Dec.{ltb, eqb}
 use lib.ListN.{length, take, drop, length-append}
 use lib.Seq.{take-at}
 use Rattle.order.specs.Order.{Bytes}
 use Rattle.rules.specs.Rules.{_⇒_, firstOf}
-use Rattle.rules.specs.Rules.First.{none, here, pass}
+use Rattle.rules.specs.Rules.First.{none, pass}
 use Rattle.rules.proofs.Laws.{first-eq}
 use Rattle.layout.specs.declared.Counts.{Counts}
 use Rattle.layout.specs.declared.Answer.{Answer}
@@ -23,22 +23,24 @@ use Rattle.layout.specs.Types.{inClass, classes}
 use Rattle.frame.specs.Frames.{Tup, lengthOf, frame, frames, Framed}
 use Rattle.frame.specs.Files.{limit, mark, isMsb}
 use Rattle.frame.specs.Tuples.{tuplesOf, AllFramed}
-use Rattle.frame.proofs.Frames.{length-frame, allowed-16}
-use Rattle.frame.proofs.Tuples.{bytes-frames}
+use Rattle.frame.proofs.Frames.{length-frame}
+use Rattle.frame.proofs.Tuples.{bytes-frames, framed-left, framed-right, framed-join}
 use Rattle.intake.specs.Check.{writing, checkFile}
+use Rattle.links.specs.Links.{start}
+use Rattle.intake.proofs.Accepted
 use Rattle.intake.proofs.Accepted.{refusal}
 use Rattle.index.specs.Index.{indexOf, beforeEnd, fromEnd, withIndex, outside, reindexed}
-use Rattle.index.proofs.Laws.{end-split}
-use Rattle.index.proofs.Fresh.{frames-append, outside-next, outside-append, outside-again, reindexed-parts}
+use Rattle.index.proofs.Laws.{end-split, reindexed-sound, reindexed-linked}
+use Rattle.index.proofs.Fresh.{outside-next, outside-append, outside-again, reindexed-parts}
 use Rattle.edits.specs.Edits
-use Rattle.edits.specs.Edits.{rewritten, anew, indexedFile, appendedFile, removedFile, removedBy, tuplesIn, restIn, brokenOff, joined}
-use Rattle.edits.specs.Edits.{without, behind, behindResult, resultAnswer, behindFile, indexAnswer, appendRules, appendAnswer, removeBy}
+use Rattle.edits.specs.Edits.{rewritten, anew, indexedFile, appendedFile, removedFile, removedBy, tuplesIn}
+use Rattle.edits.specs.Edits.{without, behind, behindResult, resultAnswer, behindFile, indexAnswer, appendRules}
+use Rattle.edits.specs.Edits.{appendAnswer, removeBy}
 use Rattle.edits.specs.Edits.{removeAnswer, Edited, Indexed, Appended, Removed}
 use Rattle.edits.specs.Results.{Anew, Handed, withTuples, behindKept, Without, Edits}
-use Rattle.edits.specs.inner.Parts.{resultOf}
-use Rattle.edits.proofs.Dividing.{Divided, divided, tuples-in, rest-in}
+use Rattle.edits.proofs.Dividing.{divided, rest-in}
 use Rattle.edits.proofs.Results.{accepted-divides}
-use Rattle.edits.proofs.Ends.{framed-left, framed-right, all-taken}
+use Rattle.edits.proofs.Ends.{all-taken}
 use Rattle.edits.proofs.Anew.{parts-result, joined-whole}
 use Rattle.edits.proofs.Places.{without-here, without-next}
 use Rattle.edits.proofs.Holding.{result-anew, result-tuples, result-order, result-bytes}
@@ -120,10 +122,6 @@ without-framed p at (u ∷ us) ts g e =
     by-test true x h ih z = subst AllFramed (some-inj us ts z) (g .1)
     by-test false Option.none h ih z = none-some ts z
     by-test false (some vs) h ih z = subst AllFramed (some-inj (u ∷ vs) ts z) (g .0, ih vs h)
-
-framed-join : (us vs : List Tup) → AllFramed us → AllFramed vs → AllFramed (us ++ vs)
-framed-join [] vs g h = h
-framed-join (u ∷ us) vs g h = (g .0, framed-join us vs (g .1) h)
 
 module _ (f : List ℕ) (bf : Bytes f) where
   abbrev o : Bool
@@ -319,7 +317,7 @@ remove-said f at out {n = n} w e x g =
     ∙ ap (λ (y : Option (List Tup)). removeBy f at (length out) y n) (x .found)
     ∙ ap (behindResult h (length out) n) (ap checkFile (sym z) ∙ g)
 
--- ---- removing undoes appending
+-- ---- a tuple left out by its place
 without-at : (o : Bool) (at : ℕ) (us : List Tup) (t : Tup) (vs : List Tup)
     → without (at + length (frames o us)) at (us ++ (t ∷ vs)) ≡ some (us ++ vs)
 without-at o at [] t vs = without-here (at + 0) at t vs (omega arith)
@@ -341,6 +339,27 @@ anew-parts o ts =
 anew-same : (o : Bool) (ts us : List Tup) → outside ts ≡ outside us → anew o ts ≡ anew o us
 anew-same o ts us e = anew-parts o ts ∙ ap (λ (x : List Tup). mark o ++ frames o (withIndex o x)) e ∙ sym (anew-parts o us)
 
+-- ---- the index can be written
+indexable-file : (f : List ℕ) {n : Counts} → Bytes f → checkFile f ≡ Accepted n → length (indexedFile f) ≤ limit
+    → (m : Counts) × (checkFile (indexedFile f) ≡ Accepted m)
+unfolding indexedFile
+indexable-file f {n} b e h =
+    let d = Accepted.divided f b n e in
+    let o = isMsb f in
+    let ts = tuplesOf f in (
+      _,
+      Accepted.file-accepted (indexedFile f)
+          (record {
+            msb = o;
+            tuples = reindexed o ts;
+            whole = anew-parts o ts;
+            sound = reindexed-sound o ts (d .sound);
+            linked = reindexed-linked o true start ts (d .linked);
+            small = h;
+          }),
+    )
+
+-- ---- removing undoes appending
 -- an index between tuples outside its class
 outside-between : (us vs : List Tup) (x : Tup) → inClass Types.index (x .kind) ≡ true
     → outside (outside us ++ (x ∷ outside vs)) ≡ outside (us ++ vs)
@@ -425,5 +444,6 @@ edits =
       indexSaid = λ f out w e g. index-said f out w e g;
       appendSaid = λ f bytes out w e l g. append-said f bytes out w e l g;
       removeSaid = λ f at out w e x g. remove-said f at out w e x g;
+      indexable = λ f b e h. indexable-file f b e h;
       back = λ f t g b gt o a r. undoing f b t gt o g a r;
     }

@@ -1,20 +1,19 @@
 -- The tuples of an accepted file, cut in two: the end of file is the last of them, and each part's bytes are its tuples. Assumes nothing.
-use mathlib.Core.Path.{_≡_, refl, sym, ap, ap₂, subst, _∙_}
-use mathlib.Core.Bool.{Bool, true, false, true≢false}
+use mathlib.Core.Path.{_≡_, refl, sym, ap, ap₂, _∙_}
+use mathlib.Core.Bool.{Bool, true, false}
 use mathlib.Core.List.{List, [], _∷_, _++_}
-use Prim.Native.Nat.{ℕ, zero, suc, _+_, _-_, _≤_, _<_}
+use Prim.Native.Nat.{ℕ, _+_, _-_, _≤_}
 use native.Mathlib.Omega.{arith}
 use lib.Dec.{eqb}
 use lib.ListN.{length, take, drop, length-append, length-drop}
 use lib.Seq.{drop-at, drop-drop, take-at, take-all}
 use Rattle.order.specs.Order.{Bytes}
 use Rattle.layout.specs.declared.Counts.{Counts}
-use Rattle.frame.specs.Frames.{Tup, lengthOf, frame, frames}
+use Rattle.frame.specs.Frames.{Tup, frames}
 use Rattle.frame.specs.Files.{limit, mark, isMsb}
 use Rattle.frame.specs.Tuples.{tuplesOf, AllFramed}
 use Rattle.frame.proofs.Files.{length-mark}
-use Rattle.frame.proofs.Frames.{length-frame, allowed-16}
-use Rattle.links.specs.Links.{Links, Digest, note}
+use Rattle.links.specs.Links.{Links, note}
 use Rattle.links.proofs.Linked.{Linked, linked-next, linked-end}
 use Rattle.content.specs.Items.{digest}
 use Rattle.content.proofs.Places.{by-code}
@@ -22,7 +21,7 @@ use Rattle.intake.proofs.Accepted
 use Rattle.intake.proofs.Accepted.{digests, all-framed}
 use Rattle.index.specs.Index.{beforeEnd, fromEnd}
 use Rattle.edits.specs.inner.Places.{Taken}
-use Rattle.index.proofs.Fresh.{frames-append}
+use Rattle.frame.proofs.Tuples.{frames-append}
 
 -- ---- no end of file among tuples
 abbrev pub NoEnd : List Tup → Type 0
@@ -53,15 +52,6 @@ no-end o first s (u ∷ us) t vs l = by-test (eqb (u .kind) 65534) refl (λ k. n
         → NoEnd (u ∷ us)
     by-test true e ih = absurd (some us (linked-end l (by-code o u .ends ∙ e) .0))
     by-test false e ih = (e, ih (linked-next l (by-code o u .ends ∙ e)))
-
--- ---- framed tuples in two
-pub framed-left : (us vs : List Tup) → AllFramed (us ++ vs) → AllFramed us
-framed-left [] vs g = tt
-framed-left (u ∷ us) vs g = (g .0, framed-left us vs (g .1))
-
-pub framed-right : (us vs : List Tup) → AllFramed (us ++ vs) → AllFramed vs
-framed-right [] vs g = g
-framed-right (u ∷ us) vs g = framed-right us vs (g .1)
 
 -- ---- an accepted file cut between its tuples
 module _ (f : List ℕ) (b : Bytes f) (n : Counts) (t : Taken f n) where

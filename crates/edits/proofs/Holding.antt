@@ -2,21 +2,19 @@
 use mathlib.Core.Path.{_≡_, refl, sym, ap, ap₂, subst, _∙_}
 use mathlib.Core.Bool.{Bool, true, false, cond}
 use mathlib.Core.List.{List, [], _∷_, _++_, append-nil}
-use Prim.Native.Nat.{ℕ, zero, suc, _+_, _≤_, _<_}
-use native.Mathlib.Omega.{arith}
+use Prim.Native.Nat.{ℕ, _+_}
 use lib.Dec.{eqb}
-use lib.ListN.{length}
 use Rattle.order.specs.Order.{Bytes}
 use Rattle.order.proofs.Laws.{bytes-append}
 use Rattle.layout.specs.declared.Counts.{Counts}
 use Rattle.layout.specs.declared.Answer.the-variants.{Accepted}
 use Rattle.layout.specs.Types
 use Rattle.layout.specs.Types.{inClass, classes}
-use Rattle.frame.specs.Frames.{Tup, frames, Framed}
+use Rattle.frame.specs.Frames.{Tup, frames}
 use Rattle.frame.specs.Files.{mark, isMsb}
 use Rattle.frame.specs.Tuples.{tuplesOf, AllFramed}
 use Rattle.frame.proofs.Files.{msb-mark}
-use Rattle.frame.proofs.Tuples.{bytes-frames, tuples-of}
+use Rattle.frame.proofs.Tuples.{bytes-frames, framed-join, tuples-of}
 use Rattle.links.specs.Links.{start}
 use Rattle.links.proofs.Linked.{Linked}
 use Rattle.intake.specs.Check.{checkFile}
@@ -28,7 +26,7 @@ use Rattle.index.proofs.Fresh.{outside-next, outside-append, outside-again, fro
 use Rattle.edits.specs.Edits.{rewritten}
 use Rattle.edits.specs.Results.{indexes, Anew}
 use Rattle.edits.proofs.Joining.{outside-framed}
-use Rattle.edits.proofs.Ends.{NoEnd, no-end, before-append, from-append}
+use Rattle.edits.proofs.Ends.{no-end, before-append, from-append}
 use Rattle.edits.proofs.Results.{bytes-mark}
 
 -- ---- tuples of the index class
@@ -85,10 +83,6 @@ module _ (o : Bool) (us ws : List Tup) (gu : AllFramed us) (gw : AllFramed (from
   -- its tuples
   abbrev T : List Tup
   T = outside us ++ (indexOf o (us ++ fromEnd ws) ∷ outside (fromEnd ws))
-
-  framed-join : (ps qs : List Tup) → AllFramed ps → AllFramed qs → AllFramed (ps ++ qs)
-  framed-join [] qs g h = h
-  framed-join (p ∷ ps) qs g h = (g .0, framed-join ps qs (g .1) h)
 
   pub all-result : AllFramed (outside us ++ (indexOf o (us ++ fromEnd ws) ∷ outside (fromEnd ws)))
   all-result =

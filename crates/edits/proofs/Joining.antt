@@ -1,27 +1,26 @@
 -- The bytes of a result in parts: they are those of the definitions, and how many they are. Assumes nothing.
-use mathlib.Core.Path.{_≡_, refl, sym, ap, ap₂, subst, _∙_}
-use mathlib.Core.Bool.{Bool, true, false, cond, true≢false}
+use mathlib.Core.Path.{_≡_, refl, sym, ap, _∙_}
+use mathlib.Core.Bool.{Bool, true, false, cond}
 use mathlib.Core.List.{List, [], _∷_, _++_, append-assoc, append-nil}
-use Prim.Native.Nat.{ℕ, zero, suc, _+_, _≤_}
+use Prim.Native.Nat.{ℕ, suc, _+_}
 use native.Mathlib.Omega.{arith}
-use borrow.Author.Tests.{eqb-true, eq-eqb, ne-eqb}
+use borrow.Author.Tests.{eqb-true}
 use lib.Dec.{eqb}
 use lib.ListN.{length, drop, length-append}
 use lib.Seq.{drop-at}
 use Rattle.order.specs.Order.{Bytes}
-use Rattle.order.proofs.Laws.{bytes-append, bytes-drop}
 use Rattle.layout.specs.Types
 use Rattle.layout.specs.Types.{inClass}
-use Rattle.frame.specs.Frames.{Tup, lengthOf, frame, frames, Framed}
+use Rattle.frame.specs.Frames.{Tup, frame, frames}
 use Rattle.frame.specs.Files.{mark}
 use Rattle.frame.specs.Tuples.{AllFramed}
-use Rattle.frame.proofs.Frames.{length-frame}
 use Rattle.frame.proofs.Files.{length-mark}
-use Rattle.index.specs.Index.{indexOf, outside}
-use Rattle.index.proofs.Fresh.{frames-append, outside-append}
+use Rattle.index.specs.Index.{outside}
+use Rattle.frame.proofs.Tuples.{frames-append}
+use Rattle.index.proofs.Fresh.{outside-append}
 use Rattle.edits.specs.Edits.{rewritten, tuplesIn, restIn, brokenOff, joined}
-use Rattle.edits.specs.inner.Parts.{keptTuples, keptOf, allOf, indexIn, tailBy, tailOf, resultOf}
-use Rattle.edits.proofs.Dividing.{Divided, divided, rest-front}
+use Rattle.edits.specs.inner.Parts.{keptTuples, keptOf, indexIn, tailBy, tailOf, resultOf}
+use Rattle.edits.proofs.Dividing.{divided, rest-front}
 
 -- ---- tuples kept
 pub outside-framed : (ts : List Tup) → AllFramed ts → AllFramed (outside ts)

@@ -1,17 +1,16 @@
 -- What the loop over a part's tuples carries while it judges them. Assumes nothing.
 use mathlib.Core.Path.{_≡_, refl, sym, ap, ap₂, subst, _∙_}
 use mathlib.Core.Bool.{Bool, true, false, _&&_, true≢false}
-use mathlib.Core.List.{List, [], _∷_, _++_, append-assoc, append-nil}
-use Prim.Native.Nat.{ℕ, zero, suc, _+_, _-_, _≤_, _<_}
+use mathlib.Core.List.{List, [], _++_, append-nil}
+use Prim.Native.Nat.{ℕ, _+_, _-_, _≤_}
 use native.Mathlib.Omega.{arith}
-use borrow.Author.Tests.{ne-eqb, eq-eqb}
+use borrow.Author.Tests.{eq-eqb}
 use lib.Dec.{eqb}
-use lib.ListN.{length, drop, length-append, length-drop, drop-of-length-le}
+use lib.ListN.{length, drop, length-append, drop-of-length-le}
 use lib.Seq.{drop-at}
 use Rattle.order.specs.Order.{Bytes}
 use Rattle.layout.specs.declared.Answer.{Answer}
 use Rattle.layout.specs.declared.Answer.the-variants.{Refused}
-use Rattle.layout.specs.declared.Verdict.{Verdict}
 use Rattle.layout.specs.declared.Verdict.the-variants.{Fine, Fault}
 use Rattle.layout.specs.Answers.{both, judged}
 use Rattle.layout.specs.Types
@@ -19,13 +18,12 @@ use Rattle.layout.specs.Types.{inClass, classes}
 use Rattle.frame.specs.Frames.{Tup, lengthOf, frame, lenAt, kindAt, framing, Framed}
 use Rattle.frame.specs.Files.{limit}
 use Rattle.frame.proofs.Frames.{length-frame, framing-frame, size-frame, kind-frame, tup-frame}
-use Rattle.links.specs.Links.{Steady, Digest, signRules, linkRules}
+use Rattle.links.specs.Links.{Digest, signRules, linkRules}
 use Rattle.content.specs.Items.{headRules, innerRules, digest}
 use Rattle.intake.specs.declared.Tally.{Tally}
 use Rattle.intake.specs.declared.Turned.{Turned}
-use Rattle.intake.specs.declared.Turned.the-variants.{On, Done}
-use Rattle.intake.specs.Check.{Course, begin, Turn, stop, go, after, turnOn, checkFile}
-use Rattle.intake.specs.inner.Tallies.{Tables, Sized, courseOf, turnOf, StandsOn, SteadyOn, PassedIndex, tallyBegin}
+use Rattle.intake.specs.Check.{Course, stop, go, after, turnOn, checkFile}
+use Rattle.intake.specs.inner.Tallies.{Tables, Sized, courseOf, PassedIndex, tallyBegin}
 use Rattle.intake.proofs.Turns.{judgement, turn-on-parts}
 use Rattle.intake.proofs.Accepted.{fine-frame}
 use Rattle.intake.proofs.Runs.{standing-begin, steady-begin}
@@ -33,9 +31,9 @@ use Rattle.intake.proofs.Parts.{turn-on-same}
 use Rattle.index.specs.Index.{typesOf}
 use Rattle.index.proofs.Laws.{few-types, index-framed, index-digest}
 use Rattle.edits.specs.Edits.{restIn}
-use Rattle.edits.specs.inner.Parts.{isFine, isTuple, isDropped, keptOf, allOf, indexIn, tailOf, resultOf}
+use Rattle.edits.specs.inner.Parts.{isTuple, isDropped, keptOf, allOf, indexIn, tailOf, resultOf}
 use Rattle.edits.specs.inner.Left.{left}
-use Rattle.edits.specs.inner.Judging.{Ready, Closes, Passed, Answered, PartTo, IndexOf, SaidBehind}
+use Rattle.edits.specs.inner.Judging.{Ready, Passed, Answered, PartTo, IndexOf, SaidBehind}
 use Rattle.edits.proofs.Dividing.{Front, rest-none}
 use Rattle.edits.proofs.Keeping.{here, ends-within, left-is, all-dropped, kept-none}
 use Rattle.edits.proofs.Left.{nothing-left, left-stop, left-go, file-left}

@@ -1,8 +1,8 @@
 -- What is kept of bytes, one tuple at a time. Assumes nothing.
-use mathlib.Core.Path.{_≡_, refl, sym, ap, ap₂, subst, _∙_}
+use mathlib.Core.Path.{_≡_, refl, sym, ap, ap₂, _∙_}
 use mathlib.Core.Bool.{Bool, true, false, cond}
 use mathlib.Core.List.{List, [], _∷_, _++_, append-assoc}
-use Prim.Native.Nat.{ℕ, zero, suc, _+_, _-_, _≤_, _<_}
+use Prim.Native.Nat.{ℕ, _+_, _-_, _≤_}
 use native.Mathlib.Omega.{arith}
 use borrow.Author.Tests.{eq-eqb, ne-eqb}
 use lib.Dec.{eqb}
@@ -18,8 +18,8 @@ use Rattle.frame.proofs.Frames.{length-frame}
 use Rattle.index.specs.Index.{beforeEnd, outside}
 use Rattle.index.specs.inner.Flags.{flagOutside, flagAll}
 use Rattle.edits.specs.Edits.{tuplesIn, restIn}
-use Rattle.edits.specs.inner.Parts.{isTuple, isDropped, keptLength, keptTuples, keptOf, Surveyed}
-use Rattle.edits.proofs.Dividing.{Front, front, tuples-stop, rest-stop, rest-none, no-tuple}
+use Rattle.edits.specs.inner.Parts.{isTuple, keptLength, keptTuples, keptOf, Surveyed}
+use Rattle.edits.proofs.Dividing.{Front, front, tuples-stop, rest-stop, no-tuple}
 
 -- ---- a tuple kept, or dropped
 -- its bytes that are kept
@@ -76,10 +76,6 @@ module _ (o : Bool) (r : List ℕ) (p : Front o r) where
 
   pub all-dropped : inClass Types.index (kindAt o r) ≡ true → keptOf o r ≡ keptOf o (p .left)
   all-dropped e =
-      all-next ∙ ap (λ (b : Bool). cond b [] (frame o t) ++ keptOf o (p .left)) (ap (inClass Types.index) (sym (p .kind)) ∙ e)
-
-  pub all-kept : inClass Types.index (kindAt o r) ≡ false → keptOf o r ≡ frame o t ++ keptOf o (p .left)
-  all-kept e =
       all-next ∙ ap (λ (b : Bool). cond b [] (frame o t) ++ keptOf o (p .left)) (ap (inClass Types.index) (sym (p .kind)) ∙ e)
 
   pub kept-size : length (keptTuples o r) ≡ keptLength (kindAt o r) (lenAt o r) + length (keptTuples o (p .left))

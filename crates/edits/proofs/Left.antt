@@ -1,19 +1,20 @@
 -- The check over the bytes that are left, turn by turn, and that a file's check is it. Assumes nothing.
-use mathlib.Core.Path.{_≡_, refl, sym, ap, ap₂, subst, _∙_}
+use mathlib.Core.Path.{_≡_, refl, sym, ap, _∙_}
 use mathlib.Core.Bool.{Bool}
-use mathlib.Core.List.{List, [], _∷_, _++_}
+use mathlib.Core.List.{List, [], _++_}
 use Prim.Native.Nat.{ℕ, zero, suc, _+_, _-_, _≤_, _<_}
 use native.Mathlib.Omega.{arith}
-use lib.ListN.{length, drop, length-append, length-drop}
+use lib.ListN.{length, drop, length-append}
 use lib.Seq.{drop-drop, drop-at}
 use Rattle.layout.specs.declared.Answer.{Answer}
 use Rattle.layout.specs.declared.Answer.the-variants.{Refused}
-use Rattle.frame.specs.Frames.{lenAt, frame}
-use Rattle.frame.specs.Files.{limit, mark, isMsb}
+use Rattle.frame.specs.Frames.{lenAt}
+use Rattle.frame.specs.Files.{limit, mark}
 use Rattle.frame.proofs.Files.{length-mark, msb-mark, marked-mark}
 use Rattle.intake.specs.Check.{Course, begin, Turn, stop, go, turnOn, turn, checkFrom, checkFile}
 use Rattle.intake.proofs.Turns.{settle, from-suc}
 use Rattle.intake.proofs.Parts.{turn-on-past}
+use Rattle.intake.proofs.Runs.{turn-less}
 use Rattle.intake.proofs.Checks.{whole-check}
 use Rattle.edits.specs.inner.Left.{checkLeft, left}
 
@@ -38,9 +39,6 @@ unfolding turnOn
 nothing-left o n w = ap (λ (p : ℕ). stop (Refused 4 p)) (omega arith)
 
 -- ---- a turn that goes on leaves less, so that more turns than bytes are enough
-less : (o : Bool) (n : ℕ) (w v : Course) (r : List ℕ) → turnOn o n w r ≡ go v → length (drop (lenAt o r) r) < length r
-less o n w v r e = let p = turn-on-past o n w r v e in omega (arith, length-drop (lenAt o r) r, p .long, p .fits)
-
 same-turns : (j k : ℕ) (o : Bool) (n : ℕ) (w : Course) (r : List ℕ) → length r < j → length r < k
     → checkLeft j o n w r ≡ checkLeft k o n w r
 same-turns zero k o n w r h g = absurd (omega arith)
@@ -53,7 +51,7 @@ same-turns (suc j) (suc k) o n w r h g = by-turn (turnOn o n w r) refl (λ v a b
         → checkLeft (suc j) o n w r ≡ checkLeft (suc k) o n w r
     by-turn (stop a) e ih = left-suc j o n w r (stop a) e ∙ sym (left-suc k o n w r (stop a) e)
     by-turn (go v) e ih =
-        let l = less o n w v r e in
+        let l = turn-less o n w v r e in
         left-suc j o n w r (go v) e ∙ ih v (omega arith) (omega arith) ∙ sym (left-suc k o n w r (go v) e)
 
 pub left-stop : (o : Bool) (n : ℕ) (w : Course) (r : List ℕ) (a : Answer) → turnOn o n w r ≡ stop a → left o n w r ≡ a
@@ -66,7 +64,7 @@ unfolding left
 left-go o n w v r s e d =
     let t = drop (lenAt o r) r in
     left-suc (length r) o n w r (go v) e
-    ∙ same-turns (length r) (suc (length t)) o n v t (less o n w v r e) (omega arith)
+    ∙ same-turns (length r) (suc (length t)) o n v t (turn-less o n w v r e) (omega arith)
     ∙ ap (λ (x : List ℕ). checkLeft (suc (length x)) o n v x) d
 
 -- ---- the check of a file

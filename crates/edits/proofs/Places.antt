@@ -1,12 +1,12 @@
 -- A place sought among the tuples of an accepted file: what the walk carries, and what is found. Assumes nothing.
-use mathlib.Core.Path.{_≡_, refl, sym, ap, ap₂, subst, _∙_}
+use mathlib.Core.Path.{_≡_, refl, sym, ap, subst, _∙_}
 use mathlib.Core.Bool.{Bool, true, false, cond}
 use mathlib.Core.List.{List, [], _∷_, _++_, append-assoc}
 use mathlib.Core.Option.{Option, some, none}
-use Prim.Native.Nat.{ℕ, zero, suc, _+_, _-_, _≤_, _<_}
+use Prim.Native.Nat.{ℕ, _+_, _-_, _≤_, _<_}
 use native.Mathlib.Omega.{arith}
 use borrow.Author.Tests.{eq-eqb, ne-eqb, leb-true, leb-false}
-use lib.Dec.{eqb, leb}
+use lib.Dec.{leb}
 use lib.ListN.{length, drop, length-append}
 use Rattle.order.specs.Order.{Bytes}
 use Rattle.layout.specs.declared.Counts.{Counts}
@@ -16,8 +16,8 @@ use Rattle.frame.specs.Tuples.{tuplesOf, AllFramed}
 use Rattle.frame.proofs.Frames.{length-frame, allowed-16}
 use Rattle.edits.specs.Edits.{without, behind, anew, removedBy, removedFile}
 use Rattle.edits.specs.inner.Places.{before, Between, Sought, Taken}
-use Rattle.index.proofs.Fresh.{frames-append}
-use Rattle.edits.proofs.Ends.{framed-right, all-taken, taken-4, cut-within}
+use Rattle.frame.proofs.Tuples.{frames-append, framed-right}
+use Rattle.edits.proofs.Ends.{all-taken, cut-within}
 use Rattle.edits.proofs.Anew.{size-here, here-within}
 
 -- ---- one tuple left out behind others

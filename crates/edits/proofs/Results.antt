@@ -1,8 +1,8 @@
 -- What is handed back of a result, by what the check says of it. Assumes nothing.
-use mathlib.Core.Path.{_≡_, refl, sym, ap, ap₂, subst, _∙_}
-use mathlib.Core.Bool.{Bool, true, false, true≢false}
+use mathlib.Core.Path.{_≡_, refl, sym, ap, subst, _∙_}
+use mathlib.Core.Bool.{Bool, true, false}
 use mathlib.Core.List.{List, [], _∷_, _++_, append-nil}
-use Prim.Native.Nat.{ℕ, zero, suc, _+_, _-_, _≤_, _<_}
+use Prim.Native.Nat.{ℕ, _+_, _-_, _≤_, _<_}
 use native.Mathlib.Omega.{arith}
 use borrow.Author.Tests.{lt-ltb, le-ltb}
 use lib.Dec.{ltb, eqb}
@@ -16,11 +16,11 @@ use Rattle.rules.proofs.Laws.{first-eq}
 use Rattle.layout.specs.declared.Counts.{Counts}
 use Rattle.layout.specs.declared.Answer.{Answer}
 use Rattle.layout.specs.declared.Answer.the-variants.{Accepted, Refused}
-use Rattle.layout.specs.Answers.{leftBy, tells}
+use Rattle.layout.specs.Answers.{tells}
 use Rattle.layout.proofs.Lent.{left-refused, left-accepted}
-use Rattle.frame.specs.Frames.{Tup, frames}
+use Rattle.frame.specs.Frames.{frames}
 use Rattle.frame.specs.Files.{limit, mark, isMsb}
-use Rattle.frame.specs.Tuples.{tuplesOf, AllFramed}
+use Rattle.frame.specs.Tuples.{tuplesOf}
 use Rattle.frame.proofs.Files.{length-mark, msb-mark}
 use Rattle.frame.proofs.Tuples.{bytes-frames}
 use Rattle.index.specs.Index.{outside}
@@ -29,7 +29,7 @@ use Rattle.intake.proofs.Checks.{over-limit}
 use Rattle.intake.proofs.Accepted
 use Rattle.intake.proofs.Accepted.{all-framed}
 use Rattle.edits.specs.Edits.{tuplesIn, restIn, behindResult, resultAnswer, Edited}
-use Rattle.edits.specs.inner.Parts.{keptTuples, keptOf, tailOf, resultOf, Cut, Rewritten}
+use Rattle.edits.specs.inner.Parts.{keptTuples, keptOf, tailOf, resultOf, Rewritten}
 use Rattle.edits.proofs.Dividing.{divided, rest-front, rest-in}
 use Rattle.edits.proofs.Joining.{outside-framed, empty, kept-whole, rest-twice, tail-none, behind-mark}
 

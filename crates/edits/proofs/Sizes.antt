@@ -1,25 +1,23 @@
 -- How many bytes a result has, by what is found of its parts. Assumes nothing.
-use mathlib.Core.Path.{_≡_, refl, sym, ap, ap₂, subst, _∙_}
-use mathlib.Core.Bool.{Bool, true, false}
-use mathlib.Core.List.{List, [], _∷_, _++_, append-assoc}
-use Prim.Native.Nat.{ℕ, zero, suc, _+_, _-_, _*_, _%_, _≤_, _<_}
+use mathlib.Core.Path.{_≡_, sym, ap, ap₂, subst, _∙_}
+use mathlib.Core.Bool.{Bool}
+use mathlib.Core.List.{List, [], _++_, append-assoc}
+use Prim.Native.Nat.{ℕ, _+_, _-_, _*_, _%_, _≤_, _<_}
 use native.Mathlib.Omega.{arith}
 use borrow.Author.Tests.{ne-eqb}
-use lib.Dec.{eqb}
-use lib.Seq.{sets, length-sets}
-use lib.ListN.{length, drop, replicate, length-append, length-drop, drop-of-length-le}
-use Rattle.frame.specs.Frames.{Tup, lengthOf, frame, frames}
+use lib.Seq.{sets}
+use lib.ListN.{length, replicate, length-append, length-drop, drop-of-length-le}
+use Rattle.frame.specs.Frames.{lengthOf, frame, frames}
 use Rattle.order.proofs.Stores.{sets-append}
-use Rattle.frame.specs.Files.{limit, mark}
+use Rattle.frame.specs.Files.{mark}
 use Rattle.frame.proofs.Frames.{length-frame}
 use Rattle.frame.proofs.Files.{length-mark}
 use Rattle.index.specs.Index.{typesOf}
 use Rattle.index.specs.inner.Flags.{flagAll, flaggedTypes}
-use Rattle.index.proofs.Laws.{few-types, length-data}
+use Rattle.index.proofs.Laws.{length-data}
 use Rattle.index.proofs.Flags.{flagAll-append, flagged-types}
-use Rattle.edits.specs.declared.Size.{Size}
 use Rattle.edits.specs.Edits.{tuplesIn, restIn}
-use Rattle.edits.specs.inner.Parts.{keptTuples, keptOf, allOf, indexIn, tailOf, resultOf, Surveyed, Cut, SizeOf}
+use Rattle.edits.specs.inner.Parts.{keptTuples, keptOf, allOf, indexIn, resultOf, Surveyed, Cut}
 use Rattle.edits.proofs.Joining.{kept-whole, length-kept, tail-whole, tail-none, length-result}
 
 -- what is left of a part behind its tuples
@@ -44,9 +42,6 @@ module _ (o : Bool) (a b z : List ℕ) (ga gb gz : List ℕ) (ka ea kb eb kz ez 
 
   pub all-types : flaggedTypes gz ≡ typesOf (allOf o a b z)
   all-types = ap flaggedTypes all-flags ∙ flagged-types (allOf o a b z)
-
-  pub few-counted : (k : ℕ) → k ≡ length (flaggedTypes gz) → k ≤ 65536
-  few-counted k e = omega (arith, e, ap length all-types, few-types (allOf o a b z))
 
   pub index-size : (k : ℕ) → k ≡ length (flaggedTypes gz) → (m : ℕ) → m ≡ 20 + 2 * (k + k % 2) → m ≡ lengthOf (indexIn o a b z)
   index-size k e m h =

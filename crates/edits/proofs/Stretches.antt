@@ -2,17 +2,17 @@
 use mathlib.Core.Path.{_≡_, refl, sym, ap, ap₂, subst, _∙_}
 use mathlib.Core.Bool.{Bool, true, false, not, _&&_, true≢false}
 use mathlib.Core.List.{List, [], _∷_, _++_, append-assoc, append-nil}
-use Prim.Native.Nat.{ℕ, zero, suc, _+_, _-_, _≤_, _<_}
+use Prim.Native.Nat.{ℕ, suc, _+_, _-_, _≤_, _<_}
 use native.Mathlib.Omega.{arith}
 use borrow.Author.Tests.{ltb-true, ltb-false, ne-eqb}
-use lib.Dec.{eqb, ltb}
-use lib.ListN.{length, take, drop, length-append, length-drop, drop-of-length-le}
-use lib.Seq.{drop-drop, drop-at, take-at, take-all}
+use lib.Dec.{ltb}
+use lib.ListN.{length, take, drop, length-append, length-drop}
+use lib.Seq.{drop-at, take-at, take-all}
 use Rattle.order.specs.Order.{Bytes}
 use Rattle.layout.specs.declared.Answer.{Answer}
 use Rattle.layout.specs.Types
 use Rattle.layout.specs.Types.{inClass}
-use Rattle.frame.specs.Frames.{Tup, lengthOf, frame, frames, lenAt, kindAt, Framed}
+use Rattle.frame.specs.Frames.{Tup, lengthOf, frame, frames, lenAt, kindAt}
 use Rattle.frame.specs.Tuples.{AllFramed}
 use Rattle.frame.proofs.Frames.{length-frame, size-frame}
 use Rattle.samples.proofs.Blocks.{drop-take}
@@ -24,13 +24,15 @@ use Rattle.intake.specs.inner.Tallies.{Tables, courseOf, turnOf, StandsOn, Stea
 use Rattle.intake.proofs.Parts.{turn-on-past}
 use Rattle.intake.proofs.Runs.{turns-there, turns-next, turns-on}
 use Rattle.index.specs.Index.{outside}
-use Rattle.index.proofs.Fresh.{frames-append, outside-next, outside-append}
+use Rattle.frame.proofs.Tuples.{frames-append, framed-join}
+use Rattle.index.proofs.Fresh.{outside-next, outside-append}
 use Rattle.edits.specs.Edits.{tuplesIn, restIn}
-use Rattle.edits.specs.inner.Parts.{isFine, isTuple, isDropped, isKept, keptOf, Stretch}
+use Rattle.layout.specs.Answers.{isFine}
+use Rattle.edits.specs.inner.Parts.{isTuple, isDropped, isKept, keptOf, Stretch}
 use Rattle.edits.specs.inner.Left.{left}
-use Rattle.edits.specs.inner.Judging.{Closes, Answered}
-use Rattle.edits.proofs.Dividing.{Front, fine-of, tuples-front, rest-front, rest-stop}
-use Rattle.edits.proofs.Keeping.{here, ends-within, left-is, all-kept, all-stop}
+use Rattle.edits.specs.inner.Judging.{Answered}
+use Rattle.edits.proofs.Dividing.{Front, tuples-front, rest-front, rest-stop}
+use Rattle.edits.proofs.Keeping.{here, ends-within, left-is, all-stop}
 use Rattle.edits.proofs.Left.{left-stop}
 use Rattle.edits.proofs.Judging.{Judging, turn-front, left-past}
 
@@ -129,10 +131,6 @@ kept-class o q e = by-test (isTuple o q) (inClass Types.index (kindAt o q)) e
     by-test true false h = refl
     by-test false b h = absurd (true≢false (sym h))
 
-framed-snoc : (ts : List Tup) (t : Tup) → AllFramed ts → Framed t → AllFramed (ts ++ (t ∷ []))
-framed-snoc [] t g h = (h, tt)
-framed-snoc (u ∷ us) t g h = (g .0, framed-snoc us t (g .1) h)
-
 module _ {o : Bool} {part : List ℕ} {from at : ℕ} (s : Stretching o part from at) (b : Bytes part) where
   pub stretching-front : isKept o (drop at part) ≡ true → Front o (drop at part)
   stretching-front e = here o part at b (kept-tuple o (drop at part) e)
@@ -148,7 +146,7 @@ module _ {o : Bool} {part : List ℕ} {from at : ℕ} (s : Stretching o part fro
       record {
         tuples = ts ++ (t ∷ []);
         within = omega (arith, ends-within o part at p (s .within), a);
-        framed = framed-snoc ts t (s .framed) (p .framed);
+        framed = framed-join ts (t ∷ []) (s .framed) (p .framed, tt);
         kept = outside-append ts (t ∷ [])
             ∙ ap₂ (λ (x y : List Tup). x ++ y) (s .kept)
             (outside-next t [] false (ap (inClass Types.index) (sym (p .kind)) ∙ kept-class o (drop at part) e));

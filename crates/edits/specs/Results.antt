@@ -2,7 +2,7 @@
 -- and that removing undoes appending. Assumes nothing.
 use mathlib.Core.Path.{_≡_}
 use Prim.Native.Nat.{ℕ, _+_, _≤_}
-use mathlib.Core.Bool.{Bool, true, false, cond}
+use mathlib.Core.Bool.{Bool, false, cond}
 use mathlib.Core.List.{List, [], _∷_, _++_}
 use mathlib.Core.Option.{some}
 use lib.ListN.{length, take}
@@ -70,6 +70,9 @@ pub record Edits : Type 0 where
   pub removeSaid : (f : List ℕ) (at : ℕ) (out : List ℕ) {left : List ℕ} {r : Answer} {n : Counts} {c p : ℕ} → Removed f at out r left
       → checkFile f ≡ Accepted n → Without f at
       → checkFile (removedFile f at) ≡ Refused c p → r ≡ Refused c p
+  -- the index of an accepted file can be written, if the result is within the limit
+  pub indexable : (f : List ℕ) {n : Counts} → Bytes f → checkFile f ≡ Accepted n → length (indexedFile f) ≤ limit
+      → (m : Counts) × (checkFile (indexedFile f) ≡ Accepted m)
   -- a tuple appended and then removed gives the indexed file back
   pub back : (f : List ℕ) (t : Tup) (g : List ℕ) {h : List ℕ} → Bytes f → Framed t → inClass Types.index (t .kind) ≡ false
       → Handed (Appended f (frame (isMsb f) t)) g → Handed (Removed g (behindKept f)) h → h ≡ indexedFile f

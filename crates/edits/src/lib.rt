@@ -12,23 +12,21 @@ use links::Row;
 use links::SOUNDERS;
 ghost use mathlib.Core.Path.{_≡_};
 ghost use mathlib.Core.Bool.{true, false};
-ghost use Prim.Native.Nat.{_+_, _-_, _*_, _≤_, _<_};
+ghost use Prim.Native.Nat.{_+_, _≤_, _<_};
 ghost use lib.ListN.{length, drop, replicate};
 ghost use lib.Seq.{sets};
-ghost use Rattle.order.specs.Order.{Bytes};
-ghost use Rattle.frame.specs.Frames.{allowed, frames};
-ghost use Rattle.index.specs.Index.{beforeEnd};
-ghost use Rattle.intake.specs.inner.Sound.{Accepts};
-ghost use Rattle.edits.specs.Edits.{tuplesIn, appendedFile, removedFile, Indexed, Appended, Removed};
-ghost use Rattle.edits.specs.inner.Places.{Sought, Taken};
-ghost use Rattle.edits.specs.inner.Parts.{isTuple, isDropped, isKept, keptLength, keptTuples, keptOf, Divides, allOf, resultOf, Cut, SizeOf, Rewritten};
-ghost use Rattle.edits.specs.inner.Parts.{Surveyed, Stretch};
-ghost use Rattle.index.specs.Index.{typesOf};
-ghost use Rattle.index.specs.inner.Flags.{flagAll, flaggedTypes};
-ghost use Rattle.intake.specs.Check.{checkFile};
-ghost use Rattle.edits.specs.inner.Judging.{Ready, PartTo, SaidBehind};
-ghost use Rattle.intake.specs.inner.Tallies.{tables};
 ghost use Rattle.frame.specs.Files.{limit};
+ghost use Rattle.frame.specs.Frames.{allowed, frames};
+ghost use Rattle.intake.specs.Check.{checkFile};
+ghost use Rattle.intake.specs.inner.Sound.{Accepts};
+ghost use Rattle.intake.specs.inner.Tallies.{tables};
+ghost use Rattle.index.specs.Index.{typesOf, beforeEnd};
+ghost use Rattle.index.specs.inner.Flags.{flagAll, flaggedTypes};
+ghost use Rattle.edits.specs.Edits.{tuplesIn, appendedFile, removedFile, Indexed, Appended, Removed};
+ghost use Rattle.edits.specs.inner.Parts.{isTuple, isDropped, isKept, keptLength, keptTuples, keptOf, Divides, allOf, resultOf};
+ghost use Rattle.edits.specs.inner.Parts.{Surveyed, Stretch, Cut, SizeOf, Rewritten};
+ghost use Rattle.edits.specs.inner.Judging.{Ready, PartTo, SaidBehind};
+ghost use Rattle.edits.specs.inner.Places.{Sought, Taken};
 
 // How many bytes a result has, and its index.
 struct Size {

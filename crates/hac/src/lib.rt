@@ -1,4 +1,5 @@
-// HAC files: checked, walked both ways, linked, read, written, salvaged and brought to one normal form. The whole library under one name.
+// HAC files: checked, walked both ways, linked, read, written, edited, salvaged and brought to one normal form. The whole library under
+// one name.
 //
 // A file is lent as a slice of bytes and may hold anything; a place is a byte offset in it. Every call answers for every argument and
 // asks for nothing. It accepts, or it refuses by one code with a place: the first rule broken, in the order of docs/RULES.md. A refused
@@ -160,9 +161,10 @@ pub use threshold::ThresholdRead;
 
 // normalise(file, out): the file's normal form. There a ping of U-32 or C-32 is C-32 in the fewest words where it has a length and U-32
 // where it has none; one of U-16 or C-16 is C-16 in the fewest words where it has a length or a number past 65,535, else U-16; a CE-16
-// ping is CE-16 in the fewest words; one with angles keeps its type. Refuses as the check does; then by 18 at the first unlisted tuple,
-// index class apart, of an MSB file; 20 where the normal form is over the limit of a file; 19. Accepts with the file's tuples, the bytes
-// written and the identifiers compared in the file handed in.
+// ping is CE-16 in the fewest words; one with angles keeps its type. Just before the end of file it has its index, over its own tuples, and
+// no other tuple of the index class. Refuses as the check does; then by 18 at the first unlisted tuple, index class apart, of an MSB
+// file; 20 where the normal form, its index counted, is over the limit of a file; 19. Accepts with the file's tuples, the bytes written
+// and the identifiers compared in the file handed in.
 // Promise: `Normalised`, crates/normal/specs/Normaliser.antt; demand 3: crates/normal/specs/Demand.antt.
 pub use normal::normalise;
 

@@ -1,6 +1,6 @@
 -- The types of some tuples, computed. Assumes nothing.
 use mathlib.Core.Path.{_≡_, refl}
-use mathlib.Core.List.{List, [], _∷_}
+use mathlib.Core.List.{[], _∷_}
 use Prim.Native.Nat.{ℕ}
 use Rattle.layout.specs.Types.{inClass, classes}
 use Rattle.frame.specs.Frames.{Tup}

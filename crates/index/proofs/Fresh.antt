@@ -1,8 +1,8 @@
 -- An index worked out afresh: what is dropped changes no list of types and no place, nothing is linked or compared for it, and it is
 -- its own index afresh. Assumes nothing.
-use mathlib.Core.Path.{_≡_, refl, sym, ap, ap₂, _∙_}
+use mathlib.Core.Path.{_≡_, refl, sym, ap, _∙_}
 use mathlib.Core.Bool.{Bool, true, false, not, cond, _&&_, _||_, true≢false}
-use mathlib.Core.List.{List, [], _∷_, _++_, append-assoc}
+use mathlib.Core.List.{List, [], _∷_, _++_}
 use Prim.Native.Nat.{ℕ, _+_, _*_, _%_}
 use native.Mathlib.Omega.{arith}
 use borrow.Author.Tests.{eqb-true}
@@ -12,12 +12,10 @@ use Rattle.layout.specs.Types
 use Rattle.layout.specs.Types.{inClass, classes}
 use Rattle.frame.specs.Frames.{Tup, lengthOf, frame, frames}
 use Rattle.frame.proofs.Frames.{length-frame}
-use Rattle.links.specs.Links.{Links, Digest, nothing, has, compares, note}
-use Rattle.links.proofs.Linked.{note-nothing}
-use Rattle.content.specs.Items.{digest, digestItem}
-use Rattle.intake.specs.Compared.{comparisons}
-use Rattle.index.specs.Index.{chosen, isTyped, typesOf, indexTuple, indexOf, beforeEnd, fromEnd, withIndex, outside, reindexed}
-use Rattle.index.proofs.Laws.{same-chosen, length-data, index-digest, index-none, end-split}
+use Rattle.frame.proofs.Tuples.{frames-append}
+use Rattle.links.specs.Links.{nothing, has}
+use Rattle.index.specs.Index.{isTyped, typesOf, indexTuple, indexOf, beforeEnd, fromEnd, withIndex, outside, reindexed}
+use Rattle.index.proofs.Laws.{same-chosen, length-data, end-split}
 
 -- ---- the tests as plain choices
 abbrev kept : Bool → Tup → List Tup → List Tup
@@ -161,9 +159,6 @@ outside-indexed o ts =
     ∙ sym (outside-append (beforeEnd ts) (fromEnd ts))
     ∙ ap outside (end-split ts)
 
-pub reindexed-again : (o : Bool) (ts : List Tup) → reindexed o (reindexed o ts) ≡ reindexed o ts
-reindexed-again o ts = ap (withIndex o) (outside-indexed o (outside ts) ∙ outside-again ts)
-
 -- the same by its parts: those before the end of file, the index of all, those from it on
 pub reindexed-parts : (o : Bool) (ts : List Tup) → reindexed o ts ≡ outside (beforeEnd ts) ++ (indexOf o ts ∷ outside (fromEnd ts))
 unfolding withIndex
@@ -172,11 +167,6 @@ reindexed-parts o ts = λ i. before-outside ts i ++ (indexTuple o (types-outside
 -- ---- its bytes
 pub length-index : (o : Bool) (ks : List ℕ) → lengthOf (indexTuple o ks) ≡ 20 + 2 * (length ks + length ks % 2)
 length-index o ks = omega (arith, length-data o ks)
-
-pub frames-append : (o : Bool) (us vs : List Tup) → frames o (us ++ vs) ≡ frames o us ++ frames o vs
-frames-append o [] vs = refl
-frames-append o (u ∷ us) vs = ap (λ (l : List ℕ). frame o u ++ l) (frames-append o us vs)
-    ∙ sym (append-assoc (frame o u) (frames o us) (frames o vs))
 
 pub length-frames-indexed : (o : Bool) (ts : List Tup) → length (frames o (withIndex o ts)) ≡ length (frames o ts) + lengthOf (indexOf o ts)
 unfolding withIndex
@@ -189,37 +179,3 @@ length-frames-indexed o ts =
     ap (λ (l : List Tup). length (frames o l)) (sym (end-split ts)) ∙ ap length (frames-append o us vs)
     ∙ length-append (frames o us) (frames o vs) in
     a ∙ omega (arith, b, c, length-frame o (indexOf o ts))
-
--- ---- identifiers are compared for the others alone
-compared-nothing : (o : Bool) (s : Links) (t : Tup) (ts : List Tup) → digest o t ≡ nothing → comparisons o s (t ∷ ts) ≡ comparisons o s ts
-unfolding comparisons
-compared-nothing o s t ts e =
-    let zero : 0 + comparisons o (note s nothing) ts ≡ comparisons o (note s nothing) ts = omega arith in
-    ap (λ (d : Digest). compares s (d .link) + comparisons o (note s d) ts) e ∙ zero
-    ∙ ap (λ (q : Links). comparisons o q ts) (note-nothing s)
-
-pub compared-put : (o : Bool) (s : Links) (x : Tup) (us vs : List Tup) → digest o x ≡ nothing
-    → comparisons o s (us ++ (x ∷ vs)) ≡ comparisons o s (us ++ vs)
-unfolding comparisons
-compared-put o s x [] vs e = compared-nothing o s x vs e
-compared-put o s x (u ∷ us) vs e = ap (λ (n : ℕ). compares s (digest o u .link) + n) (compared-put o (note s (digest o u)) x us vs e)
-
-pub indexed-compared : (o : Bool) (s : Links) (ts : List Tup) → comparisons o s (withIndex o ts) ≡ comparisons o s ts
-unfolding withIndex
-indexed-compared o s ts =
-    compared-put o s (indexOf o ts) (beforeEnd ts) (fromEnd ts) (index-digest o (typesOf ts)) ∙ ap (comparisons o s) (end-split ts)
-
-pub outside-compared : (o : Bool) (s : Links) (ts : List Tup) → comparisons o s (outside ts) ≡ comparisons o s ts
-unfolding outside comparisons
-outside-compared o s [] = refl
-outside-compared o s (t ∷ ts) = by-class (inClass Types.index (t .kind)) refl (λ q. outside-compared o q ts)
-  where
-    by-class : (b : Bool) → inClass Types.index (t .kind) ≡ b → ((q : Links) → comparisons o q (outside ts) ≡ comparisons o q ts)
-        → comparisons o s (outside (t ∷ ts)) ≡ comparisons o s (t ∷ ts)
-    by-class true e ih =
-        ap (comparisons o s) (outside-next t ts true e) ∙ ih s ∙ sym (compared-nothing o s t ts (ap digestItem (index-none o t e)))
-    by-class false e ih =
-        ap (comparisons o s) (outside-next t ts false e) ∙ ap (λ (n : ℕ). compares s (digest o t .link) + n) (ih (note s (digest o t)))
-
-pub reindexed-compared : (o : Bool) (s : Links) (ts : List Tup) → comparisons o s (reindexed o ts) ≡ comparisons o s ts
-reindexed-compared o s ts = indexed-compared o s (outside ts) ∙ outside-compared o s ts

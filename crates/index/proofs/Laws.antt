@@ -1,14 +1,14 @@
 -- The index tuple is sound and says nothing to the others; put in before the end of file, it leaves sound tuples sound and linked
 -- tuples linked. Assumes nothing.
 use mathlib.Core.Path.{_≡_, refl, sym, ap, subst, _∙_}
-use mathlib.Core.Bool.{Bool, true, false, not, _&&_, true≢false}
+use mathlib.Core.Bool.{Bool, true, false}
 use mathlib.Core.List.{List, [], _∷_, _++_}
-use mathlib.Core.Option.{some, none}
+use mathlib.Core.Option.{none}
 use Prim.Native.Nat.{ℕ, zero, suc, _+_, _*_, _%_, _≤_, _<_}
 use native.Mathlib.Omega.{arith}
 use borrow.Author.Tests.{eqb-true, not-false}
 use lib.Dec.{eqb}
-use lib.ListN.{length, replicate, length-append, length-replicate}
+use lib.ListN.{length, length-append, length-replicate}
 use Rattle.order.specs.Order.{bytesOf, Bytes}
 use Rattle.order.proofs.Laws.{length-bytesOf, bytes-append, bytes-lows, bytes-ordered}
 use Rattle.layout.specs.declared.Verdict.the-variants.{Fine}
@@ -19,14 +19,14 @@ use Rattle.layout.proofs.Verdicts.{passes}
 use Rattle.layout.proofs.Tables.{index-shape}
 use Rattle.frame.specs.Frames.{Tup, lengthOf, Framed}
 use Rattle.frame.proofs.Frames.{allowed-of}
-use Rattle.links.specs.Links.{Links, Digest, nothing, signRules, note}
+use Rattle.links.specs.Links.{Links, nothing, signRules, note}
 use Rattle.links.proofs.Linked.{Linked, next, with-nothing, linked-here, linked-next, linked-some, without, relinked}
 use Rattle.samples.specs.Words.{unwords}
 use Rattle.samples.proofs.Words.{length-unwords, bytes-unwords}
 use Rattle.content.specs.Items.{itemOf, itemBy, digest, digestItem}
 use Rattle.content.proofs.Fine.{Sound, head-fine, inner-fine}
 use Rattle.content.proofs.Places.{by-code}
-use Rattle.intake.proofs.Accepted.{AllSound, digests}
+use Rattle.intake.proofs.Accepted.{AllSound, sound-append, digests}
 use Rattle.index.specs.Index.{
   chosen,
   isTyped,
@@ -131,10 +131,6 @@ index-sound o ks h =
     }
 
 -- ---- tuples in two parts
-pub all-append : (o : Bool) (us vs : List Tup) → AllSound o us → AllSound o vs → AllSound o (us ++ vs)
-all-append o [] vs f g = g
-all-append o (u ∷ us) vs f g = (f .0, all-append o us vs (f .1) g)
-
 pub all-left : (o : Bool) (us vs : List Tup) → AllSound o (us ++ vs) → AllSound o us
 all-left o [] vs f = tt
 all-left o (u ∷ us) vs f = (f .0, all-left o us vs (f .1))
@@ -162,7 +158,7 @@ module _ (o : Bool) (x : Tup) where
   pub put-sound : Sound o x → (ts : List Tup) → AllSound o ts → AllSound o (beforeEnd ts ++ (x ∷ fromEnd ts))
   put-sound s ts f =
       let g = subst (AllSound o) (sym (end-split ts)) f in
-      all-append o (beforeEnd ts) (x ∷ fromEnd ts) (all-left o (beforeEnd ts) (fromEnd ts) g) (s, all-right o (beforeEnd ts) (fromEnd ts) g)
+      sound-append o (beforeEnd ts) (x ∷ fromEnd ts) (all-left o (beforeEnd ts) (fromEnd ts) g) (s, all-right o (beforeEnd ts) (fromEnd ts) g)
 
   pub length-put : (ts : List Tup) → length (beforeEnd ts ++ (x ∷ fromEnd ts)) ≡ length ts + 1
   length-put ts = omega

@@ -1,5 +1,5 @@
 -- What the loops over the types carry: with the types still to come, the whole list. Assumes nothing.
-use mathlib.Core.Path.{_≡_, refl, sym, ap, ap₂, subst, _∙_}
+use mathlib.Core.Path.{_≡_, refl, sym, ap, ap₂, _∙_}
 use mathlib.Core.Bool.{Bool, true, false}
 use mathlib.Core.List.{List, [], _∷_, _++_, append-nil, append-assoc}
 use Prim.Native.Nat.{ℕ, zero, suc, _+_, _-_, _*_, _/_, _%_, _≤_, _<_}
@@ -16,7 +16,7 @@ use Rattle.frame.specs.inner.Framing.{openBytes, closeBytes}
 use Rattle.frame.proofs.Framing.{length-open}
 use Rattle.index.specs.Index.{chosen, spaced, indexData, indexTuple}
 use Rattle.index.specs.inner.Flags.{flagged, flaggedTypes, Blank, Next, openingOf}
-use Rattle.index.proofs.Laws.{pick, chosen-next, length-chosen, length-data, length-spaced}
+use Rattle.index.proofs.Laws.{pick, chosen-next, length-chosen, length-data}
 
 -- the types from k on that a test takes
 abbrev pub toCome : (ℕ → Bool) → ℕ → List ℕ

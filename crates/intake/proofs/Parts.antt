@@ -1,23 +1,23 @@
 -- A turn is said over the bytes that are left and the file's length: of these bytes only the first tuple matters. So a file that stands
 -- in parts, one behind the other, is checked over each part at its own places. Assumes nothing.
 use mathlib.Core.Path.{_≡_, refl, sym, ap, ap₂, subst, _∙_}
-use mathlib.Core.Bool.{Bool, true, false, not, cond, _||_}
+use mathlib.Core.Bool.{Bool, true, false, not}
 use mathlib.Core.List.{List, [], _∷_, _++_, append-nil}
 use Prim.Native.Nat.{ℕ, _+_, _≤_, _<_}
 use native.Mathlib.Omega.{arith}
 use borrow.Author.Tests.{le-ltb, ltb-false, ne-eqb, not-false}
 use lib.Dec.{ltb, eqb}
 use lib.ListN.{length, take, drop, length-append, length-drop}
-use lib.Seq.{take-append-le, drop-append-le, drop-append-add}
+use lib.Seq.{take-append-le, drop-append-le}
 use Rattle.order.specs.Order.{numOf}
 use Rattle.rules.specs.Rules.{_⇒_}
-use Rattle.rules.proofs.Bools.{same-arms}
 use Rattle.layout.specs.declared.Verdict.{Verdict}
 use Rattle.layout.specs.declared.Verdict.the-variants.{Fine, Fault}
 use Rattle.layout.specs.Answers.{both, judged, _byte_}
 use Rattle.layout.specs.Types
-use Rattle.layout.specs.Types.{Shape, indexed, Length, fitting, lengthFrom, listings, notListed, classes, inClass, shapeOf}
-use Rattle.layout.proofs.Tables.{alike, lengths-from}
+use Rattle.layout.specs.Types.{Shape, indexed, Length, fitting, lengthFrom, inClass, shapeOf}
+use Rattle.rules.proofs.Bools.{or-false}
+use Rattle.layout.proofs.Tables.{index-shape, lengths-from}
 use Rattle.layout.proofs.Verdicts.{both-left, both-right, both-fine, passes}
 use Rattle.frame.specs.Frames.{Tup, lengthOf, allowed, sizeAt, lenAt, kindAt, backAt, tupAt, frameRules, framing}
 use Rattle.frame.proofs.Frames.{allowed-16}
@@ -103,22 +103,6 @@ module _ (o : Bool) (p q : List ℕ) (g : InFull o p) where
 pub turn-on-same : (o : Bool) (n : ℕ) (w : Course) (p q : List ℕ) → framing o p ≡ Fine → turnOn o n w (p ++ q) ≡ turnOn o n w p
 turn-on-same o n w p q e = turn-on-full o p q (framed-full o p e) n w
 
--- ---- a file that is parts, one behind the other: a turn where a course stands at a place of a part
-module _ (o : Bool) (f a part : List ℕ) (w : Course) (from : ℕ) (at : w .at ≡ length a + from) where
-  -- one whose tuple is within the part,
-  pub turn-in-part : (z : List ℕ) → f ≡ a ++ (part ++ z) → from ≤ length part → InFull o (drop from part)
-      → turn o f w ≡ turnOn o (length f) w (drop from part)
-  unfolding turn
-  turn-in-part z e h g =
-      ap (turnOn o (length f) w)
-      (ap₂ drop at e ∙ drop-append-add a (part ++ z) from ∙ drop-append-le from part z h)
-      ∙ turn-on-full o (drop from part) z g (length f) w
-
-  -- and any in the last part
-  pub turn-in-last : f ≡ a ++ part → turn o f w ≡ turnOn o (length f) w (drop from part)
-  unfolding turn
-  turn-in-last e = ap (turnOn o (length f) w) (ap₂ drop at e ∙ drop-append-add a part from)
-
 -- ---- a turn that goes on has passed the tuple, which is framed
 pub record OnPast (o : Bool) (r : List ℕ) (w v : Course) : Type 0 where
   pub framed : framing o r ≡ Fine
@@ -170,15 +154,6 @@ turned-past {o} {n} {r} {w} {v} {c} {d} t e =
     turn-on-past o n (courseOf w c) r (courseOf v d) (sym (t .turns) ∙ ap (λ (y : Turned). turnOf y d) e)
 
 -- ---- a tuple of the index class
-pub index-shape : (k : ℕ) → inClass Types.index k ≡ true → shapeOf k ≡ indexed
-index-shape k e =
-    ap (λ (b : Bool). cond b (shapeOf k) indexed) (sym e)
-    ∙ alike (λ j l. cond (inClass Types.index j) (l .shape) indexed) (λ j l. indexed) (unfold listings inClass classes in refl) others k
-  where
-    others : (j : ℕ) (b : Bool) → inClass Types.index j ≡ b → cond (inClass Types.index j) (notListed b .shape) indexed ≡ indexed
-    others j true q = same-arms (inClass Types.index j) indexed
-    others j false q = ap (λ (b : Bool). cond b (notListed false .shape) indexed) q
-
 -- past it, of m bytes, nothing else is noted
 abbrev pub pastIndex : Course → ℕ → Course
 pastIndex w m =
@@ -202,10 +177,6 @@ pastBy w d m =
       sounders = w .sounders ++ sounderPlace (d .link) (w .at);
       channels = w .channels ++ channelPlace (d .link) (w .at);
     }
-
-or-false : (b : Bool) → (b || false) ≡ b
-or-false true = refl
-or-false false = refl
 
 past-nothing : (w : Course) (m : ℕ) → pastBy w nothing m ≡ pastIndex w m
 past-nothing w m =

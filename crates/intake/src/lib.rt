@@ -24,7 +24,7 @@ ghost use Rattle.frame.specs.Frames.{tupAt, allowed};
 ghost use Rattle.frame.specs.Files.{limit};
 ghost use Rattle.links.specs.Links.{mostChannels, Steady};
 ghost use Rattle.intake.specs.inner.Tallies.{Here, Fits, headVerdict, innerVerdict, ownVerdict, sounderAt, channelAt, namedAt};
-ghost use Rattle.intake.specs.inner.Tallies.{linkTold, turnTold, tallyBegin, tallyPast, Standing, Held, Tables, tables, Sized};
+ghost use Rattle.intake.specs.inner.Tallies.{linkTold, turnTold, tallyBegin, tallyPast, Standing, Held, tables, Sized};
 ghost use Rattle.intake.specs.inner.Tallies.{courseOf, TurnedTo, PassedIndex, RanTo, RunTo, AskIn, askWhere};
 ghost use Rattle.intake.specs.Alone.{alone};
 ghost use Rattle.intake.specs.Check.{checkFile, ending, Checked};

@@ -1,6 +1,6 @@
 -- The index of a normal form: it is no content, it is over the normal tuples, and the types of these are flagged one by one. Assumes
 -- nothing.
-use mathlib.Core.Path.{_≡_, refl, sym, ap, ap₂, _∙_}
+use mathlib.Core.Path.{_≡_, refl, sym, ap, _∙_}
 use mathlib.Core.Bool.{Bool, true, false, cond}
 use mathlib.Core.List.{List, [], _∷_, _++_}
 use mathlib.Core.Option.{Option, some, none}
@@ -12,7 +12,7 @@ use Rattle.layout.specs.Types.{Shape, indexed, row, uncompressed, compressed, u
 use Rattle.layout.proofs.Tables.{shape-index}
 use Rattle.frame.specs.Frames.{Tup}
 use Rattle.content.specs.Items.{Item, itemBy, itemOf}
-use Rattle.content.specs.Forms.{formOf, formsOf}
+use Rattle.content.specs.Forms.{formsOf}
 use Rattle.index.specs.Index.{typesOf, indexOf, beforeEnd, fromEnd, withIndex, outside, reindexed}
 use Rattle.index.specs.inner.Flags.{flag, flagOutside, flagAll}
 use Rattle.index.proofs.Laws.{end-split, index-item, index-none}

@@ -16,13 +16,13 @@ use Rattle.frame.specs.Frames.{Tup, frame, frames, lenAt, tupAt}
 use Rattle.frame.specs.Files.{isMsb}
 use Rattle.frame.specs.Tuples.{tuplesFrom, AllFramed}
 use Rattle.frame.proofs.Frames.{cut, length-frame}
-use Rattle.frame.proofs.Tuples.{length-frames, cut-frames}
+use Rattle.frame.proofs.Tuples.{frames-append, length-frames, cut-frames}
 use Rattle.content.specs.Items.{headRules, innerRules}
 use Rattle.content.proofs.Fine.{Sound}
 use Rattle.content.proofs.Places.{length-place}
 use Rattle.intake.specs.Alone.{alone}
 use Rattle.intake.proofs.Alone.{alone-framed, alone-sound}
-use Rattle.intake.proofs.Accepted.{AllSound, all-framed}
+use Rattle.intake.proofs.Accepted.{AllSound, sound-append, all-framed}
 use Rattle.salvage.specs.declared.Piece.{Piece}
 use Rattle.salvage.specs.Pieces.{pieceBy, pieceAt, piecesOf, joined, grown, ranges, bytesIn, keptIn, bytesKept, tuplesKept}
 use Rattle.salvage.specs.Report.{AllOwn, Divides, KeptDivide}
@@ -32,15 +32,6 @@ use Rattle.salvage.proofs.Tiles.{Lying, Tiles, tiles-of, tiles-lying, k
 all-own : (o : Bool) (ts : List Tup) → AllSound o ts → AllOwn o ts
 all-own o [] s = tt
 all-own o (t ∷ ts) s = (judged-append (headRules o t) (innerRules o t) ∙ both-fine (s .0 .head) (s .0 .inner), all-own o ts (s .1))
-
-sound-append : (o : Bool) (xs ys : List Tup) → AllSound o xs → AllSound o ys → AllSound o (xs ++ ys)
-sound-append o [] ys g h = h
-sound-append o (x ∷ xs) ys g h = (g .0, sound-append o xs ys (g .1) h)
-
-frames-append : (o : Bool) (xs ys : List Tup) → frames o (xs ++ ys) ≡ frames o xs ++ frames o ys
-frames-append o [] ys = refl
-frames-append o (x ∷ xs) ys =
-    ap (λ (r : List ℕ). frame o x ++ r) (frames-append o xs ys) ∙ sym (append-assoc (frame o x) (frames o xs) (frames o ys))
 
 -- ---- bytes that are such tuples
 record Holds (o : Bool) (bs : List ℕ) : Type 0 where

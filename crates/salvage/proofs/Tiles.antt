@@ -17,7 +17,7 @@ use Rattle.frame.proofs.Frames.{allowed-4}
 use Rattle.frame.proofs.Places.{Whole, framing-whole}
 use Rattle.intake.specs.Alone.{alone}
 use Rattle.intake.proofs.Alone.{alone-framed}
-use Rattle.weights.specs.inner.Judging.{isFine}
+use Rattle.layout.specs.Answers.{isFine}
 use Rattle.salvage.specs.declared.Piece.{Piece}
 use Rattle.salvage.specs.Pieces.{pieceBy, pieceAt, piecesFrom, piecesOf, joined, grown, bytesIn, keptIn}
 use Rattle.salvage.specs.inner.Passes.{Ready, growing, closed, sizeKept}
@@ -46,11 +46,7 @@ dropped at end h false e = record { from = refl; some = h; within = omega arith;
 pub kept-whole : (o : Bool) (f : List ℕ) (at : ℕ) → alone o (drop at f) ≡ Fine → Whole o f at (lenAt o (drop at f))
 kept-whole o f at e = framing-whole o f at (alone-framed o (drop at f) e)
 
--- a verdict by whether it is fine
-pub fine-is : (v : Verdict) → isFine v ≡ true → v ≡ Fine
-fine-is Fine e = refl
-fine-is (Fault c p) e = absurd (true≢false (sym e))
-
+-- a verdict that isn't fine
 unfine : (v : Verdict) (at n end : ℕ) → isFine v ≡ false → pieceBy v at n end ≡ pieceBy (Fault 0 0) at n end
 unfine Fine at n end e = absurd (true≢false e)
 unfine (Fault c p) at n end e = refl

@@ -12,7 +12,7 @@ ghost use lib.Seq.{sets};
 ghost use Rattle.frame.specs.Files.{limit, marked, isMsb};
 ghost use Rattle.intake.specs.Alone.{alone};
 ghost use Rattle.weights.specs.inner.Rows.{entries, rows};
-ghost use Rattle.weights.specs.inner.Judging.{isFine};
+ghost use Rattle.layout.specs.Answers.{isFine};
 ghost use Rattle.salvage.specs.Pieces.{pieceAt, keptIn};
 ghost use Rattle.salvage.specs.Salvage.{outputOf, rowOf, rowsOf, reportOf, Salvaged};
 ghost use Rattle.salvage.specs.inner.Passes.{Ready, Few, Within, Roomy, growing, closed, sizeKept, sumsFirst, sumsPast, sumsOf};

@@ -13,25 +13,25 @@ use lib.Seq.{take-take, length-take-le}
 use Rattle.rules.specs.Rules.{_⇒_}
 use Rattle.rules.proofs.Bools.{both-true, and-false, and-true}
 use Rattle.order.specs.Order.{numOf}
-use Rattle.layout.specs.declared.Verdict.{Verdict}
 use Rattle.layout.specs.Answers.{judged, Breach}
 use Rattle.layout.specs.Families.{Family, wide, valueBytes, numberBytes, sampleBytes, radixOf, isBad}
-use Rattle.samples.specs.Words.{words, allWords, Sample, sampleOf, samples, allSamples}
+use Rattle.samples.specs.Words.{words, allWords, sampleOf, samples, allSamples}
 use Rattle.samples.specs.Runs.{isRun, values, firstBad}
 use Rattle.samples.specs.Values.{front, hasSpace, heldWords}
 use Rattle.samples.specs.Judging.{most, firstDrop, dropping, anyBad, wordRules, judgedWords, judgedSamples}
 use Rattle.samples.specs.inner.Narrow.{wordsBy}
 use Rattle.samples.proofs.Runs.{by-bool}
 use Rattle.samples.proofs.Values.{values-value}
-use Rattle.samples.proofs.Judging.{anyDrop, counts-one, values-cons, bad-cons, drops-later, drops-cons}
+use Rattle.samples.proofs.Judging.{anyDrop, values-cons, bad-cons, drops-later, drops-cons}
 use Rattle.samples.proofs.Held.{held-front, held-all}
 use Rattle.samples.proofs.Blocks.{drop-take, words-take}
-use Rattle.samples.proofs.Words.{some-bytes, samples-many}
+use Rattle.samples.proofs.Words.{samples-many}
 use Rattle.samples16.proofs.Laws.{front-words}
 use Rattle.weights.specs.declared.Kind.{Kind}
 use Rattle.weights.specs.declared.Kind.the-variants.{C32, C16, CE16, Pairs, Shorts, Triples}
 use Rattle.weights.specs.inner.Weights.{weighed, wordWeight, byWords, byDrops, stepBy, There, weightAt}
-use Rattle.weights.specs.inner.Judging.{isFine, familyBy, Rising, narrowBy}
+use Rattle.layout.specs.Answers.{isFine}
+use Rattle.weights.specs.inner.Judging.{familyBy, Rising, narrowBy}
 
 -- ---- three rules, and two
 fine-three : (a b c : Bool) (x y z : Breach) → isFine (judged ((a ⇒ x) ∷ (b ⇒ y) ∷ (c ⇒ z) ∷ [])) ≡ (not a && (not b && not c))

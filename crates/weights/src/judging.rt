@@ -9,7 +9,6 @@ use samples::MOST;
 use samples::SAMPLES;
 use samples::WORDS;
 ghost use mathlib.Core.Path.{_≡_};
-ghost use mathlib.Core.Bool.{Bool};
 ghost use Prim.Native.Nat.{_+_, _*_, _/_, _%_, _≤_, _<_};
 ghost use lib.ListN.{length, take, drop};
 ghost use Rattle.layout.specs.Families.{wide};
@@ -20,7 +19,8 @@ ghost use Rattle.samples.specs.inner.Narrow.{wordsBy};
 ghost use Rattle.intake.specs.Alone.{alone};
 ghost use Rattle.intake.specs.inner.Tallies.{Here, Fits, innerVerdict};
 ghost use Rattle.weights.specs.inner.Rows.{Summed};
-ghost use Rattle.weights.specs.inner.Judging.{isFine, familyBy, Rising, narrowBy};
+ghost use Rattle.layout.specs.Answers.{isFine};
+ghost use Rattle.weights.specs.inner.Judging.{familyBy, Rising, narrowBy};
 
 // The bytes of a ping beside its samples, and beside its words: those before them, its attribute and its backlink.
 const BESIDE_SAMPLES: usize = SAMPLES + frame::TAIL;

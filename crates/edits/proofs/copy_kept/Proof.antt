@@ -1,10 +1,9 @@
 -- `edits::copy_kept` meets its contract: the tuples to come, copied behind those copied, are the whole. Assumes nothing.
-use mathlib.Core.Path.{_≡_, sym, ap, ap₂, _∙_}
+use mathlib.Core.Path.{_≡_, sym, ap, _∙_}
 use Prim.Native.Nat.{ℕ, _+_, _-_, _≤_}
 use native.Mathlib.Omega.{arith}
 use borrow.Author.Needs.{needs}
 use lib.ListN.{length, drop}
-use Rattle.order.specs.Order.{Bytes}
 use Rattle.order.proofs.Laws.{bytes-of}
 use Rattle.frame.specs.Frames.{lenAt, kindAt}
 use Rattle.edits.specs.inner.Parts.{keptLength}

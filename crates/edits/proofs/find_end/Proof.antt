@@ -1,10 +1,8 @@
 -- `edits::find_end` meets its contract: with the tuples to come before the end of file, the place is theirs. Assumes nothing.
-use mathlib.Core.Path.{_≡_, sym, ap, _∙_}
-use Prim.Native.Nat.{ℕ, _-_}
+use mathlib.Core.Path.{sym, _∙_}
+use Prim.Native.Nat.{_-_}
 use native.Mathlib.Omega.{arith}
-use borrow.Author.Needs.{needs}
 use lib.ListN.{length, drop}
-use Rattle.order.specs.Order.{Bytes}
 use Rattle.order.proofs.Laws.{bytes-of}
 use Rattle.edits.proofs.Dividing.{Front}
 use Rattle.edits.proofs.Keeping.{here, holds-16, ends-within, Seeking, seeking-begin, seeking-found, seeking-again, seeking-end}

@@ -1,7 +1,7 @@
 -- `edits::is_tuple` meets its contract: by the verdict on the frame. Assumes nothing.
 use mathlib.Core.Path.{sym, ap, _∙_}
 use borrow.Author.Needs.{needs}
-use Rattle.edits.specs.inner.Parts.{isFine}
+use Rattle.layout.specs.Answers.{isFine}
 use Rattle.edits.proofs.is_tuple.Statement.{statement}
 use Rattle.edits.proofs.is_tuple.Tie as tie
 

@@ -1,11 +1,8 @@
 -- `edits::judge_back` meets its contract: 7 where the index would stand first, else past it and over the last part. Assumes nothing.
-use mathlib.Core.Path.{_≡_, sym, ap, subst, _∙_}
 use native.Mathlib.Omega.{arith}
 use borrow.Author.Needs.{needs}
-use lib.Dec.{lit≤}
 use Rattle.intake.specs.inner.Tallies.{tables}
 use Rattle.intake.proofs.Parts
-use Rattle.edits.specs.inner.Judging.{PartTo}
 use Rattle.edits.proofs.Judging.{back-first, back-done, back-open, part-to}
 use Rattle.edits.proofs.judge_back.Statement.{statement}
 use Rattle.edits.proofs.judge_back.Tie as tie

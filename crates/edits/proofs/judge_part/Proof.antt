@@ -1,9 +1,10 @@
--- `edits::judge_part` meets its contract: with what is left of the part, the check is the same (`Judging`), stretch by stretch. Assumes nothing.
-use mathlib.Core.Path.{_≡_, refl, sym, ap, _∙_}
-use Prim.Native.Nat.{ℕ, _+_, _-_, _≤_, _<_}
+-- `edits::judge_part` meets its contract: with what is left of the part, the check is the same, stretch by stretch (`Judging`).
+-- Assumes nothing.
+use mathlib.Core.Path.{refl, sym, _∙_}
+use Prim.Native.Nat.{_+_, _-_, _≤_, _<_}
 use native.Mathlib.Omega.{arith}
 use borrow.Author.Needs.{needs}
-use lib.ListN.{length, drop}
+use lib.ListN.{length}
 use lib.Seq.{length-take-le}
 use Rattle.order.specs.Order.{Bytes}
 use Rattle.order.proofs.Laws.{bytes-of}

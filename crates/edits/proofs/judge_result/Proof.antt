@@ -1,18 +1,16 @@
 -- `edits::judge_result` meets its contract: part by part, and from the index on. Assumes nothing.
-use mathlib.Core.Path.{_≡_, sym, ap, subst, _∙_}
-use mathlib.Core.Bool.{Bool}
-use mathlib.Core.List.{List}
-use Prim.Native.Nat.{ℕ, _≤_}
+use mathlib.Core.Path.{_≡_, subst}
+use Prim.Native.Nat.{ℕ}
 use mathlib.Core.Bool.{true}
 use borrow.Author.Needs.{needs}
-use Rattle.frame.specs.Files.{limit}
 use Rattle.frame.specs.Frames.{allowed}
 use lib.ListN.{replicate}
 use Rattle.links.specs.Links.{mostSounders, mostChannels}
 use Rattle.intake.specs.inner.Tallies.{Tables, tables}
 use Rattle.intake.proofs.Runs.{sized-zeros}
 use Rattle.edits.specs.inner.Judging.{Passed}
-use Rattle.edits.proofs.Judging.{ready-begin, index-of, first-small, first-done, second-small, second-done, behind-small, behind-done}
+use Rattle.edits.proofs.Judging.{ready-begin, index-of, first-small, first-done, second-small, second-done}
+use Rattle.edits.proofs.Judging.{behind-small, behind-done}
 use Rattle.edits.proofs.Judging.{part-to}
 use Rattle.edits.proofs.judge_result.Statement.{statement}
 use Rattle.edits.proofs.judge_result.Tie as tie

@@ -1,15 +1,15 @@
 -- `edits::measure` meets its contract: three surveys, and the index. Assumes nothing.
-use mathlib.Core.Path.{_≡_, sym, ap, subst, _∙_}
+use mathlib.Core.Path.{_≡_, subst}
 use mathlib.Core.List.{List}
-use Prim.Native.Nat.{ℕ, _+_, _-_, _*_, _%_, _≤_}
+use Prim.Native.Nat.{ℕ, _-_, _≤_}
 use native.Mathlib.Omega.{arith}
 use borrow.Author.Needs.{needs}
-use lib.ListN.{length, replicate}
+use lib.ListN.{replicate}
 use Rattle.frame.specs.Files.{limit}
 use Rattle.frame.specs.Frames.{lengthOf}
 use Rattle.index.specs.inner.Flags.{flagAll}
 use Rattle.index.proofs.Writes.{few-flagged}
-use Rattle.edits.specs.inner.Parts.{indexIn, allOf, Surveyed, Cut}
+use Rattle.edits.specs.inner.Parts.{indexIn, allOf, Surveyed}
 use Rattle.edits.proofs.Sizes.{all-flags, index-size, broken-size, whole-size}
 use Rattle.edits.proofs.measure.Statement.{statement}
 use Rattle.edits.proofs.measure.Tie as tie

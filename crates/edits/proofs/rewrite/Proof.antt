@@ -1,9 +1,7 @@
 -- `edits::rewrite` meets its contract: 1, what the check would say, 19, then the result. Assumes nothing.
-use mathlib.Core.Path.{_≡_, sym, ap, _∙_}
+use mathlib.Core.Path.{sym, ap, _∙_}
 use native.Mathlib.Omega.{arith}
 use borrow.Author.Needs.{needs}
-use lib.ListN.{length}
-use Rattle.order.specs.Order.{Bytes}
 use Rattle.order.proofs.Laws.{bytes-of}
 use Rattle.index.specs.inner.Flags.{flaggedTypes}
 use Rattle.index.proofs.Flags.{flagged-types}

@@ -2,7 +2,6 @@
 use mathlib.Core.Path.{sym, _∙_}
 use Prim.Native.Nat.{_-_}
 use native.Mathlib.Omega.{arith}
-use borrow.Author.Needs.{needs}
 use lib.ListN.{length, drop}
 use Rattle.order.specs.Order.{Bytes}
 use Rattle.order.proofs.Laws.{bytes-of}

@@ -1,15 +1,14 @@
 -- `edits::survey` meets its contract: what is found and the tuples to come are the whole. Assumes nothing.
-use mathlib.Core.Path.{_≡_, sym, ap, _∙_}
-use Prim.Native.Nat.{ℕ, _+_, _-_, _≤_}
+use mathlib.Core.Path.{sym, ap, _∙_}
+use Prim.Native.Nat.{ℕ, _+_, _-_}
 use native.Mathlib.Omega.{arith}
 use borrow.Author.Needs.{needs}
 use lib.ListN.{length, drop}
 use Rattle.order.proofs.Laws.{bytes-of}
-use Rattle.frame.specs.Frames.{lenAt, kindAt}
 use Rattle.index.specs.inner.Flags.{flagOutside}
 use Rattle.edits.specs.inner.Parts.{keptLength}
 use Rattle.edits.proofs.Dividing.{Front}
-use Rattle.edits.proofs.Keeping.{here, holds-16, ends-within, kept-few, Surveying, surveying-begin, surveying-again, surveying-end}
+use Rattle.edits.proofs.Keeping.{here, holds-16, Surveying, surveying-begin, surveying-again, surveying-end}
 use Rattle.edits.proofs.survey.Statement.{statement}
 use Rattle.edits.proofs.survey.Tie as tie
 

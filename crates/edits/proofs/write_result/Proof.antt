@@ -1,6 +1,5 @@
 -- `edits::write_result` meets its contract: each part is stored behind the one before it. Assumes nothing.
-use mathlib.Core.Path.{_≡_, sym, ap, ap₂, _∙_}
-use mathlib.Core.List.{List}
+use mathlib.Core.Path.{_≡_, ap, _∙_}
 use Prim.Native.Nat.{ℕ, _+_, _≤_}
 use native.Mathlib.Omega.{arith}
 use borrow.Author.Needs.{needs}
@@ -10,7 +9,7 @@ use Rattle.frame.specs.Frames.{Tup, lengthOf, frame}
 use Rattle.frame.specs.Files.{mark}
 use Rattle.index.specs.Index.{indexTuple}
 use Rattle.index.specs.inner.Flags.{flaggedTypes}
-use Rattle.edits.specs.inner.Parts.{keptTuples, indexIn, resultOf}
+use Rattle.edits.specs.inner.Parts.{keptTuples, indexIn}
 use Rattle.edits.proofs.Sizes.{rowed, stored}
 use Rattle.edits.proofs.write_result.Statement.{statement}
 use Rattle.edits.proofs.write_result.Tie as tie

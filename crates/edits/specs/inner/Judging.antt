@@ -1,6 +1,6 @@
 -- What judging a part of a result takes and hands back. Assumes nothing.
 use mathlib.Core.Path.{_≡_}
-use Prim.Native.Nat.{ℕ, _+_, _≤_}
+use Prim.Native.Nat.{ℕ, _+_}
 use mathlib.Core.Bool.{Bool, true, false}
 use mathlib.Core.List.{List, [], _++_}
 use lib.Dec.{eqb}
@@ -9,7 +9,6 @@ use Rattle.layout.specs.declared.Answer.{Answer}
 use Rattle.layout.specs.Types
 use Rattle.layout.specs.Types.{inClass}
 use Rattle.frame.specs.Frames.{Tup, lengthOf, frame, Framed}
-use Rattle.frame.specs.Files.{limit}
 use Rattle.links.specs.Links.{Steady, nothing}
 use Rattle.content.specs.Items.{digest}
 use Rattle.intake.specs.declared.Tally.{Tally}

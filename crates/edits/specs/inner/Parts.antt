@@ -2,28 +2,23 @@
 use mathlib.Core.Path.{_≡_}
 use Prim.Native.Nat.{ℕ, _+_, _≤_, _<_}
 use mathlib.Core.Bool.{Bool, true, false, cond, not, _&&_}
-use mathlib.Core.List.{List, [], _∷_, _++_}
+use mathlib.Core.List.{List, [], _++_}
 use lib.Dec.{eqb}
 use lib.ListN.{length, drop}
 use Rattle.layout.specs.declared.Counts.{Counts}
 use Rattle.layout.specs.declared.Answer.{Answer}
-use Rattle.layout.specs.declared.Verdict.{Verdict}
-use Rattle.layout.specs.declared.Verdict.the-variants.{Fine, Fault}
+use Rattle.layout.specs.Answers.{isFine}
 use Rattle.layout.specs.Types
 use Rattle.layout.specs.Types.{inClass}
 use Rattle.frame.specs.Frames.{Tup, lengthOf, frame, frames, kindAt, framing}
 use Rattle.frame.specs.Files.{limit, mark}
 use Rattle.frame.specs.Tuples.{AllFramed}
-use Rattle.index.specs.Index.{indexOf, beforeEnd, outside}
+use Rattle.index.specs.Index.{indexOf, outside}
 use Rattle.index.specs.inner.Flags.{flagAll}
 use Rattle.edits.specs.declared.Size.{Size}
 use Rattle.edits.specs.Edits.{tuplesIn, restIn, resultAnswer, Edited}
 
 -- a tuple stands at the front of bytes; one of the index class, which is dropped
-abbrev pub isFine : Verdict → Bool
-isFine Fine = true
-isFine (Fault c p) = false
-
 abbrev pub isTuple : Bool → List ℕ → Bool
 isTuple o r = isFine (framing o r)
 

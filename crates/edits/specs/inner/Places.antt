@@ -1,15 +1,14 @@
 -- A place sought among the tuples of a file. Assumes nothing.
 use mathlib.Core.Path.{_≡_}
 use Prim.Native.Nat.{ℕ, _+_, _≤_, _<_}
-use mathlib.Core.Bool.{Bool}
-use mathlib.Core.List.{List, [], _∷_, _++_}
+use mathlib.Core.List.{List, _++_}
 use mathlib.Core.Option.{Option, some, none}
-use lib.ListN.{length, drop}
+use lib.ListN.{length}
 use Rattle.layout.specs.declared.Counts.{Counts}
 use Rattle.layout.specs.declared.Answer.the-variants.{Accepted}
 use Rattle.frame.specs.Frames.{Tup, frames}
 use Rattle.frame.specs.Files.{isMsb}
-use Rattle.frame.specs.Tuples.{tuplesOf, AllFramed}
+use Rattle.frame.specs.Tuples.{tuplesOf}
 use Rattle.intake.specs.Check.{checkFile}
 use Rattle.edits.specs.Edits.{without}
 

@@ -1,7 +1,6 @@
 -- `index::count_types` meets its contract: the types counted and those to come are all. Assumes nothing.
 use Prim.Native.Nat.{_-_}
 use native.Mathlib.Omega.{arith}
-use borrow.Author.Needs.{needs}
 use Rattle.index.proofs.Writes.{Counting, counting-begin, counting-one, counting-end}
 use Rattle.index.proofs.count_types.Statement.{statement}
 use Rattle.index.proofs.count_types.Tie as tie

@@ -1,10 +1,6 @@
 -- `index::is_flagged` meets its contract. Assumes nothing.
-use mathlib.Core.Path.{subst, sym, ap}
-use Prim.Native.Nat.{_/_, _%_, _<_}
 use native.Mathlib.Omega.{arith}
 use borrow.Author.Needs.{needs}
-use lib.Dec.{eqb}
-use lib.ListN.{getD}
 use Rattle.index.specs.inner.Flags.{flagged}
 use Rattle.index.proofs.Flags.{power-some}
 use Rattle.index.proofs.is_flagged.Statement.{statement}

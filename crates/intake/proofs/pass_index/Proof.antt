@@ -1,6 +1,5 @@
 -- `intake::pass_index` meets its contract: it is the tally past a tuple of the index class. Assumes nothing.
 use native.Mathlib.Omega.{arith}
-use borrow.Author.Needs.{needs}
 use Rattle.frame.proofs.Frames.{allowed-most}
 use Rattle.intake.proofs.Parts.{passed-index}
 use Rattle.intake.proofs.pass_index.Statement.{statement}

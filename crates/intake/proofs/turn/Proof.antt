@@ -1,5 +1,5 @@
 -- `intake::turn` meets its contract: what was said of the tuple, and what its type says, tell which law of a turn holds. Assumes nothing.
-use mathlib.Core.Path.{_≡_, refl, sym, subst, _∙_}
+use mathlib.Core.Path.{_≡_, sym, subst, _∙_}
 use mathlib.Core.List.{List}
 use Prim.Native.Nat.{ℕ, _<_}
 use native.Mathlib.Omega.{arith}

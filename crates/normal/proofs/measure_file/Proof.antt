@@ -1,12 +1,10 @@
 -- `normal::measure_file` meets its contract: the forms and the index of their types. Assumes nothing.
 use mathlib.Core.Path.{ap, _∙_}
-use mathlib.Core.List.{List}
 use Prim.Native.Nat.{ℕ, _+_}
 use native.Mathlib.Omega.{arith}
 use borrow.Author.Needs.{needs}
 use Rattle.intake.proofs.Loops.{accepted-small}
 use Rattle.index.proofs.Writes.{few-flagged}
-use Rattle.normal.specs.declared.Measure.{Measure}
 use Rattle.normal.proofs.Measures.{measured-index}
 use Rattle.normal.proofs.measure_file.Statement.{statement}
 use Rattle.normal.proofs.measure_file.Tie as tie

@@ -1,5 +1,5 @@
 -- `normal::write_piece` meets its contract: the form, and the index before an end of file's. Assumes nothing.
-use mathlib.Core.Path.{_≡_, sym, ap, subst, _∙_}
+use mathlib.Core.Path.{_≡_, sym, ap, _∙_}
 use mathlib.Core.Bool.{false}
 use mathlib.Core.List.{List, _++_}
 use Prim.Native.Nat.{ℕ, _+_, _*_, _%_, _≤_}
@@ -10,7 +10,7 @@ use lib.Seq.{sets, length-sets}
 use Rattle.order.specs.Order.{Bytes}
 use Rattle.order.proofs.Laws.{bytes-of}
 use Rattle.order.proofs.Stores.{stored-behind}
-use Rattle.frame.specs.Frames.{lengthOf, tupAt}
+use Rattle.frame.specs.Frames.{tupAt}
 use Rattle.frame.proofs.Frames.{length-frame}
 use Rattle.content.specs.Forms.{formBytes}
 use Rattle.index.specs.Index.{indexTuple}

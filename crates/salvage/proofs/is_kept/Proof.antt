@@ -1,8 +1,7 @@
 -- `salvage::is_kept` meets its contract: by the sums, or by the verdict on the tuple. Assumes nothing.
-use mathlib.Core.Path.{_≡_, sym, ap, _∙_}
-use native.Mathlib.Omega.{arith}
+use mathlib.Core.Path.{sym, ap, _∙_}
 use borrow.Author.Needs.{needs}
-use Rattle.weights.specs.inner.Judging.{isFine}
+use Rattle.layout.specs.Answers.{isFine}
 use Rattle.salvage.proofs.is_kept.Statement.{statement}
 use Rattle.salvage.proofs.is_kept.Tie as tie
 

@@ -7,7 +7,8 @@ use Rattle.layout.specs.declared.Verdict.the-variants.{Fine}
 use Rattle.frame.specs.Frames.{lenAt}
 use Rattle.frame.proofs.Places.{Whole}
 use Rattle.intake.specs.Alone.{alone}
-use Rattle.salvage.proofs.Tiles.{fine-is, kept-whole, piece-kept, piece-dropped, piece-last}
+use Rattle.layout.proofs.Verdicts.{fine-is}
+use Rattle.salvage.proofs.Tiles.{kept-whole, piece-kept, piece-dropped, piece-last}
 use Rattle.salvage.proofs.piece_at.Statement.{statement}
 use Rattle.salvage.proofs.piece_at.Tie as tie
 

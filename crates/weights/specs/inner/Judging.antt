@@ -1,17 +1,11 @@
--- A verdict that finds nothing wrong, and what is judged by weights. Assumes nothing.
+-- What is judged by weights. Assumes nothing.
 use mathlib.Core.Path.{_≡_}
-use Prim.Native.Nat.{ℕ, _+_, _*_, _≤_}
+use Prim.Native.Nat.{ℕ, _+_, _≤_}
 use mathlib.Core.Bool.{Bool, true, false}
-use Rattle.layout.specs.declared.Verdict.{Verdict}
-use Rattle.layout.specs.declared.Verdict.the-variants.{Fine, Fault}
 use Rattle.layout.specs.Families.{Family, wide, narrow, encoded, narrowAngles}
 use Rattle.weights.specs.declared.Kind.{Kind}
 use Rattle.weights.specs.declared.Kind.the-variants.{C32, C16, CE16, Pairs, Shorts, Triples}
 use Rattle.weights.specs.inner.Weights.{stepBy, aheadBy}
-
-abbrev pub isFine : Verdict → Bool
-isFine Fine = true
-isFine (Fault c p) = false
 
 -- the family whose words or samples a kind's things are
 abbrev pub familyBy : Kind → Family

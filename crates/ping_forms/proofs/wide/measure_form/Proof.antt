@@ -1,5 +1,5 @@
 -- `ping_forms::wide::measure_form` meets its contract: by its words packed, or by its number of samples; and its type. Assumes nothing.
-use mathlib.Core.Path.{refl, sym, _∙_}
+use mathlib.Core.Path.{sym, _∙_}
 use Prim.Native.Nat.{_+_, _*_, _≤_}
 use native.Mathlib.Omega.{arith}
 use borrow.Author.Needs.{needs}

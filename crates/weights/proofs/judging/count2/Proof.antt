@@ -11,7 +11,8 @@ use Rattle.samples.specs.Judging.{most, judgedWords}
 use Rattle.samples.specs.inner.Narrow.{wordsBy}
 use Rattle.weights.specs.declared.Kind.{Kind}
 use Rattle.weights.specs.inner.Weights.{There, weightAt}
-use Rattle.weights.specs.inner.Judging.{isFine, narrowBy}
+use Rattle.layout.specs.Answers.{isFine}
+use Rattle.weights.specs.inner.Judging.{narrowBy}
 use Rattle.weights.proofs.Judged.{count-is, narrow-there, eqb-turned}
 use Rattle.weights.proofs.judging.count2.Statement.{statement}
 use Rattle.weights.proofs.judging.count2.Tie as tie

@@ -16,7 +16,7 @@ use Rattle.intake.specs.Alone.{alone}
 use Rattle.intake.specs.inner.Tallies.{headVerdict, innerVerdict, ownVerdict, Here}
 use Rattle.intake.proofs.Alone.{alone-parts}
 use Rattle.intake.proofs.Judges.{head-fits, own-parts}
-use Rattle.weights.specs.inner.Judging.{isFine}
+use Rattle.layout.specs.Answers.{isFine}
 use Rattle.weights.proofs.judging.keeps_alone.Statement.{statement}
 use Rattle.weights.proofs.judging.keeps_alone.Tie as tie
 

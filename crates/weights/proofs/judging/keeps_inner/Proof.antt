@@ -4,10 +4,8 @@ use mathlib.Core.Path.{_≡_, refl, sym, ap, _∙_}
 use mathlib.Core.Bool.{Bool, true}
 use Prim.Native.Nat.{ℕ, _+_, _-_, _*_, _/_, _%_, _≤_}
 use native.Mathlib.Omega.{arith}
-use borrow.Author.Needs.{needs}
 use lib.ListN.{length, take, drop}
 use Rattle.frame.specs.Files.{limit}
-use Rattle.layout.specs.declared.Verdict.{Verdict}
 use Rattle.layout.specs.Families.{Family, wide, narrow, encoded, wideAngles, narrowAngles, typeU, typeC, hasU, hasC, sampleBytes}
 use Rattle.layout.specs.Types.{uncompressed, compressed, listings, shapeOf}
 use Rattle.layout.proofs.Families.{no-ping}
@@ -19,7 +17,7 @@ use Rattle.frame.proofs.Frames.{allowed-4}
 use Rattle.order.specs.Order.{numOf}
 use Rattle.intake.specs.inner.Tallies.{innerVerdict}
 use Rattle.intake.proofs.Judges.{whole, least-U, long-C, no-inner, inner-samples, inner-words}
-use Rattle.weights.specs.inner.Judging.{isFine}
+use Rattle.layout.specs.Answers.{isFine}
 use Rattle.weights.proofs.judging.keeps_inner.Statement.{statement}
 use Rattle.weights.proofs.judging.keeps_inner.Tie as tie
 

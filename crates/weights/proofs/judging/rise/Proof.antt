@@ -8,7 +8,8 @@ use lib.Dec.{eqb, leb}
 use lib.ListN.{length, take, drop}
 use Rattle.samples.specs.Judging.{most, judgedSamples}
 use Rattle.weights.specs.inner.Weights.{There, weightAt}
-use Rattle.weights.specs.inner.Judging.{isFine, familyBy}
+use Rattle.layout.specs.Answers.{isFine}
+use Rattle.weights.specs.inner.Judging.{familyBy}
 use Rattle.weights.proofs.Judged.{rise-is, rise-there}
 use Rattle.weights.proofs.Filling.{some-step}
 use Rattle.weights.proofs.judging.rise.Statement.{statement}
