@@ -35,7 +35,7 @@ ghost use Rattle.pings.specs.Fields.{headerOf, kindOfPing, pingFields, P
 ghost use Rattle.pings.specs.inner.Handing.{partWords, partSamples, partLength, partWidth, SoundPart, Handed, HandedAngles};
 
 // Where words stand in what is behind a header: behind the number of samples.
-const FIRST_WORD: usize = samples::WORDS - samples::SAMPLES;
+pub const FIRST_WORD: usize = samples::WORDS - samples::SAMPLES;
 
 // The fields before a ping's samples: TR Tables 6 and 19 to 24.
 pub struct PingHeader {
@@ -125,7 +125,7 @@ fn count_values(part: &[u8], msb: bool, code: u16) -> usize
 }
 
 // Where the words of a C-16 or a CE-16 ping end in its part: a space behind them is none.
-fn words_end(part: &[u8], msb: bool) -> usize
+pub fn words_end(part: &[u8], msb: bool) -> usize
     requires { ⌜ (8 ≤ length (now part)) × (length (now part) % 4 ≡ 0) × (length (now part) ≤ 262112) ⌝ }
     ensures { λ r. ⌜ allWords 2 msb (take (r - 4) (drop 4 (now (part .entry)))) ≡ partWords narrow msb (now (part .entry)) ⌝ }
     ensures { λ r. ⌜ (6 ≤ r) × (r ≤ length (now (part .entry))) × (r % 2 ≡ 0) ⌝ }

@@ -374,7 +374,7 @@ pub fn count_of(word: u16) -> i32
 }
 
 // The signed value of a word.
-fn value_of(word: u16, encoded: bool) -> i32
+pub fn value_of(word: u16, encoded: bool) -> i32
     ensures { λ r. ⌜ r ≡ signedOf (handedBytes (wordsBy encoded)) (meant (wordsBy encoded) word) ⌝ }
 {
     if encoded {

@@ -123,7 +123,7 @@ pub fn open_ping(file: &[u8], place: usize) -> Opened
 }
 
 // Whether a type is that of a listed ping whose samples have a value each.
-fn is_valued(code: u16) -> bool
+pub fn is_valued(code: u16) -> bool
     ensures { λ r. ⌜ r ≡ isValued code ⌝ }
 {
     match code {

@@ -1,0 +1,6 @@
+pub mod Rule
+pub mod Levels
+pub mod Totals
+pub mod Powers
+pub mod Negated
+pub mod Results

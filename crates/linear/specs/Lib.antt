@@ -1,0 +1,3 @@
+pub mod Roots
+pub mod Linear
+pub mod Results

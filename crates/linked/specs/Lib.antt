@@ -1,0 +1,4 @@
+pub mod Linked
+pub mod Asking
+pub mod Contents
+pub mod inner
