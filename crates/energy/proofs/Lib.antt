@@ -1,0 +1,5 @@
+pub mod Sums
+pub mod Echoes
+pub mod Fills
+pub mod Answers
+pub mod Results

@@ -1,0 +1,3 @@
+pub mod Energy
+pub mod Results
+pub mod inner
