@@ -1,0 +1,6 @@
+pub mod Doubles
+pub mod Windows
+pub mod Units
+pub mod Laying
+pub mod Handing
+pub mod Results
