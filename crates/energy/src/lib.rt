@@ -49,7 +49,8 @@ fn sum_up(table: &[u32; 200], held: &[u8], msb: bool, code: u16) -> Summed
     let mut at: usize = 0;
     while width <= held.len() - at {
         let it = sampling::sample_at(held, at, number, msb, code);
-        if it.sampled {
+        let sampled = it.sampled;
+        if sampled {
             let value = it.value;
             if 0 < value {
                 return Summed::Outside(nth);

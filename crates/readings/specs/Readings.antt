@@ -90,6 +90,7 @@ readings-settled a b = (a .answer .is ∙ sym (b .answer .is), a .cases ∙ sym 
 abbrev pub pageSize : ℕ
 pageSize = 64
 
+-- a reading as it stands there
 abbrev pub shown : Reading → Shown
 shown x = record { reading = x }
 

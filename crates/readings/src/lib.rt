@@ -61,6 +61,7 @@ fn quotient(value: i32, divisor: u32) -> f64
     (value as f64) / (divisor as f64)
 }
 
+// A sample number as a place.
 fn wide(number: u32) -> usize
     ensures { λ r. ⌜ r ≡ number ⌝ }
 {
