@@ -50,7 +50,7 @@ pub struct Number {
     pub rust: &'static str,
 }
 
-const NUMBERS: [Number; 7] = [
+const NUMBERS: [Number; 8] = [
     Number::new("uint8_t", "u8"),
     Number::new("uint16_t", "u16"),
     Number::new("uint32_t", "u32"),
@@ -58,6 +58,7 @@ const NUMBERS: [Number; 7] = [
     Number::new("int16_t", "i16"),
     Number::new("int32_t", "i32"),
     Number::new("size_t", "usize"),
+    Number::new("double", "f64"),
 ];
 
 /// The prefixes of all calls and of all numbers.

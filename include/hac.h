@@ -1,6 +1,6 @@
 /* HAC fisheries recordings: checked, walked both ways, linked, asked which settings held at each ping, searched for a ping with
-   corrections beside the deposit, read, written, brought to one normal form, appended to and removed from with an index that stays
-   true, and salvaged. The C face of the proved library, for C99 and C++. `host/archive` makes the archive to link with,
+   corrections beside the deposit, read, as values, as readings in volts or decibels and as echo energies, written, brought to one
+   normal form, appended to and removed from with an index that stays true, and salvaged. The C face of the proved library, for C99 and C++. `host/archive` makes the archive to link with,
    target/archive/libarchive.a.
 
    A slice is a pointer and a length in elements. `file` is a whole file, of any bytes; `place` is a byte offset in it. `answer`
@@ -86,11 +86,11 @@ enum {
    - 17: a sounder's number of channels is the number of channels that name it.
    All four are listed, so none of them gives 18; neither does a ping of any kind.
 
-   19 is about memory lent to be written that is too short: bytes of `out`; entries of one of the slices that hac_settings and the
-   readers of samples, angles and records fill; for every call, entries of `answer`.
+   19 is about memory lent to be written that is too short: bytes of `out`; entries of one of the slices that hac_settings,
+   hac_energies and the readers of samples, angles and records fill; for every call, entries of `answer`.
 
    21, 22 and 26 are ping writers' alone, 21 and 26 those of C-32, C-16 and CE-16: hac_write_c32 says more. 27 is hac_salvage's
-   alone, 31 hac_find_ping's. 28, 29 and 30 stand for nothing. */
+   alone, 31 hac_find_ping's. 28 and 29 are hac_energy's, and those that hac_energies tells of a ping; 30 is hac_readings' alone. */
 enum {
     HAC_ACCEPTED = 0,
     HAC_OVER_LIMIT = 1,          /* file over the limit */
@@ -121,6 +121,9 @@ enum {
     HAC_SHORT_LENGTH = 26,       /* writer of words: a ping's length under its last sample number plus 2, or 0 where it has
                                     no samples */
     HAC_SHORT_TABLE = 27,        /* table of ranges too short */
+    HAC_NOT_SV = 28,             /* energy: a ping with angles, or of a channel that isn't Sv */
+    HAC_OUTSIDE_LEVELS = 29,     /* energy: a value outside -150 to 0 dB; its place is that in the ping's list of samples */
+    HAC_NO_READING = 30,         /* readings: a ping with angles, or of a channel that is neither volts nor Sv nor TS */
     HAC_NOT_HELD = 31            /* neither file holds the ping */
 };
 
@@ -144,11 +147,11 @@ enum {
 enum {
     HAC_CODE = 0,
     HAC_PLACE = 1,
-    HAC_TUPLES = 2,  /* a check, a question, settings, the normaliser and edits: those of the file handed in; a salvage: those
-                        kept; a reader, a writer, a ping found: 1 */
-    HAC_LENGTH = 3,  /* bytes or samples written, pings told, or the bytes of the ping found; else 0 */
-    HAC_COMPARED = 4 /* hac_check, hac_ask, hac_settings, hac_normalise, hac_index, hac_append and hac_remove: identifiers
-                        compared, as said above; else 0 */
+    HAC_TUPLES = 2,  /* a check, a question, settings, energies, readings, the normaliser and edits: those of the file handed in; a
+                        salvage: those kept; a reader, a writer, a ping found: 1 */
+    HAC_LENGTH = 3,  /* bytes, samples or readings written, pings told, or the bytes of the ping found; else 0 */
+    HAC_COMPARED = 4 /* hac_check, hac_ask, hac_settings, hac_energy, hac_energies, hac_readings, hac_normalise, hac_index,
+                        hac_append and hac_remove: identifiers compared, as said above; else 0 */
 };
 
 /* ---- the check: 1, 2; tuple by tuple 4, 3, 5, 3, 6, 7, 9, 8, 12, 14, 13, 11, 23, 24, 25; behind the end of file 15, 16, 17 */
@@ -227,6 +230,54 @@ enum { HAC_SETTINGS_ENTRIES = 5 };
 
 uint8_t hac_settings(const uint8_t *file, size_t length, size_t *pings, size_t pings_length, size_t *thresholds,
     size_t thresholds_length, size_t *attitudes, size_t attitudes_length, uint64_t *answer, size_t entries);
+
+/* ---- echo energies: what integration adds up, in linear units of 10^-14.
+
+   For a ping with values (U-32, C-32, U-16, C-16, CE-16) of a channel whose samples are Sv: type of data sample 1 of a Biosonics
+   channel, 2 of an EK-500's. A value is in units of 0.000001 dB in the 32-bit kinds, of 0.01 dB in U-16 and C-16, of 0.001 dB in
+   CE-16. It is stepped down to the next multiple of 0.05 dB, and a multiple stays: -10 m dB + k times 0.05 dB, with k from 0 to
+   199. Its linear value is the k-th of 200 entries, the largest whole number whose 200th power is at most 10 to the (k + 1200),
+   times 10^(8 - m), or for m above 8 divided by 10^(m - 8) and rounded down. A ping's energy is the sum of these; of a silent ping
+   it is 0. No sum passes 64 bits: 0 dB is 10^14, and a ping has at most 32,764 values.
+
+   hac_energy: the energy of the ping at a place. Refused as hac_ask is; then by 28 at the ping where it has angles or its channel
+   isn't Sv; then by 29 for the first value outside -150 to 0 dB, at its place in the ping's list of samples, from 0, not in the
+   file. Length 0. */
+enum { HAC_ENERGY_ENTRIES = 6 };
+
+enum {
+    HAC_ENERGY_UNITS = 5 /* the energy, in units of 10^-14 */
+};
+
+uint8_t hac_energy(const uint8_t *file, size_t length, size_t place, uint64_t *answer, size_t entries);
+
+/* hac_energies: those of all listed pings of a file, in file order, for one check. Each ping gets an entry in each of three slices:
+   `places` its place; `energies` its energy and `codes` 0, or 0 and the code, 28 or 29, that hac_energy gives at its place.
+
+   How much to lend: as for hac_settings. Refused as the check does; then by 19 at 0 where one of the slices has fewer entries than
+   the file has listed pings. Length: the number of these, and so of the entries written to each slice; entries past them stay. */
+enum { HAC_ENERGIES_ENTRIES = 5 };
+
+uint8_t hac_energies(const uint8_t *file, size_t length, size_t *places, size_t places_length, uint64_t *energies,
+    size_t energies_length, uint8_t *codes, size_t codes_length, uint64_t *answer, size_t entries);
+
+/* ---- readings for a viewer: one for each sample number, silent or a double in volts, of Sv or of TS in decibels.
+
+   What a ping's readings are is decided by its channel's type of data sample: 0 of a Biosonics channel volts, 1 Sv, 2 TS; of an
+   EK-500's 2 Sv, 3 TS. The double is the stored whole number divided, with one rounding, by 1,000,000 in the 32-bit kinds; by 1,000
+   for volts and 100 for decibels in U-16 and C-16; by 10,000 and 1,000 in CE-16, whose unit is a tenth of theirs. A number that the
+   ping doesn't hold is silent, and its double 0.
+
+   The window: sample numbers from `first` on, as many as the shorter of both slices has entries; numbers past 4,294,967,295 are
+   silent. `cases` gets HAC_READING_SILENT .., `doubles` the reading. Length: how many readings; entries past them stay.
+
+   Refused as hac_ask is; then by 30 at the ping where it has angles, or its channel's samples are none of these. */
+enum { HAC_READINGS_ENTRIES = 5 };
+
+enum { HAC_READING_SILENT = 0, HAC_READING_VOLTS = 1, HAC_READING_SV = 2, HAC_READING_TS = 3 };
+
+uint8_t hac_readings(const uint8_t *file, size_t length, size_t place, size_t first, uint8_t *cases, size_t cases_length,
+    double *doubles, size_t doubles_length, uint64_t *answer, size_t entries);
 
 /* ---- corrections beside the deposit: the ping of a software channel and a ping number, from a corrections file where it has one
    with attribute 1, and from the deposit otherwise.

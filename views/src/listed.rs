@@ -8,7 +8,7 @@ use std::fs;
 
 /// The crates that a view needs, and those that the two crates over all views need besides.
 const NEEDS: &str = "content frame intake layout links order rows rules samples tuples turning";
-const FACE: &str = "corrections edits frame intake layout normal ping_writers pings rows salvage settings tuples";
+const FACE: &str = "corrections edits energy frame intake layout normal ping_writers pings readings rows salvage settings tuples";
 const ROUNDTRIP: &str =
     "content frame intake layout order ping_writers pings rows rules samples tuples turning";
 

@@ -4,9 +4,11 @@
 mod handed;
 mod of_corrections;
 mod of_edits;
+mod of_energy;
 mod of_files;
 mod of_narrow_writers;
 mod of_pings;
+mod of_readings;
 mod of_records;
 mod of_salvage;
 mod of_settings;

@@ -1,5 +1,5 @@
-// HAC files: checked, walked both ways, linked, read, written, edited, salvaged and brought to one normal form. The whole library under
-// one name.
+// HAC files: checked, walked both ways, linked, read, as values, as readings and as energies, written, edited, salvaged and brought to
+// one normal form. The whole library under one name.
 //
 // A file is lent as a slice of bytes and may hold anything; a place is a byte offset in it. Every call answers for every argument and
 // asks for nothing. It accepts, or it refuses by one code with a place: the first rule broken, in the order of docs/RULES.md. A refused
@@ -41,6 +41,34 @@ pub use intake::ask;
 // crates/settings/specs/Settings.antt; what the rows mean, and that they hang on nothing behind a ping: `Settings`,
 // crates/settings/specs/Governing.antt.
 pub use settings::settings;
+
+// energy(file, place): the echo energy of the ping at a place in units of 10^-14, the linear values of its samples added up, with what the
+// check counts; a silent ping's is 0. Refuses as ask does; then by 28 at the ping where it has angles or its channel isn't Sv; then by 29
+// for the first value outside -150 to 0 dB, at its place in the list of samples. Promise: `EnergyTold`, crates/energy/specs/Energy.antt;
+// what a linear value is: crates/linear/specs/Linear.antt; that a louder sample never gives less: `Linears`, crates/linear/specs/Results.antt.
+// energies(file, places, energies, codes): those of all listed pings, in file order, an entry of all three slices for each: its place, its
+// energy and 0, or 0 and the code that energy gives there. Refuses as the check does, then by 19 at 0 where one of the slices is short.
+// Accepts with the file's tuples, the number of pings as the length, and the identifiers compared. Promise: `EnergiesTold`, there.
+pub use energy::Echo;
+pub use energy::energies;
+pub use energy::energy;
+
+// readings(file, place, first, cases, doubles): what a viewer is shown of the ping at a place, for each sample number from the first on, as
+// many as both slices have entries: silent, volts, Sv or TS (SILENT, VOLTS, SV, TS) in one, the double in the other. Refuses as ask does;
+// then by 30 at the ping where it has angles or its channel is neither volts nor Sv nor TS. Accepts with the file's tuples, the number of
+// readings as the length, and the identifiers compared. Promise: `ReadingsTold`, crates/readings/specs/Readings.antt; what a reading is:
+// crates/readings/specs/Reading.antt.
+// page_at(file, place, first): the same of 64 numbers, by value, as the enum `Reading`; of a refusal all are silent. Promise: `PageTold`, there.
+pub use readings::PAGE;
+pub use readings::Page;
+pub use readings::Reading;
+pub use readings::SILENT;
+pub use readings::SV;
+pub use readings::Shown;
+pub use readings::TS;
+pub use readings::VOLTS;
+pub use readings::page_at;
+pub use readings::readings;
 
 // find_ping(deposit, corrections, channel, number): where the ping of a channel and a number stands: the first in file order in the
 // corrections with attribute 1, else the first in the deposit, whatever its attribute; its place and its length. Refuses, each with its
