@@ -1,5 +1,6 @@
 //! What a refusal is about, in plain words, and what can be done about it.
 
+mod echoes;
 mod frames;
 mod links;
 mod tuples;
@@ -65,6 +66,27 @@ pub fn advice(file: &[u8], refusal: Refusal) -> Option<Advice> {
             wrong_sample(file, Walk::START, refusal).map(Advice::from)
         }
         _ => None,
+    }
+}
+
+/// What a refusal is about that a call gives which is handed the place of a ping: of
+/// [`crate::energy()`] by 28 and 29, of [`crate::readings()`] by 30; all others as [`advice`]
+/// tells them. None where what is found there isn't what the refusal says.
+///
+/// ```
+/// // The sample of all encodings: a ping of angles has no readings.
+/// let file = std::fs::read("../samples/encodings-normal.hac")?;
+/// let refusal = hac::readings(&file, 944, 0, 1).unwrap_err();
+/// let advice = hac::ping_advice(&file, 944, refusal).unwrap();
+/// assert_eq!(advice.words, "ping U-16-angles has angles, not volts, Sv or TS");
+/// # Ok::<(), std::io::Error>(())
+/// ```
+pub fn ping_advice(file: &[u8], place: usize, refusal: Refusal) -> Option<Advice> {
+    match refusal.code {
+        Code::NotSv => echoes::not_sv(file, place, refusal),
+        Code::OutsideLevels => echoes::outside_levels(file, place, refusal),
+        Code::NoReading => echoes::no_reading(file, place, refusal),
+        _ => advice(file, refusal),
     }
 }
 

@@ -7,8 +7,7 @@ use std::fmt;
 macro_rules! codes {
     ($($number:literal $code:ident $words:literal)*) => {
         /// The rule that was broken. Document 01 has them in a table; 02 put 23, 24 and
-        /// 25 in the place of 10, which is no longer given, and added 26, 27 and 31. 28, 29
-        /// and 30 stand for nothing.
+        /// 25 in the place of 10, which is no longer given, and added those from 26 on.
         #[derive(Clone, Copy, Debug, PartialEq, Eq, PartialOrd, Ord, Hash)]
         pub enum Code {
             $(#[doc = concat!(stringify!($number), ": ", $words, ".")] $code = $number,)*
@@ -63,6 +62,9 @@ codes! {
     25 Miscounted "number of samples wrong"
     26 ShortLength "writer of words: a ping's length under its last sample number plus 2, or 0 where it has no samples"
     27 ShortTable "table of ranges too short"
+    28 NotSv "energy: a ping with angles, or of a channel that isn't Sv"
+    29 OutsideLevels "energy: a value outside -150 to 0 dB; its place is that in the ping's list of samples"
+    30 NoReading "readings: a ping with angles, or of a channel that is neither volts nor Sv nor TS"
     31 NotHeld "neither file holds the ping"
 }
 
@@ -84,8 +86,8 @@ impl fmt::Display for Code {
 pub struct Refusal {
     /// The rule.
     pub code: Code,
-    /// The byte offset that documents 01 and 02 give with the code; a ping writer's
-    /// 23 and 21 have a place in the list of samples.
+    /// The byte offset that documents 01 and 02 give with the code; 29, and a ping writer's
+    /// 23 and 21, have a place in the list of samples.
     pub place: usize,
 }
 
@@ -102,14 +104,13 @@ mod tests {
     use super::*;
 
     #[test]
-    fn numbers_run_from_1_to_27_without_10_and_31_follows() {
+    fn numbers_run_from_1_to_31_without_10() {
         let numbers: Vec<u8> = Code::ALL.iter().map(|code| code.number()).collect();
-        let run = (1..=9).chain(11..=27);
-        assert_eq!(numbers, run.chain([31]).collect::<Vec<u8>>());
+        assert_eq!(numbers, (1..=9).chain(11..=31).collect::<Vec<u8>>());
         for &code in Code::ALL {
             assert_eq!(Code::of(code.number()), Some(code));
         }
-        for number in [0, 10, 28, 29, 30, 32] {
+        for number in [0, 10, 32] {
             assert_eq!(Code::of(number), None);
         }
     }

@@ -1,11 +1,11 @@
 //! A whole file: its limits, its byte order, its check, what is told of one that is
-//! written, a ping's parents, and their maker.
+//! written and of slices that are filled, a ping's parents, and their maker.
 
 use crate::answer::Refusal;
 use crate::call::{self, HAC_COMPARED, HAC_LENGTH, HAC_TUPLES};
 use crate::field::{told, DocumentId, SoftwareChannel};
 use crate::types::{self, Maker};
-use crate::walk::{Step, Walk};
+use crate::walk::tuple_at;
 
 /// The most bytes of a file, and of a normal form.
 pub const FILE_LIMIT: usize = 16_777_216;
@@ -164,6 +164,35 @@ pub(crate) fn written_anew(
     Ok(out)
 }
 
+/// What was told of a file into lent slices.
+#[derive(Clone, Copy, Debug, PartialEq, Eq)]
+pub struct Filled {
+    /// How many tuples the file has.
+    pub tuples: usize,
+    /// How many entries of each slice were written.
+    pub entries: usize,
+    /// How many identifiers are compared while the file is linked, as [`Counts`] has it.
+    pub compared: usize,
+}
+
+impl Filled {
+    pub(crate) fn of<const ENTRIES: usize>(answer: [u64; ENTRIES]) -> Filled {
+        Filled {
+            tuples: told(&answer, HAC_TUPLES),
+            entries: told(&answer, HAC_LENGTH),
+            compared: told(&answer, HAC_COMPARED),
+        }
+    }
+}
+
+/// The bytes of the shortest listed ping, a U-16 ping of one sample.
+const SHORTEST_PING: usize = 36;
+
+/// So many listed pings a file has at the most: slices of as many entries hold one for each.
+pub(crate) fn most_pings(file: &[u8]) -> usize {
+    file.len().min(FILE_LIMIT) / SHORTEST_PING
+}
+
 /// The channel and the sounder of a ping. Both are of one maker, whom [`maker_at`] tells
 /// of either place.
 #[derive(Clone, Copy, Debug, PartialEq, Eq)]
@@ -207,8 +236,5 @@ pub fn ask(file: &[u8], place: usize) -> Result<Parents, Refusal> {
 /// Whose the sounder or the channel is that starts at a place of a file, told by the
 /// type of the tuple there; none where no listed one starts.
 pub fn maker_at(file: &[u8], place: usize) -> Option<Maker> {
-    match (Walk { at: place }).forward(file) {
-        Step::Tuple { tuple, .. } => types::maker(tuple.kind),
-        Step::End | Step::Refused(_) => None,
-    }
+    types::maker(tuple_at(file, place).ok()?.kind)
 }

@@ -138,6 +138,9 @@ fn declarations() {
     };
     assert_eq!(entries("check"), Some(5));
     assert_eq!(entries("settings"), Some(5));
+    assert_eq!(entries("energy"), Some(6));
+    assert_eq!(entries("energies"), Some(5));
+    assert_eq!(entries("readings"), Some(5));
     assert_eq!(entries("find_ping"), Some(7));
     assert_eq!(entries("index"), Some(5));
     assert_eq!(entries("append"), Some(5));

@@ -1,12 +1,13 @@
 //! HAC fisheries recordings: checked, walked both ways, linked, asked which settings
-//! held at each ping, searched for a ping with corrections beside the deposit, read,
-//! written, brought to one normal form, appended to and removed from with an index that
-//! stays true, and salvaged, by the proved library.
+//! held at each ping, searched for a ping with corrections beside the deposit, read, as
+//! values, as readings in volts or decibels and as echo energies, written, brought to one
+//! normal form, appended to and removed from with an index that stays true, and salvaged,
+//! by the proved library.
 //!
 //! A file is a slice of bytes and may hold anything; a place is a byte offset
 //! in it. Every call accepts, or gives a [`Refusal`]: the first rule broken, in
 //! document 01's order, in which 02's codes follow, 23 to 25 in the place of 10,
-//! 26 behind 21, 27 before 19, 31 behind all. A refused call leaves lent memory as it
+//! 26 behind 21, 27 before 19, 28 to 31 behind all. A refused call leaves lent memory as it
 //! was; an accepted one leaves what stands past what it wrote.
 //!
 //! ```
@@ -45,12 +46,14 @@ mod answer;
 mod call;
 mod corrections;
 mod edits;
+mod energy;
 mod field;
 mod file;
 #[cfg(test)]
 mod header;
 mod normal;
 mod ping;
+mod readings;
 mod record;
 mod salvage;
 mod settings;
@@ -63,10 +66,12 @@ pub use advice::*;
 pub use answer::*;
 pub use corrections::*;
 pub use edits::*;
+pub use energy::*;
 pub use field::*;
 pub use file::*;
 pub use normal::*;
 pub use ping::*;
+pub use readings::*;
 pub use record::*;
 pub use salvage::*;
 pub use settings::*;

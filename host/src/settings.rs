@@ -1,21 +1,8 @@
 //! Settings: which threshold and which attitude held at each ping.
 
 use crate::answer::Refusal;
-use crate::call::{self, HAC_COMPARED, HAC_LENGTH, HAC_TUPLES};
-use crate::field::told;
-use crate::file::FILE_LIMIT;
-
-/// What was told of a file's settings into lent slices.
-#[derive(Clone, Copy, Debug, PartialEq, Eq)]
-pub struct SettingsTold {
-    /// How many tuples the file has.
-    pub tuples: usize,
-    /// How many listed pings it has: so many entries of each slice were written.
-    pub pings: usize,
-    /// How many identifiers are compared while the file is linked, as
-    /// [`crate::Counts`] has it.
-    pub compared: usize,
-}
+use crate::call;
+use crate::file::{most_pings, Filled};
 
 /// Tells which settings held at each listed ping of a file, in file order, an entry of each
 /// lent slice for each: the ping's place; that of the last threshold before it for its
@@ -30,13 +17,10 @@ pub fn settings_into(
     pings: &mut [usize],
     thresholds: &mut [usize],
     attitudes: &mut [usize],
-) -> Result<SettingsTold, Refusal> {
-    let answer = call::settings(file, pings, thresholds, attitudes)?;
-    Ok(SettingsTold {
-        tuples: told(&answer, HAC_TUPLES),
-        pings: told(&answer, HAC_LENGTH),
-        compared: told(&answer, HAC_COMPARED),
-    })
+) -> Result<Filled, Refusal> {
+    Ok(Filled::of(call::settings(
+        file, pings, thresholds, attitudes,
+    )?))
 }
 
 /// The settings that held at a ping.
@@ -50,10 +34,6 @@ pub struct Setting {
     /// there is one.
     pub attitude: Option<usize>,
 }
-
-/// The bytes of the shortest listed ping, a U-16 ping of one sample: a file has no more
-/// pings than these go into it.
-const SHORTEST_PING: usize = 36;
 
 /// The place that an entry tells; 0 stands for none.
 fn place_of(told: usize) -> Option<usize> {
@@ -76,11 +56,10 @@ fn place_of(told: usize) -> Option<usize> {
 /// # Ok::<(), Box<dyn std::error::Error>>(())
 /// ```
 pub fn settings(file: &[u8]) -> Result<Vec<Setting>, Refusal> {
-    let most = file.len().min(FILE_LIMIT) / SHORTEST_PING;
-    let [mut pings, mut thresholds, mut attitudes] = [(); 3].map(|()| vec![0; most]);
-    let told = settings_into(file, &mut pings, &mut thresholds, &mut attitudes)?;
+    let [mut pings, mut thresholds, mut attitudes] = [(); 3].map(|()| vec![0; most_pings(file)]);
+    let filled = settings_into(file, &mut pings, &mut thresholds, &mut attitudes)?;
     let held = thresholds.into_iter().zip(attitudes);
-    let settings = pings.into_iter().zip(held).take(told.pings);
+    let settings = pings.into_iter().zip(held).take(filled.entries);
     let settings = settings.map(|(ping, (threshold, attitude))| Setting {
         ping,
         threshold: place_of(threshold),

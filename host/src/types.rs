@@ -1,4 +1,5 @@
-//! The type codes of the listed types, their names, and whose sounders and channels are.
+//! The type codes of the listed types, their names, whose sounders and channels are, and
+//! what the samples of a channel are.
 
 use std::fmt;
 use std::ops::RangeInclusive;
@@ -119,6 +120,26 @@ pub const fn maker(code: u16) -> Option<Maker> {
         EK500_SOUNDER | EK500_CHANNEL => Some(Maker::Simrad),
         _ => None,
     }
+}
+
+/// What a type of data sample stands for, as TR lists it for the maker: Table 4 for
+/// Biosonics, Table 5 for the EK-500. None of a number that isn't listed.
+pub fn data_sample(maker: Maker, type_of_data_sample: u16) -> Option<&'static str> {
+    let listed = match maker {
+        Maker::Biosonics => [
+            "volts",
+            "Sv (scattering volume in dB)",
+            "TS (target strength of single targets in dB)",
+            "offaxis mechanical angles of single targets",
+        ],
+        Maker::Simrad => [
+            "electrical phase angle from the split-beam analysis",
+            "power (raw Sv before the TVG)",
+            "Sv (scattering volume)",
+            "TS (target strength)",
+        ],
+    };
+    listed.get(usize::from(type_of_data_sample)).copied()
 }
 
 #[cfg(test)]

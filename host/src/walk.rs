@@ -1,6 +1,6 @@
 //! The walk: a state that a step takes and hands back, and iterators over it.
 
-use crate::answer::Refusal;
+use crate::answer::{Code, Refusal};
 use crate::call::{self, HAC_TUPLES};
 use crate::field::told;
 use crate::file::FIRST_PLACE;
@@ -75,6 +75,19 @@ impl Walk {
             step: Walk::backward,
             walk: Some(self),
         }
+    }
+}
+
+/// The tuple that starts at a place of a file. The end is refused by 3, as the readers refuse
+/// it.
+pub fn tuple_at(file: &[u8], place: usize) -> Result<Tuple, Refusal> {
+    match (Walk { at: place }).forward(file) {
+        Step::Tuple { tuple, .. } => Ok(tuple),
+        Step::End => Err(Refusal {
+            code: Code::CutShort,
+            place,
+        }),
+        Step::Refused(refusal) => Err(refusal),
     }
 }
 

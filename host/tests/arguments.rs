@@ -15,7 +15,7 @@ fn help_and_version() {
         assert_eq!((ran.status, ran.err.as_str()), (0, ""));
         for command in [
             "check", "show", "same", "normal", "index", "append", "remove", "salvage", "walk",
-            "parents", "samples", "record", "settings", "ping",
+            "parents", "samples", "record", "settings", "energy", "readings", "picture", "ping",
         ] {
             assert!(ran.out.contains(&format!("hac {command} ")), "{command}");
         }
@@ -75,6 +75,41 @@ fn bad_use() {
         &["samples", file, "4", "--samples"],
         &["walk", file, "--corrections"],
         &["settings", file, "--samples"],
+    ];
+    for arguments in uses {
+        is_bad_use(&room, arguments);
+    }
+}
+
+/// The same of the commands that tell echoes.
+#[test]
+fn bad_use_of_echoes() {
+    let room = Room::new();
+    let known = Known::sample("cruise-lsb");
+    let file = known.path.to_str().expect("a plain name");
+    let uses: [&[&str]; 22] = [
+        &["energy"],
+        &["energy", "-", file, "-"],
+        &["energy", file, "--from", "1"],
+        &["energy", file, "-o", "out.png"],
+        &["readings"],
+        &["readings", file],
+        &["readings", file, "here"],
+        &["readings", file, "780", "780"],
+        &["readings", file, "780", "--from"],
+        &["readings", file, "780", "--from", "-1"],
+        &["readings", file, "780", "--from", "4294967296"],
+        &["readings", file, "780", "--count", "all"],
+        &["readings", file, "780", "--count", "1", "--count", "1"],
+        &["readings", file, "780", "-o", "out.png"],
+        &["samples", file, "780", "--count", "1"],
+        &["picture", file, "-o", "out.png"],
+        &["picture", file, "1"],
+        &["picture", file, "65536", "-o", "out.png"],
+        &["picture", file, "one", "-o", "out.png"],
+        &["picture", file, "1", "1", "-o", "out.png"],
+        &["picture", file, "1", "-o", "out.png", "--from", "1"],
+        &["picture", file, "1", "-o", "-", "--json"],
     ];
     for arguments in uses {
         is_bad_use(&room, arguments);
@@ -195,7 +230,7 @@ fn no_files() {
     let folder = room.path().to_str().expect("a plain name");
     let none = room.at("none.hac");
     let none = none.to_str().expect("a plain name");
-    let uses: [&[&str]; 21] = [
+    let uses: [&[&str]; 26] = [
         &["check", none],
         &["show", none],
         &["walk", folder],
@@ -206,6 +241,11 @@ fn no_files() {
         &["record", folder, "4"],
         &["settings", none],
         &["settings", folder],
+        &["energy", none],
+        &["readings", none, "4"],
+        &["readings", folder, "4"],
+        &["picture", none, "1", "-o", "out.png"],
+        &["picture", folder, "1", "-o", "-"],
         &["ping", none, "1", "1"],
         &["ping", folder, "1", "1", "--corrections", none],
         &["ping", none, "1", "1", "-o", "out.hac"],

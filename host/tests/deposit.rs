@@ -13,6 +13,20 @@ pub const ORDERS: [Order; 2] = [Order::Lsb, Order::Msb];
 /// The bytes of a channel's tuple, either maker's, the longest that is written here.
 const LONGEST: usize = 108;
 
+/// The kinds of ping that have values, and in how many of its units each has 1 volt and 1 dB:
+/// TR's Tables 6, 20 and 21 to 24.
+pub const VALUED: [(PingKind, i32, i32); 5] = [
+    (PingKind::U32, 1_000_000, 1_000_000),
+    (PingKind::C32, 1_000_000, 1_000_000),
+    (PingKind::U16, 1000, 100),
+    (PingKind::C16, 1000, 100),
+    (PingKind::Ce16, 10_000, 1000),
+];
+
+/// The sounder and the channel of a deposit of samples.
+pub const SOUNDER: DocumentId = DocumentId(7);
+pub const CHANNEL: SoftwareChannel = SoftwareChannel(1);
+
 const REMARKS: [u8; REMARK] = [b' '; REMARK];
 
 /// A file that tuples are put to, each behind the others. What puts one gives its
@@ -102,6 +116,54 @@ impl Deposit {
         }
     }
 
+    /// A deposit with a sounder and its channel 1, both a maker's, whose samples are of a type.
+    pub fn of_samples(order: Order, maker: Maker, type_of_data_sample: u16) -> Deposit {
+        let mut deposit = Deposit::begun(order);
+        deposit.sounder_by(maker, SOUNDER.0, 1);
+        match maker {
+            Maker::Biosonics => deposit.channel_of(Channel {
+                software_channel_identifier: CHANNEL,
+                echosounder_document_identifier: SOUNDER,
+                type_of_data_sample,
+                ..Channel::default()
+            }),
+            Maker::Simrad => deposit.ek500_channel_of(Ek500Channel {
+                software_channel_identifier: CHANNEL,
+                echosounder_document_identifier: SOUNDER,
+                type_of_data_sample,
+                ..Ek500Channel::default()
+            }),
+        };
+        deposit
+    }
+
+    /// A ping of channel 1, of a kind that has values.
+    pub fn ping_of(&mut self, kind: PingKind, numbers: &[u32], values: &[i32]) -> usize {
+        let header = header(CHANNEL.0);
+        let short_numbers: Vec<u16> = numbers.iter().map(|number| *number as u16).collect();
+        let short_values: Vec<i16> = values.iter().map(|value| *value as i16).collect();
+        self.put(|order, out| match kind {
+            PingKind::U32 => write_u32(&header, 0, numbers, values, order, out),
+            PingKind::C32 => write_c32(&header, 0, numbers, values, None, order, out),
+            PingKind::U16 => write_u16(&header, 0, &short_numbers, &short_values, order, out),
+            PingKind::C16 => write_c16(&header, 0, numbers, &short_values, None, order, out),
+            PingKind::Ce16 => write_ce16(&header, 0, numbers, values, None, order, out),
+            PingKind::U32_16Angles | PingKind::U16Angles => panic!("{kind} has no values"),
+        })
+    }
+
+    /// A silent ping of channel 1, of so many samples.
+    pub fn silent_ping(&mut self, length: u32) -> usize {
+        let header = header(CHANNEL.0);
+        self.put(|order, out| write_c32(&header, 0, &[], &[], Some(length), order, out))
+    }
+
+    /// A ping of channel 1 that has angles.
+    pub fn ping_of_angles(&mut self) -> usize {
+        let header = header(CHANNEL.0);
+        self.put(|order, out| write_u16_angles(&header, 0, &[3], &[5], &[6], order, out))
+    }
+
     pub fn channel_of(&mut self, channel: Channel) -> usize {
         self.put(|order, out| channel.write(&REMARKS, order, out))
     }
@@ -146,7 +208,7 @@ impl Deposit {
     }
 
     /// Accepted, with so many identifiers compared: by the check, by the normaliser, by
-    /// the settings, and by a question about the ping at a place.
+    /// the settings, by the energies, and by a question about the ping at a place.
     pub fn compares(mut self, ping: usize, compared: usize) {
         self.ended();
         let (file, tuples) = (&self.bytes, self.tuples);
@@ -156,18 +218,21 @@ impl Deposit {
         assert_eq!((normal.tuples, normal.compared), (tuples, compared));
         let told = told(file).expect("its settings");
         assert_eq!((told.tuples, told.compared), (tuples, compared));
+        let told = energies(file).expect("its energies");
+        assert_eq!(told.counts, Counts { tuples, compared });
         let parents = ask(file, ping).expect("its parents");
         assert_eq!((parents.tuples, parents.compared), (tuples, compared));
         assert!(compared <= usize::from(CHANNELS) * tuples);
     }
 
-    /// Refused by the check, the normaliser, the settings and questions alike.
+    /// Refused by the check, the normaliser, the settings, the energies and questions alike.
     pub fn refused(mut self, code: Code, place: usize) {
         let file = self.ended();
         let refusal = Refusal { code, place };
         assert_eq!(check(file), Err(refusal));
         assert_eq!(normalise(file, &mut []), Err(refusal));
         assert_eq!(settings(file), Err(refusal));
+        assert_eq!(energies(file), Err(refusal));
         assert_eq!(ask(file, place), Err(refusal));
     }
 }

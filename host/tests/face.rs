@@ -354,6 +354,36 @@ fn corrections() {
     prints("corrections", &CORRECTIONS);
 }
 
+/// What echoes.c prints, by 02: the lengths of the tuples give the places. -3 dB is -10 dB and
+/// 140 steps, of which the entry is the 200th root of 10^1340 rounded down, 5011872; it stands
+/// for 10^7 times as many units. Compared are two channels' sounders, and 1, 1, 2 and 1 for the
+/// pings.
+const ECHOES: [&str; 17] = [
+    "energy 50118720000000, tuples 10, length 0, compared 7",
+    "0 0, 2 -3, the rest stays, tuples 10, compared 7",
+    "energy: refused 29 at 0, nothing written",
+    "0 0, 2 0.01, the rest stays, tuples 10, compared 7",
+    "energy: refused 28 at 424, nothing written",
+    "0 0, 1 -1.5, the rest stays, tuples 10, compared 7",
+    "energy: refused 28 at 460, nothing written",
+    "readings: refused 30 at 460, nothing written",
+    "352: 50118720000000 0, 388: 0 29, 424: 0 28, 460: 0 28, tuples 10, compared 7",
+    "energy: refused 9 at 356, nothing written",
+    "readings: refused 9 at 356, nothing written",
+    "energies: refused 19 at 0, nothing written",
+    "energies: refused 19 at 0, nothing written",
+    "energies: refused 19 at 0, nothing written",
+    "energy: refused 2 at 0, nothing written",
+    "readings: refused 2 at 0, nothing written",
+    "energies: refused 2 at 0, nothing written",
+];
+
+/// Energies and readings, asked for in C.
+#[test]
+fn echoes() {
+    prints("echoes", &ECHOES);
+}
+
 /// What edits.c prints, by TR's Table 14 and 02: the lengths of the tuples give the places. Its
 /// file has 328 bytes, of which the 24 from 280 on are a stale index. Six types have no space
 /// behind them; seven have one, which is read as a last 0. The end of file that is removed

@@ -44,7 +44,7 @@ fn at(
 type Lent = [Vec<usize>; 3];
 
 /// The call with slices of so many entries, and what it leaves of them.
-fn try_with(file: &[u8], entries: [usize; 3]) -> (Result<SettingsTold, Refusal>, Lent) {
+fn try_with(file: &[u8], entries: [usize; 3]) -> (Result<Filled, Refusal>, Lent) {
     let mut lent = entries.map(|entries| vec![FILLED; entries]);
     let [pings, thresholds, attitudes] = &mut lent;
     let told = settings_into(file, pings, thresholds, attitudes);
@@ -52,7 +52,7 @@ fn try_with(file: &[u8], entries: [usize; 3]) -> (Result<SettingsTold, Refusal>,
 }
 
 /// What is counted, with as many entries as a file of this length can need.
-pub fn told(file: &[u8]) -> Result<SettingsTold, Refusal> {
+pub fn told(file: &[u8]) -> Result<Filled, Refusal> {
     try_with(file, [file.len() / SHORTEST; 3]).0
 }
 
@@ -70,10 +70,9 @@ fn tells(mut deposit: Deposit, expected: &[Setting]) {
     let file = deposit.ended();
     assert_eq!(settings(file), Ok(expected.to_vec()));
     let Counts { tuples, compared } = check(file).expect("an accepted file");
-    let pings = expected.len();
-    let counted = SettingsTold {
+    let counted = Filled {
         tuples,
-        pings,
+        entries: expected.len(),
         compared,
     };
     assert_eq!(told(file), Ok(counted));
@@ -261,7 +260,7 @@ fn no_listed_ping() {
         let place = file.ping_u32(1);
         file.retype(place, LIKE_PING);
         let (told, _) = try_with(file.clone().ended(), [0; 3]);
-        assert_eq!(told.map(|told| told.pings), Ok(0));
+        assert_eq!(told.map(|filled| filled.entries), Ok(0));
         tells(file, &[]);
     }
 }
@@ -342,9 +341,9 @@ fn lent_slices() {
     let known = Known::sample("cruise-msb");
     let expected = held(&known);
     let pings = expected.len();
-    let counted = SettingsTold {
+    let counted = Filled {
         tuples: known.tuples.len(),
-        pings,
+        entries: pings,
         compared: COMPARED,
     };
     for entries in [[pings; 3], [pings + 9, pings, pings + 1]] {
@@ -433,18 +432,23 @@ fn lines() {
     }
 }
 
+/// What the host's paper shows below a command of its own line.
+pub fn shown(command: &str) -> Vec<String> {
+    let paper = fs::read_to_string(repository("host/README.md")).expect("the paper");
+    let (_, shown) = paper
+        .split_once(&format!("    $ hac {command}\n"))
+        .expect("the command");
+    let shown = shown.lines().map_while(|line| line.strip_prefix("    "));
+    shown.map(String::from).collect()
+}
+
 /// The host's paper shows what the command prints of the cruise.
 #[test]
 fn the_paper() {
-    let paper = fs::read_to_string(repository("host/README.md")).expect("the paper");
-    let (_, shown) = paper
-        .split_once("    $ hac settings samples/cruise-lsb.hac\n")
-        .expect("the command");
-    let shown = shown.lines().map_while(|line| line.strip_prefix("    "));
     let mut command = hac(["settings", "samples/cruise-lsb.hac"]);
     let ran = run(command.current_dir(repository("")));
     assert_eq!((ran.status, ran.err.as_str()), (0, ""));
-    assert_eq!(ran.lines(), shown.collect::<Vec<_>>());
+    assert_eq!(ran.lines(), shown("settings samples/cruise-lsb.hac"));
 }
 
 #[test]

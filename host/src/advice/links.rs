@@ -7,7 +7,7 @@ use crate::file::{maker_at, two_at, CHANNEL_LIMIT, SOUNDER_LIMIT};
 use crate::ping::PingKind;
 use crate::record::{Channel, Ek500Channel, Ek500Sounder, Sounder};
 use crate::types;
-use crate::walk::{Step, Tuple, Walk};
+use crate::walk::{self, Tuple};
 use std::fmt;
 use std::mem::discriminant;
 
@@ -103,14 +103,6 @@ impl fmt::Display for Linked {
     }
 }
 
-/// The tuple at a place, wherever a walk comes.
-fn tuple_alone(file: &[u8], place: usize) -> Option<Tuple> {
-    match (Walk { at: place }).forward(file) {
-        Step::Tuple { tuple, .. } => Some(tuple),
-        Step::End | Step::Refused(_) => None,
-    }
-}
-
 /// The first place before another where something is declared; none where a walk doesn't
 /// come to the other.
 fn first_before(file: &[u8], place: usize, wanted: Linked) -> Option<Option<usize>> {
@@ -124,7 +116,7 @@ fn first_before(file: &[u8], place: usize, wanted: Linked) -> Option<Option<usiz
 }
 
 pub fn declared_twice(file: &[u8], refusal: Refusal) -> Option<Advice> {
-    let tuple = tuple_alone(file, refusal.place)?;
+    let tuple = walk::tuple_at(file, refusal.place).ok()?;
     let declared = Linked::declared(file, tuple)?;
     let first = first_before(file, tuple.place, declared)??;
     let words =
@@ -133,7 +125,7 @@ pub fn declared_twice(file: &[u8], refusal: Refusal) -> Option<Advice> {
 }
 
 pub fn no_parent(file: &[u8], refusal: Refusal) -> Option<Advice> {
-    let tuple = tuple_alone(file, refusal.place)?;
+    let tuple = walk::tuple_at(file, refusal.place).ok()?;
     let named = Linked::named(file, tuple)?;
     let name = match channel(file, tuple) {
         Some((SoftwareChannel(number), _)) => format!("{} {number}", types::name(tuple.kind)),
@@ -153,7 +145,7 @@ pub fn no_parent(file: &[u8], refusal: Refusal) -> Option<Advice> {
 }
 
 pub fn too_many(file: &[u8], refusal: Refusal) -> Option<Advice> {
-    let tuple = tuple_alone(file, refusal.place)?;
+    let tuple = walk::tuple_at(file, refusal.place).ok()?;
     let declared = Linked::declared(file, tuple)?;
     let mut before = 0;
     tuple_at(file, tuple.place, |tuple| {
@@ -167,7 +159,7 @@ pub fn too_many(file: &[u8], refusal: Refusal) -> Option<Advice> {
 }
 
 pub fn wrong_count(file: &[u8], refusal: Refusal) -> Option<Advice> {
-    let tuple = tuple_alone(file, refusal.place)?;
+    let tuple = walk::tuple_at(file, refusal.place).ok()?;
     let (declared, said) = sounder(file, tuple)?;
     let mut found = 0;
     step_at(file, file.len(), |tuple| {

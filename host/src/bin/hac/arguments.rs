@@ -1,6 +1,7 @@
 //! What the program is asked for.
 
 use crate::input::{Input, STANDARD};
+use crate::readings::Window;
 use crate::shown::shown;
 use hac::SoftwareChannel;
 use std::ffi::{OsStr, OsString};
@@ -19,6 +20,9 @@ pub enum Command {
         inputs: Vec<Input>,
     },
     Same {
+        inputs: Vec<Input>,
+    },
+    Energy {
         inputs: Vec<Input>,
     },
     /// The normal forms of many, to a folder.
@@ -59,6 +63,15 @@ pub enum Task {
         place: usize,
     },
     Settings,
+    Readings {
+        place: usize,
+        window: Window,
+    },
+    /// To a file, or to standard output.
+    Picture {
+        channel: SoftwareChannel,
+        out: Option<PathBuf>,
+    },
     Ping(Wanted),
 }
 
@@ -66,13 +79,16 @@ impl Task {
     /// The file that it writes, if it writes one.
     pub fn out(&self) -> Option<&Path> {
         match self {
-            Task::Normal { out } | Task::Edit { out, .. } => out.as_deref(),
+            Task::Normal { out } | Task::Edit { out, .. } | Task::Picture { out, .. } => {
+                out.as_deref()
+            }
             Task::Salvage { out } => Some(out),
             Task::Walk { .. }
             | Task::Parents { .. }
             | Task::Samples { .. }
             | Task::Record { .. }
-            | Task::Settings => None,
+            | Task::Settings
+            | Task::Readings { .. } => None,
             Task::Ping(wanted) => wanted.out.as_deref(),
         }
     }
@@ -81,7 +97,9 @@ impl Task {
     pub fn is_streamed(&self) -> bool {
         matches!(
             self,
-            Task::Normal { out: None } | Task::Edit { out: None, .. }
+            Task::Normal { out: None }
+                | Task::Edit { out: None, .. }
+                | Task::Picture { out: None, .. }
         )
     }
 
@@ -134,8 +152,10 @@ impl Arguments {
 }
 
 /// The commands that write a file, and those of them that also write one to standard output.
-const WRITING: [&str; 6] = ["normal", "index", "append", "remove", "salvage", "ping"];
-const STREAMING: [&str; 4] = ["normal", "index", "append", "remove"];
+const WRITING: [&str; 7] = [
+    "normal", "index", "append", "remove", "salvage", "picture", "ping",
+];
+const STREAMING: [&str; 5] = ["normal", "index", "append", "remove", "picture"];
 
 /// What is wrong where standard input is named twice.
 const READ_ONCE: &str = "standard input can be read but once";
@@ -148,6 +168,8 @@ struct Sorted {
     back: bool,
     samples: bool,
     corrections: Option<OsString>,
+    from: Option<OsString>,
+    count: Option<OsString>,
     out: Option<OsString>,
     folder: Option<OsString>,
     help: bool,
@@ -165,6 +187,8 @@ impl Sorted {
                 Some("--version") => sorted.version = true,
                 Some("--samples") => sorted.samples = true,
                 Some("--corrections") => take(&mut sorted.corrections, &word, words.next())?,
+                Some("--from") => take(&mut sorted.from, &word, words.next())?,
+                Some("--count") => take(&mut sorted.count, &word, words.next())?,
                 Some("-o") => take(&mut sorted.out, &word, words.next())?,
                 Some("-d") => take(&mut sorted.folder, &word, words.next())?,
                 Some("--") => sorted.rest.extend(words.by_ref()),
@@ -181,13 +205,15 @@ impl Sorted {
     /// Sees to it that a command gets no other's options.
     fn must_fit(&self, command: &str) -> Result<(), String> {
         let is_standard = self.out.as_ref().is_some_and(|out| out == STANDARD);
-        let options: [(bool, &str, &[&str]); 6] = [
+        let options: [(bool, &str, &[&str]); 8] = [
             (self.back, "--back", &["walk"]),
             (self.out.is_some(), "-o", &WRITING),
             (is_standard, "-o -", &STREAMING),
             (self.folder.is_some(), "-d", &["normal"]),
             (self.samples, "--samples", &["ping"]),
             (self.corrections.is_some(), "--corrections", &["ping"]),
+            (self.from.is_some(), "--from", &["readings"]),
+            (self.count.is_some(), "--count", &["readings"]),
         ];
         let unfit = |(is_there, _, commands): &&(bool, _, &[&str])| {
             *is_there && !commands.contains(&command)
@@ -226,6 +252,7 @@ impl Sorted {
             "check" => rest.many().map(|inputs| Command::Check { inputs }),
             "show" => rest.many().map(|inputs| Command::Show { inputs }),
             "same" => rest.many().map(|inputs| Command::Same { inputs }),
+            "energy" => rest.many().map(|inputs| Command::Energy { inputs }),
             "normal" => rest.normal(self),
             "index" => rest.edit(self, |_| Ok(Change::Index)),
             "append" => rest.edit(self, |rest| {
@@ -241,6 +268,8 @@ impl Sorted {
             "samples" => rest.one(|rest| rest.place().map(|place| Task::Samples { place })),
             "record" => rest.one(|rest| rest.place().map(|place| Task::Record { place })),
             "settings" => rest.one(|_| Ok(Task::Settings)),
+            "readings" => rest.readings(self),
+            "picture" => rest.picture(self),
             "ping" => rest.ping(self),
             _ => Err(format!("{} is no command", shown(&word))),
         }
@@ -346,7 +375,7 @@ impl Rest {
         self.one(|rest| {
             Ok(Task::Ping(Wanted {
                 corrections: options.corrections.map(Input::of),
-                channel: SoftwareChannel(rest.number("CHANNEL", "channel")?),
+                channel: rest.channel()?,
                 number: rest.number("NUMBER", "ping number")?,
                 samples: options.samples,
                 out: options.out.map(PathBuf::from),
@@ -354,14 +383,39 @@ impl Rest {
         })
     }
 
+    /// The readings of a ping, from 0 on where nothing else is said.
+    fn readings(self, options: Sorted) -> Result<Command, String> {
+        let from = options.from.map(|word| number(&word, "sample number"));
+        let count = options.count.map(|word| number(&word, "number of samples"));
+        let window = Window {
+            from: from.transpose()?.unwrap_or(0),
+            count: count.transpose()?,
+        };
+        self.one(|rest| rest.place().map(|place| Task::Readings { place, window }))
+    }
+
+    fn picture(self, options: Sorted) -> Result<Command, String> {
+        let out = options.bytes_out()?;
+        self.one(|rest| rest.channel().map(|channel| Task::Picture { channel, out }))
+    }
+
     fn place(&mut self) -> Result<usize, String> {
         self.number("PLACE", "place")
+    }
+
+    fn channel(&mut self) -> Result<SoftwareChannel, String> {
+        self.number("CHANNEL", "channel").map(SoftwareChannel)
     }
 
     /// The next word, as the number that it has to be.
     fn number<N: FromStr>(&mut self, missing: &str, what: &str) -> Result<N, String> {
         let word = self.0.next().ok_or_else(|| format!("no {missing}"))?;
-        let number = word.to_str().and_then(|word| word.parse().ok());
-        number.ok_or_else(|| format!("{} is no {what}", shown(&word)))
+        number(&word, what)
     }
+}
+
+/// A word, as the number that it has to be.
+fn number<N: FromStr>(word: &OsStr, what: &str) -> Result<N, String> {
+    let number = word.to_str().and_then(|word| word.parse().ok());
+    number.ok_or_else(|| format!("{} is no {what}", shown(word)))
 }

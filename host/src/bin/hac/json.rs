@@ -18,7 +18,10 @@ impl Number for i16 {}
 impl Number for u32 {}
 impl Number for i32 {}
 impl Number for i64 {}
+impl Number for u64 {}
 impl Number for usize {}
+/// Those of readings, which are finite.
+impl Number for f64 {}
 
 impl Object {
     fn member(mut self, key: &str, value: impl Display) -> Object {

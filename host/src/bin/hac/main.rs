@@ -1,7 +1,8 @@
-//! The command `hac`: HAC recordings checked, shown on a page, compared with each other,
-//! walked, linked, asked which settings held at each ping, searched for a ping with
-//! corrections beside them, read, brought to their normal form, edited with an index that
-//! stays true, and salvaged, by the proved library.
+//! The command `hac`: HAC recordings checked, shown on a page and in pictures, compared with
+//! each other, walked, linked, asked which settings held at each ping, searched for a ping
+//! with corrections beside them, read, as values, as readings and as echo energies, brought
+//! to their normal form, edited with an index that stays true, and salvaged, by the proved
+//! library.
 
 #![forbid(unsafe_code)]
 
@@ -11,6 +12,8 @@ mod contents;
 mod decimal;
 mod digest;
 mod edits;
+mod energy;
+mod excerpt;
 mod files;
 mod groups;
 mod input;
@@ -23,8 +26,10 @@ mod out;
 mod output;
 mod page;
 mod parents;
+mod picture;
 mod ping;
 mod progress;
+mod readings;
 mod record;
 mod report;
 mod salvage;
@@ -49,8 +54,8 @@ use std::process::ExitCode;
 use verdict::Status;
 
 const HELP: &str = "\
-HAC fisheries recordings: checked, shown, compared, walked, brought to their normal form,
-edited, salvaged.
+HAC fisheries recordings: checked, shown, compared, walked, read, brought to their normal
+form, edited, salvaged.
 
   hac check FILE..          is each file accepted? How many tuples has it, and how
                             many identifiers are compared while it is linked? A
@@ -93,6 +98,19 @@ edited, salvaged.
                             channel and number, then the place of the last threshold
                             before it for its channel and that of the last attitude
                             before it for its channel or for all, - for none
+  hac energy FILE..         the echo energy of each ping: the ping's place, channel and
+                            number, then its energy in units of 10^-14 and in dB, or
+                            why it has none; files and folders as hac check takes
+                            them
+  hac readings FILE PLACE [--from N] [--count N]
+                            what each sample number of the ping at a place reads:
+                            number, value, unit, and Sv, TS, volts or silent; from
+                            0 on, or from N, up to the ping's end, or so many
+  hac picture FILE CHANNEL -o OUT
+                            writes an echogram of a software channel to OUT, as a PNG
+                            file, whole or not at all: pings across, sample numbers
+                            down, in colours by what they read; where OUT is - to
+                            standard output
   hac ping DEPOSIT [--corrections FILE] CHANNEL NUMBER
                             the ping of a software channel and a ping number: the
                             first in FILE with attribute 1, else the first in
@@ -130,6 +148,7 @@ fn run(command: Command, output: &mut Output) -> Result<(), Broken> {
         Command::Check { inputs } => check::run(inputs, output)?,
         Command::Show { inputs } => show::run(inputs, output)?,
         Command::Same { inputs } => same::run(inputs, output)?,
+        Command::Energy { inputs } => energy::run(inputs, output)?,
         Command::Normals { inputs, folder } => normals::run(inputs, &folder, output)?,
         Command::One { input, task } => one::run(&input, &task, output)?,
     }

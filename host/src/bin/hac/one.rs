@@ -5,7 +5,8 @@ use crate::input::{self, Input};
 use crate::output::{say, say_verdict, Broken, Output};
 use crate::stop::Stop;
 use crate::verdict::{Status, Verdict};
-use crate::{edits, normal, out, parents, ping, record, salvage, samples, settings, walk};
+use crate::{edits, normal, out, parents, picture, ping, readings};
+use crate::{record, salvage, samples, settings, walk};
 use hac::{Advice, Refusal, Walk};
 use std::fs::File;
 use std::io;
@@ -47,12 +48,16 @@ fn refused(file: &[u8], task: &Task, refusal: Refusal) -> Verdict {
             let wrong = hac::wrong_sample(file, Walk { at: *place }, refusal);
             Verdict::Refused(refusal, wrong.map(Advice::from))
         }
+        Task::Readings { place, .. } => {
+            Verdict::Refused(refusal, hac::ping_advice(file, *place, refusal))
+        }
         Task::Walk { .. } => Verdict::Refused(refusal, None),
         Task::Normal { .. }
         | Task::Edit { .. }
         | Task::Salvage { .. }
         | Task::Parents { .. }
         | Task::Settings
+        | Task::Picture { .. }
         | Task::Ping(_) => Verdict::refused(file, refusal),
     }
 }
@@ -102,6 +107,10 @@ fn perform(
         Task::Samples { place } => samples::run(bytes, *place, output),
         Task::Record { place } => record::run(bytes, *place, output),
         Task::Settings => settings::run(bytes, output),
+        Task::Readings { place, window } => readings::run(bytes, *place, window, output),
+        Task::Picture { channel, out } => {
+            picture::run(input, bytes, *channel, out.as_deref(), output)
+        }
         Task::Ping(wanted) => ping::run(input, bytes, beside.as_deref(), wanted, output),
     }
 }

@@ -7,7 +7,7 @@ use crate::moment::Moment;
 use crate::shown::shown;
 use crate::units::{ACOUSTIC_FREQUENCY, POSITION_DEGREES, SAMPLING_RATE};
 use crate::verdict::Verdict;
-use hac::{types, Maker, Order};
+use hac::{types, Order};
 
 /// The tuples that are only counted: their name, and that of their number.
 const COUNTED: [(&str, &str); 9] = [
@@ -21,26 +21,6 @@ const COUNTED: [(&str, &str); 9] = [
     ("index", "index tuples"),
     ("unlisted", "unlisted tuples"),
 ];
-
-/// What a type of data sample stands for, as TR lists it for the maker: Table 4 for
-/// Biosonics, Table 5 for the EK-500. None of a number that isn't listed.
-fn sample_words(maker: Maker, type_of_data_sample: u16) -> Option<&'static str> {
-    let listed = match maker {
-        Maker::Biosonics => [
-            "volts",
-            "Sv (scattering volume in dB)",
-            "TS (target strength of single targets in dB)",
-            "offaxis mechanical angles of single targets",
-        ],
-        Maker::Simrad => [
-            "electrical phase angle from the split-beam analysis",
-            "power (raw Sv before the TVG)",
-            "Sv (scattering volume)",
-            "TS (target strength)",
-        ],
-    };
-    listed.get(usize::from(type_of_data_sample)).copied()
-}
 
 fn order_words(order: Order) -> &'static str {
     match order {
@@ -99,7 +79,7 @@ fn degrees(head: &str, span: &Span<i32>) -> Option<String> {
 /// A channel, and a line for each kind of its pings.
 fn channel_lines(identifier: u16, channel: &Channel) -> Vec<String> {
     let kind = channel.type_of_data_sample;
-    let samples = match sample_words(channel.maker, kind) {
+    let samples = match types::data_sample(channel.maker, kind) {
         Some(words) => words.into(),
         None => format!("type of data sample {kind}, which TR doesn't list"),
     };
@@ -219,6 +199,6 @@ fn channel_object(identifier: u16, channel: &Channel) -> Object {
         .number("acoustic_frequency", channel.acoustic_frequency)
         .number("sampling_rate", channel.sampling_rate)
         .number("type_of_data_sample", kind)
-        .text_or_null("data_sample", sample_words(channel.maker, kind))
+        .text_or_null("data_sample", types::data_sample(channel.maker, kind))
         .list("pings", pings)
 }

@@ -6,12 +6,12 @@ use crate::output::Output;
 use crate::shown::shown;
 use crate::stop::Stop;
 use crate::units::{self, Unit};
-use hac::{types, Code, PingKind, RecordFields, Refusal, Step, Tuple, Walk};
+use hac::{types, PingKind, RecordFields, Refusal, Tuple};
 use std::ffi::OsStr;
 use std::os::unix::ffi::OsStrExt;
 
 pub fn run(file: &[u8], place: usize, output: &mut Output) -> Result<(), Stop> {
-    let tuple = tuple_at(file, place)?;
+    let tuple = hac::tuple_at(file, place)?;
     let told = Told::of(file, tuple)?;
     if output.json {
         output.line(told.object())?;
@@ -28,18 +28,6 @@ pub fn run(file: &[u8], place: usize, output: &mut Output) -> Result<(), Stop> {
         output.line(line)?;
     }
     Ok(())
-}
-
-/// The tuple that starts at a place. At the end it is refused as the readers refuse it.
-fn tuple_at(file: &[u8], place: usize) -> Result<Tuple, Refusal> {
-    match (Walk { at: place }).forward(file) {
-        Step::Tuple { tuple, .. } => Ok(tuple),
-        Step::End => Err(Refusal {
-            code: Code::CutShort,
-            place,
-        }),
-        Step::Refused(refusal) => Err(refusal),
-    }
 }
 
 /// A field that is a number.

@@ -90,7 +90,7 @@ fn with_refusal(
 }
 
 /// An object that also tells what a refusal is about: each thing by its name, then in words.
-fn with_advice(object: Object, advice: &Advice) -> Object {
+pub fn with_advice(object: Object, advice: &Advice) -> Object {
     let facts = advice.facts.iter();
     let object = facts.fold(object, |object, (name, fact)| match fact {
         Fact::Number(number) => object.number(name, *number),
