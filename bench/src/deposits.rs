@@ -6,6 +6,9 @@ use hac::{
     FILE_LIMIT, REMARK, TUPLE_LIMIT,
 };
 
+/// The most pings that a file has: the shortest has 36 bytes.
+pub const MOST_PINGS: usize = FILE_LIMIT / 36;
+
 /// The one sounder of a deposit, and the first of its channels.
 const SOUNDER: DocumentId = DocumentId(7);
 const CHANNEL: SoftwareChannel = SoftwareChannel(3);
@@ -37,7 +40,11 @@ const BLOCKS: [usize; 2] = [512, 4096];
 const SOUND_BLOCKS: u32 = 50;
 
 /// Small deposits are told in these bytes.
-const KIB: usize = 1 << 10;
+pub const KIB: usize = 1 << 10;
+
+/// The types of data sample of a Biosonics channel whose samples are volts, and Sv.
+const VOLTS: u16 = 0;
+const SV: u16 = 1;
 
 /// Samples of a U-32 ping, and of one of the other kinds that number them: an odd number,
 /// so that those of U-16-angles have a space behind them.
@@ -59,47 +66,99 @@ pub const FRAME: usize = 10;
 pub const TWO: usize = 2;
 pub const FOUR: usize = 4;
 
-/// A kind of ping that numbers its samples: its type, and the widths of a sample's number
-/// and of its value, or of its two angles.
+/// Values to draw from, as their patterns in the width of a value or a word: so many from a
+/// first one on.
+#[derive(Clone, Copy)]
+struct Values {
+    first: u32,
+    count: u32,
+}
+
+impl Values {
+    fn draw(self, number: u32) -> u32 {
+        self.first + number % self.count
+    }
+}
+
+/// Any pattern of two bytes, and any of four but the last.
+const ANY: Values = Values {
+    first: 0,
+    count: u32::MAX,
+};
+
+/// Levels of Sv that both kinds of their family have: of 32 bits and of 16 bits from -150 dB
+/// to just below the words of runs, of CE-16 those of the six least exponents, from 0 to
+/// -131.056 dB.
+const LEVELS_32: Values = Values {
+    first: -150_000_000_i32 as u32,
+    count: 150_000_000 - 65_536,
+};
+const LEVELS_16: Values = Values {
+    first: -15_000_i16 as u16 as u32,
+    count: 15_000 - 256,
+};
+const LEVELS_CE16: Values = Values {
+    first: 0x8000,
+    count: 0x6000,
+};
+
+/// A kind of ping that numbers its samples: its type, the widths of a sample's number and of
+/// its value, or of its two angles, and what these are drawn from.
+#[derive(Clone, Copy)]
 struct Listed {
     code: u16,
     widths: &'static [usize],
+    values: Values,
 }
 
+const U32: Listed = Listed {
+    code: 10000,
+    widths: &[FOUR, FOUR],
+    values: ANY,
+};
 const U32_16_ANGLES: Listed = Listed {
     code: 10001,
     widths: &[FOUR, TWO, TWO],
+    ..U32
 };
 const U16: Listed = Listed {
     code: 10030,
     widths: &[TWO, TWO],
+    ..U32
 };
 const U16_ANGLES: Listed = Listed {
     code: 10031,
     widths: &[TWO, TWO, TWO],
+    ..U32
 };
 
 /// A kind of ping of words: its type, the width of a word, the word of a run of 1, and
-/// how many values from 0 on have words.
+/// the values that are drawn.
 #[derive(Clone, Copy)]
 pub struct Packed {
     pub code: u16,
     pub width: usize,
     pub shortest_run: u32,
-    values: u32,
+    values: Values,
 }
 
 pub const C32: Packed = Packed {
     code: 10010,
     width: FOUR,
     shortest_run: 0xFFFF_0000,
-    values: 1 << 28,
+    values: Values {
+        first: 0,
+        count: 1 << 28,
+    },
 };
 pub const C16: Packed = Packed {
     code: 10040,
     width: TWO,
     shortest_run: 0xFF00,
-    values: 0x7F00,
+    values: Values {
+        first: 0,
+        count: 0x7F00,
+    },
 };
 pub const CE16: Packed = Packed { code: 10050, ..C16 };
 
@@ -160,6 +219,11 @@ impl Draft {
     /// Mark, signature, sounder, channels, position and a ping, so that the
     /// deposit is accepted whatever follows.
     fn new(order: Order, channels: u16) -> Result<Draft, Refusal> {
+        Draft::of(order, channels, VOLTS)
+    }
+
+    /// The same, the channels' samples of some type. That of the ping is 0: 0 volts or 0 dB.
+    fn of(order: Order, channels: u16, type_of_data_sample: u16) -> Result<Draft, Refusal> {
         let mut draft = Draft::begun(order)?;
         let remarks = [b' '; REMARK];
         let sounder = Sounder {
@@ -173,12 +237,13 @@ impl Draft {
                 software_channel_identifier: nth_channel(number),
                 echosounder_document_identifier: SOUNDER,
                 transceiver_channel_number: Transceiver(number),
+                type_of_data_sample,
                 ..Channel::default()
             };
             draft.put(|tuple| channel.write(&remarks, order, tuple))?;
         }
         draft.put(|tuple| Position::default().write(order, tuple))?;
-        draft.put(|tuple| write_u32(&header(CHANNEL, 0), 0, &[0], &[5], order, tuple))?;
+        draft.put(|tuple| write_u32(&header(CHANNEL, 0), 0, &[0], &[0], order, tuple))?;
         Ok(draft)
     }
 
@@ -288,13 +353,20 @@ fn words_ping(
 
 impl Listed {
     /// A deposit of pings of this kind.
-    fn pings(&self, order: Order) -> Result<Vec<u8>, Refusal> {
+    fn pings(self, order: Order) -> Result<Vec<u8>, Refusal> {
+        self.fill(Draft::new(order, 1)?, FILE_LIMIT)
+    }
+
+    fn fill(self, draft: Draft, limit: usize) -> Result<Vec<u8>, Refusal> {
         let mut chance = Chance(54321);
-        Draft::new(order, 1)?.fill(FILE_LIMIT, |order, count, tuple| {
+        draft.fill(limit, |order, count, tuple| {
             let mut samples = Vec::new();
             for number in 0..ODD_SAMPLES {
                 for (nth, width) in self.widths.iter().enumerate() {
-                    let number = if nth == 0 { 3 * number } else { chance.next() };
+                    let number = match nth {
+                        0 => 3 * number,
+                        _ => self.values.draw(chance.next()),
+                    };
                     samples.extend(number_bytes(order, *width, number));
                 }
             }
@@ -344,7 +416,7 @@ impl Words {
                 if chance.next() % 16 < self.runs {
                     self.kind.shortest_run + number % self.longest
                 } else {
-                    number % self.kind.values
+                    self.kind.values.draw(number)
                 }
             })
             .collect();
@@ -363,8 +435,12 @@ impl Words {
             Last::Value => GROWING_LIMIT,
             Last::Any | Last::Run => FILE_LIMIT,
         };
+        self.fill(Draft::new(order, 1)?, limit)
+    }
+
+    fn fill(self, draft: Draft, limit: usize) -> Result<Vec<u8>, Refusal> {
         let mut chance = Chance(12345);
-        Draft::new(order, 1)?.fill(limit, |order, count, tuple| {
+        draft.fill(limit, |order, count, tuple| {
             let words = self.draw(&mut chance);
             words_ping(&header(CHANNEL, count), self.kind, &words, order, tuple)
         })
@@ -585,6 +661,33 @@ pub fn set() -> Result<Vec<Deposit>, Refusal> {
             set_by_chance(lsb, MOST_CHANNELS)?,
         ),
         ("1,024 by chance, MSB", set_by_chance(msb, MOST_CHANNELS)?),
+    ]))
+}
+
+/// Those that show what energies and readings cost, of some length: pings of each kind with
+/// values, of a channel whose samples are Sv, in both orders.
+pub fn echoes(limit: usize) -> Result<Vec<Deposit>, Refusal> {
+    let listed = |kind: Listed, values, order| {
+        let kind = Listed { values, ..kind };
+        kind.fill(Draft::of(order, 1, SV)?, limit)
+    };
+    let packed = |kind: Packed, values, order| {
+        let kind = Packed { values, ..kind };
+        let words = Words { kind, ..SHORT_RUNS };
+        words.fill(Draft::of(order, 1, SV)?, limit)
+    };
+    let [lsb, msb] = [Order::Lsb, Order::Msb];
+    Ok(taken([
+        ("U-32, LSB", listed(U32, LEVELS_32, lsb)?),
+        ("U-32, MSB", listed(U32, LEVELS_32, msb)?),
+        ("C-32, LSB", packed(C32, LEVELS_32, lsb)?),
+        ("C-32, MSB", packed(C32, LEVELS_32, msb)?),
+        ("U-16, LSB", listed(U16, LEVELS_16, lsb)?),
+        ("U-16, MSB", listed(U16, LEVELS_16, msb)?),
+        ("C-16, LSB", packed(C16, LEVELS_16, lsb)?),
+        ("C-16, MSB", packed(C16, LEVELS_16, msb)?),
+        ("CE-16, LSB", packed(CE16, LEVELS_CE16, lsb)?),
+        ("CE-16, MSB", packed(CE16, LEVELS_CE16, msb)?),
     ]))
 }
 

@@ -5,12 +5,15 @@
 //! with `count`, counts the instructions of the calls on deposits, but for the short
 //! pings; with `salvage`, times salvage of sound, damaged and crafted files; with
 //! `settings`, times the settings of deposits of short pings with thresholds and attitudes
-//! between them, on few and on many channels. docs/SPEED.md says what was measured, and
-//! how.
+//! between them, on few and on many channels; with `energies`, times the echo energies of
+//! deposits of Sv pings of each kind with values; with `readings`, times windows of each
+//! ping of such files. docs/SPEED.md says what was measured, and how.
 
 mod count;
 mod crafted;
 mod deposits;
+mod energies;
+mod readings;
 mod records;
 mod salvage;
 mod settings;
@@ -61,6 +64,20 @@ fn time<T>(calls: u32, mut call: impl FnMut() -> T) -> f64 {
     start.elapsed().as_secs_f64() / f64::from(calls)
 }
 
+/// The shortest time of each of some calls, made so often, in turn with the others.
+fn shortest<const CALLS: usize>(
+    rounds: usize,
+    mut times: impl FnMut() -> [f64; CALLS],
+) -> [f64; CALLS] {
+    let mut best = [f64::MAX; CALLS];
+    for _ in 0..rounds {
+        for (best, time) in best.iter_mut().zip(times()) {
+            *best = best.min(time);
+        }
+    }
+    best
+}
+
 /// The shortest times of what is compared.
 struct Times {
     copy: f64,
@@ -72,30 +89,21 @@ impl Times {
     fn of(file: &[u8], calls: u32) -> Times {
         let mut out = vec![0; FILE_LIMIT];
         let mut copy = vec![0; file.len()];
-        let mut best = Times {
-            copy: f64::MAX,
-            check: [f64::MAX; 2],
-            normal: [f64::MAX; 2],
-        };
-        let keep = |best: &mut f64, time: f64| *best = best.min(time);
         let file = || black_box(file);
-        for _ in 0..ROUNDS {
-            keep(
-                &mut best.copy,
+        let [copy, check, check_second, normal, normal_second] = shortest(ROUNDS, || {
+            [
                 time(calls, || black_box(&mut copy).copy_from_slice(file())),
-            );
-            keep(&mut best.check[0], time(calls, || hac::check(file())));
-            keep(&mut best.check[1], time(calls, || second::check(file())));
-            keep(
-                &mut best.normal[0],
+                time(calls, || hac::check(file())),
+                time(calls, || second::check(file())),
                 time(calls, || hac::normalise(file(), &mut out)),
-            );
-            keep(
-                &mut best.normal[1],
                 time(calls, || second::normalise(file(), &mut out)),
-            );
+            ]
+        });
+        Times {
+            copy,
+            check: [check, check_second],
+            normal: [normal, normal_second],
         }
-        best
     }
 }
 
@@ -172,8 +180,10 @@ fn main() -> Result<(), String> {
         ["records"] => records::show(),
         ["salvage"] => salvage::show(),
         ["settings"] => settings::show(),
+        ["energies"] => energies::show(),
+        ["readings"] => readings::show(),
         _ => Err(format!(
-            "bench [count | records | salvage | settings], not {}",
+            "bench [count | records | salvage | settings | energies | readings], not {}",
             words.join(" ")
         )),
     }

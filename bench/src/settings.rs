@@ -3,24 +3,19 @@
 //! program's. Both must tell the same. That a tuple takes no longer where there are many
 //! channels shows that none of them is looked for among the others.
 
-use crate::deposits::{self, Deposit};
-use crate::time;
-use hac::FILE_LIMIT;
+use crate::deposits::{self, Deposit, MOST_PINGS};
+use crate::{shortest, time};
 use std::hint::black_box;
 
 /// Each thing is done so often, in turn with the others; the shortest time counts.
 const ROUNDS: usize = 9;
-
-/// A file has no more pings than one for each so many bytes.
-const SHORTEST_PING: usize = 36;
 
 /// The three slices: pings, thresholds and attitudes.
 struct Lent<T>([Vec<T>; 3]);
 
 impl<T: Copy + Default> Lent<T> {
     fn new() -> Lent<T> {
-        let most = FILE_LIMIT / SHORTEST_PING;
-        Lent([(); 3].map(|()| vec![T::default(); most]))
+        Lent([(); 3].map(|()| vec![T::default(); MOST_PINGS]))
     }
 }
 
@@ -29,7 +24,7 @@ impl Lent<usize> {
     fn proved(&mut self, file: &[u8]) -> Option<[usize; 3]> {
         let [pings, thresholds, attitudes] = &mut self.0;
         let told = hac::settings_into(file, pings, thresholds, attitudes).ok()?;
-        Some([told.tuples, told.pings, told.compared])
+        Some([told.tuples, told.entries, told.compared])
     }
 }
 
@@ -62,18 +57,13 @@ impl Both {
 
     /// The shortest times of the check, of settings and of the second program's.
     fn times(&mut self, file: &[u8]) -> [f64; 3] {
-        let mut best = [f64::MAX; 3];
-        for _ in 0..ROUNDS {
-            let times = [
+        shortest(ROUNDS, || {
+            [
                 time(1, || hac::check(black_box(file))),
                 time(1, || self.proved.proved(black_box(file))),
                 time(1, || self.second.second(black_box(file))),
-            ];
-            for (best, time) in best.iter_mut().zip(times) {
-                *best = best.min(time);
-            }
-        }
-        best
+            ]
+        })
     }
 
     fn show(&mut self, deposit: &Deposit) -> Result<(), String> {

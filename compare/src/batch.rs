@@ -6,14 +6,14 @@
 use crate::answers::COMPARED;
 use crate::exports::Export;
 use crate::runner::Runner;
-use crate::tally::{Deed, Tally};
-use second::{Maker, PingKind};
+use crate::tally::{in_order, Chapter, Deed, Tally};
+use second::{Maker, Order, PingKind};
 use std::io;
 use std::mem;
 use std::ops::Range;
 
 /// What lent memory holds before a call.
-const FILL: u8 = 0xA5;
+pub const FILL: u8 = 0xA5;
 
 /// The bytes of an entry, and of all that numbers are aligned to.
 const ENTRY: usize = 8;
@@ -27,8 +27,9 @@ const HALF: usize = 2;
 pub const FILLED: u32 = u32::from_ne_bytes([FILL; WORD]);
 pub const HALF_FILLED: u16 = u16::from_ne_bytes([FILL; HALF]);
 
-/// What an entry of a table does.
+/// What an entry of a table does, and a number of 64 bits.
 pub const ENTRY_FILLED: usize = usize::from_ne_bytes([FILL; ENTRY]);
+pub const LONG_FILLED: u64 = u64::from_ne_bytes([FILL; ENTRY]);
 
 /// Bytes behind lent memory, which no call may touch.
 const GUARD: usize = 8;
@@ -225,27 +226,32 @@ impl Batch {
     }
 
     /// Lends numbers of some width, which the second program left like this.
-    fn lend_bytes(&mut self, left: &[u8], width: usize) -> Arg {
+    fn lend_of(&mut self, left: &[u8], width: usize) -> Arg {
         let lent = self.lend(left.len());
         self.expected(&lent).copy_from_slice(left);
         lent.of(width).into()
     }
 
     pub fn lend_words(&mut self, left: &[u32]) -> Arg {
-        self.lend_bytes(&word_bytes(left), WORD)
+        self.lend_of(&word_bytes(left), WORD)
     }
 
     pub fn lend_halves(&mut self, left: &[u16]) -> Arg {
-        self.lend_bytes(&half_bytes(left), HALF)
+        self.lend_of(&half_bytes(left), HALF)
     }
 
     pub fn lend_entries(&mut self, left: &[usize]) -> Arg {
-        self.lend_bytes(&entry_bytes(left), ENTRY)
+        self.lend_of(&entry_bytes(left), ENTRY)
     }
 
-    pub fn lend_places(&mut self, left: &[u64]) -> Arg {
-        let left: Vec<usize> = left.iter().map(|place| *place as usize).collect();
-        self.lend_entries(&left)
+    /// Numbers of 64 bits: places, energies, the bits of doubles.
+    pub fn lend_longs(&mut self, left: &[u64]) -> Arg {
+        self.lend_of(&long_bytes(left), ENTRY)
+    }
+
+    /// Numbers of a byte.
+    pub fn lend_bytes(&mut self, left: &[u8]) -> Arg {
+        self.lend_of(left, 1)
     }
 
     /// Words to read from, and halves of them.
@@ -338,24 +344,16 @@ impl Batch {
         self.tally.met_ping(deed, kind, has_length);
     }
 
-    /// Notes what salvage met.
-    pub fn met_in_salvage(&mut self, what: String) {
-        self.tally.met_in_salvage(what);
+    /// Notes what a chapter met.
+    pub fn met_in(&mut self, chapter: Chapter, what: String) {
+        self.tally.met_in(chapter, what);
     }
 
-    /// Notes what settings met.
-    pub fn met_in_settings(&mut self, what: String) {
-        self.tally.met_in_settings(what);
-    }
-
-    /// Notes what corrections met.
-    pub fn met_in_corrections(&mut self, what: String) {
-        self.tally.met_in_corrections(what);
-    }
-
-    /// Notes what edits met.
-    pub fn met_in_edits(&mut self, what: String) {
-        self.tally.met_in_edits(what);
+    /// Notes what a chapter met in a file, with the file's byte order.
+    pub fn met_in_order(&mut self, chapter: Chapter, file: &[u8], what: &str) {
+        if let Some(order) = Order::of(file) {
+            self.met_in(chapter, in_order(what, order));
+        }
     }
 
     /// Notes that a channel of this maker named a sounder of the other.
@@ -472,6 +470,10 @@ fn entry_bytes(entries: &[usize]) -> Vec<u8> {
         .iter()
         .flat_map(|entry| entry.to_le_bytes())
         .collect()
+}
+
+fn long_bytes(longs: &[u64]) -> Vec<u8> {
+    longs.iter().flat_map(|long| long.to_le_bytes()).collect()
 }
 
 /// The entries that bytes hold.

@@ -3,8 +3,10 @@
 use crate::batch::Batch;
 use crate::corrections::{self, compare_pairs};
 use crate::edits::{self, compare_edits};
+use crate::energies::{self, compare_energy_files};
 use crate::files::{self, compare_file, compare_whole, Places};
 use crate::pings::{self, compare_limit_pings, compare_pings};
+use crate::readings::{self, compare_views};
 use crate::records::{self, compare_long_texts, compare_records};
 use crate::tally::Given;
 use crate::{salvage, settings};
@@ -12,7 +14,8 @@ use second::gen::{big_limit_count, file_case, limit_count, Case, Rng};
 use std::io;
 
 /// Behind each case that is compared in full come so many of which only the
-/// check, the walks, the pings, settings, salvage, edits and the normal form are.
+/// check, the walks, the pings, settings, energies, readings, salvage, edits and the
+/// normal form are.
 const LIGHT: u64 = 40;
 
 /// Record and ping writers are tried so many times a case.
@@ -33,6 +36,7 @@ pub fn given() -> Vec<Given> {
     let all = all.chain(records::GIVEN).chain(salvage::GIVEN);
     let all = all.chain(settings::GIVEN);
     let all = all.chain(corrections::GIVEN);
+    let all = all.chain(energies::GIVEN).chain(readings::GIVEN);
     all.chain(edits::GIVEN).collect()
 }
 
@@ -72,8 +76,8 @@ fn light_index(light: u64) -> u64 {
     TURN * turn + at + u64::from(at >= LIMIT)
 }
 
-/// The files of a case, pairs of a deposit and its corrections, files that are edited, and every
-/// writer.
+/// The files of a case, pairs of a deposit and its corrections, files that are edited, files of
+/// echoes, and every writer.
 fn full_case(batch: &mut Batch, seed: u64, index: u64, places: Places) -> io::Result<()> {
     let mut rng = Rng::of_case(seed ^ WRITERS, index);
     compare_files(batch, seed, index, |batch, case| {
@@ -82,6 +86,8 @@ fn full_case(batch: &mut Batch, seed: u64, index: u64, places: Places) -> io::Re
     compare_pairs(batch, seed, index)?;
     let turn = index.is_multiple_of(TURN).then_some(index / TURN);
     compare_edits(batch, seed, index, turn)?;
+    compare_energy_files(batch, seed, index)?;
+    compare_views(batch, seed, index)?;
     batch.about = format!("seed {seed}, case {index}, writers");
     for _ in 0..WRITES {
         compare_records(batch, &mut rng)?;

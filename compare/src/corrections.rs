@@ -6,7 +6,7 @@
 use crate::answers::five;
 use crate::batch::{Batch, File, Slice};
 use crate::exports::export;
-use crate::tally::Given;
+use crate::tally::{Chapter, Given};
 use crate::walked::walked;
 use second::gen::{correction_case, CorrectionCase, Question, Rng};
 use second::kinds::KINDS;
@@ -17,12 +17,7 @@ use std::io;
 use std::sync::LazyLock;
 
 /// What the export compared here can give: what a check can, and 31.
-pub const GIVEN: [Given; 1] = [Given::new(
-    "find_ping",
-    &[
-        1, 2, 3, 4, 5, 6, 7, 8, 9, 11, 12, 13, 14, 15, 16, 17, 23, 24, 25, 31,
-    ],
-)];
+pub const GIVEN: [Given; 1] = [Given::checking("find_ping", &[31])];
 
 /// So many pairs come with each case that is compared in full; what the generator makes
 /// them for comes in turn.
@@ -193,7 +188,7 @@ impl<'a> Pair<'a> {
             _ => BTreeSet::from([self.refused(&told).to_string()]),
         };
         for what in whats {
-            batch.met_in_corrections(met(&what, orders));
+            batch.met_in(Chapter::Corrections, met(&what, orders));
         }
     }
 

@@ -5,8 +5,8 @@
 use crate::answers::five;
 use crate::batch::{Batch, File};
 use crate::exports::export;
-use crate::tally::Given;
-use crate::walked::walked;
+use crate::tally::{in_both_orders, Chapter, Given};
+use crate::walked::{walked, FIRST};
 use second::gen::{big_edit, big_edit_count, edit_case, Edit, EditCase};
 use second::index::INDEX_1;
 use second::layout::{class, layout, Class, END_OF_FILE, FILE_LIMIT, LAYOUTS, SIGNATURE};
@@ -15,16 +15,12 @@ use second::{append, check, index, remove, Answer, Order};
 use std::collections::BTreeSet;
 use std::io;
 
-/// What a check can give, and 19: each of the calls judges the file and its result.
-const CODES: [usize; 20] = [
-    1, 2, 3, 4, 5, 6, 7, 8, 9, 11, 12, 13, 14, 15, 16, 17, 19, 23, 24, 25,
-];
-
-/// What the exports compared here can give.
+/// What the exports compared here can give: what a check can, and 19, for each of them judges
+/// the file and its result.
 pub const GIVEN: [Given; 3] = [
-    Given::new("index", &CODES).comparing(0),
-    Given::new("append", &CODES).comparing(0),
-    Given::new("remove", &CODES).comparing(0),
+    Given::checking("index", &[19]).comparing(0),
+    Given::checking("append", &[19]).comparing(0),
+    Given::checking("remove", &[19]).comparing(0),
 ];
 
 /// So many of the generator's files come with each case that is compared in full.
@@ -37,9 +33,6 @@ const REFUSED_SPARE: usize = 64;
 
 /// The most bytes of a result that is edited again.
 const LARGE: u64 = 1 << 20;
-
-/// The place of the first tuple.
-const FIRST: u64 = 4;
 
 /// The code of a place where no tuple starts.
 const CUT_SHORT: u32 = 3;
@@ -177,12 +170,8 @@ fn note(batch: &mut Batch, file: &[u8], edit: &Edit, answer: Answer) {
         return;
     };
     for what in seen(file, order, edit, answer) {
-        batch.met_in_edits(met(&what, order));
+        batch.met_in_order(Chapter::Edits, file, &what);
     }
-}
-
-fn met(what: &str, order: Order) -> String {
-    format!("{what}, {order:?}")
 }
 
 fn seen(file: &[u8], order: Order, edit: &Edit, answer: Answer) -> BTreeSet<String> {
@@ -421,6 +410,5 @@ pub fn wanted() -> Vec<String> {
     wanted.extend(BY_REMOVAL.map(|(code, refusal)| taken(code, refusal)));
     wanted.extend(ONCE.map(|code| taken(code, OVER_LIMIT)));
     wanted.extend(NOWHERE.map(String::from));
-    let both = |what: &String| Order::BOTH.map(|order| met(what, order));
-    wanted.iter().flat_map(both).collect()
+    in_both_orders(&wanted)
 }

@@ -1,17 +1,22 @@
 //! What is compared of a file: the check, the walks, pings and records read at many
-//! places, settings, a ping looked for in it and another beside it, salvage, what is done to
-//! it, and the normal form.
+//! places, settings, energies, readings, a ping looked for in it and another beside it, salvage,
+//! what is done to it, and the normal form.
 
 use crate::answers::{five, reply_numbers};
 use crate::batch::{Batch, File, FILLED, HALF_FILLED};
 use crate::corrections::compare_beside;
+use crate::echoes::{echoes, few_enough};
 use crate::edits::compare_own_edits;
+use crate::energies::compare_energies;
 use crate::exports::{export, Export};
 use crate::kinds::header_numbers;
+use crate::readings::compare_readings;
 use crate::records;
 use crate::salvage::compare_salvage;
-use crate::settings::{compare_settings, Tries};
+use crate::settings::compare_settings;
+use crate::slices::Tries;
 use crate::tally::{Deed, Given};
+use crate::walked::FIRST;
 use second::gen::{Case, Rng};
 use second::layout::{CHANNEL_LIMIT, FILE_LIMIT};
 use second::pings::{read_angles, read_samples, Ping};
@@ -27,15 +32,8 @@ const SMALL: usize = 4096;
 /// The most bytes of a file whose tuples are normalised alone, too.
 const LARGE: usize = 1 << 20;
 
-/// Asking looks at about so many bytes of one file, or asks so many times.
-const ASKED_BYTES: usize = 1 << 19;
-const ASKED_LEAST: usize = 3;
-
 /// Of a file of more tuples than this about so many are read, evenly apart.
 const MANY: usize = 200;
-
-/// The place of a file's first tuple.
-const FIRST: u64 = 4;
 
 /// So far from a tuple's place of a longer file it is read, too.
 const BESIDE: [u64; 10] = [0, 1, 2, 3, 4, 6, 8, 12, 16, 20];
@@ -71,25 +69,14 @@ const OTHER_TYPE: u64 = 9;
 /// The code of a parent that wasn't declared.
 const NO_PARENT: u32 = 13;
 
-/// The refusals of a check.
-const CHECKED: [usize; 19] = [
-    1, 2, 3, 4, 5, 6, 7, 8, 9, 11, 12, 13, 14, 15, 16, 17, 23, 24, 25,
-];
-
 /// What the exports compared here can give. A check needs no identifier compared;
 /// asking needs a ping, its channel and that one's sounder.
 pub const GIVEN: [Given; 9] = [
-    Given::new("check", &CHECKED).comparing(0),
+    Given::checking("check", &[]).comparing(0),
     Given::new("forward", &[1, 2, 3, 5, 6]),
     Given::new("backward", &[1, 2, 3, 5, 6]),
-    Given::new("ask", &CHECKED).comparing(2),
-    Given::new(
-        "normalise",
-        &[
-            1, 2, 3, 4, 5, 6, 7, 8, 9, 11, 12, 13, 14, 15, 16, 17, 18, 19, 20, 23, 24, 25,
-        ],
-    )
-    .comparing(0),
+    Given::checking("ask", &[]).comparing(2),
+    Given::checking("normalise", &[18, 19, 20]).comparing(0),
     Given::new(
         "normalise_tuple",
         &[1, 2, 3, 5, 6, 8, 9, 11, 15, 18, 19, 23, 24, 25],
@@ -163,14 +150,15 @@ fn call_at(batch: &mut Batch, export: Export, file: &mut File, place: u64, numbe
 }
 
 /// The check, both walks, fields, samples and angles of each ping, the parents of the
-/// first and the last, settings, salvage, edits and the normal form. Gives that, where
-/// there is one.
+/// first and the last, settings, energies, readings, salvage, edits and the normal form.
+/// Gives that, where there is one.
 pub fn compare_whole(batch: &mut Batch, case: &Case) -> io::Result<Option<Vec<u8>>> {
     let mut file = File::new(&case.bytes);
     check_file(batch, &mut file, case.expected);
     let tuples = walk_both(batch, &mut file)?;
     each_ping(batch, &mut file, &tuples)?;
     compare_settings(batch, &mut file, Tries::One)?;
+    compare_echoes(batch, &mut file, Tries::One)?;
     compare_salvage(batch, &mut file)?;
     compare_own_edits(batch, &mut file)?;
     compare_normal(batch, export("normalise"), normalise, &mut file)
@@ -238,10 +226,18 @@ pub fn compare_file(
         one_tuple(batch, file.bytes)?;
     }
     compare_settings(batch, &mut file, Tries::All)?;
+    compare_echoes(batch, &mut file, Tries::All)?;
     compare_beside(batch, &mut file)?;
     compare_salvage(batch, &mut file)?;
     compare_own_edits(batch, &mut file)?;
     compare_normal(batch, export("normalise"), normalise, &mut file)
+}
+
+/// Energies of a file's pings, and their readings.
+pub fn compare_echoes(batch: &mut Batch, file: &mut File, tries: Tries) -> io::Result<()> {
+    let echoes = echoes(file.bytes);
+    compare_energies(batch, file, &echoes, tries)?;
+    compare_readings(batch, file, &echoes, tries)
 }
 
 /// All tuples of a file, or some where they are many, the last among them.
@@ -363,11 +359,9 @@ fn asked(places: &[u64], tuples: &[u64], file: &File) -> Vec<u64> {
     if file.bytes.len() <= SMALL {
         return places.to_vec();
     }
-    let most = (ASKED_BYTES / file.bytes.len()).max(ASKED_LEAST);
     let mut asked = tuples.to_vec();
     asked.extend([0, FIRST, FIRST + 1, end, end + 1, u64::MAX]);
-    let apart = asked.len().div_ceil(most);
-    asked.into_iter().rev().step_by(apart).collect()
+    few_enough(asked, file.bytes)
 }
 
 /// Steps, samples, ping fields and every record at a place.

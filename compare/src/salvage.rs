@@ -5,7 +5,7 @@
 use crate::answers::reply_numbers;
 use crate::batch::{Batch, File, ENTRY_FILLED};
 use crate::exports::export;
-use crate::tally::Given;
+use crate::tally::{Chapter, Given};
 use second::kinds::KINDS;
 use second::salvage::{kept_until, RANGE_NUMBERS};
 use second::walk::{forward, Step, Tuple};
@@ -210,11 +210,11 @@ pub fn wanted() -> Vec<String> {
 /// Notes what salvage met in a file.
 fn note(batch: &mut Batch, file: &[u8], ranges: &[Range]) {
     for shape in shapes(ranges) {
-        batch.met_in_salvage(shape.to_string());
+        batch.met_in(Chapter::Salvage, shape.to_string());
     }
     let left_over = file.len() % STEP;
     if left_over > 0 {
-        batch.met_in_salvage(left_over_met(left_over));
+        batch.met_in(Chapter::Salvage, left_over_met(left_over));
     }
     note_nested(batch, file);
     // where the last tuple ends that is framed and yet dropped
@@ -225,7 +225,7 @@ fn note(batch: &mut Batch, file: &[u8], ranges: &[Range]) {
             continue;
         }
         if range.from < framed {
-            batch.met_in_salvage(INSIDE.to_string());
+            batch.met_in(Chapter::Salvage, INSIDE.to_string());
         }
         let mut at = range.from as u64;
         while at < range.to as u64 {
@@ -273,7 +273,7 @@ fn note_dropped(batch: &mut Batch, file: &[u8], range: &Range) -> usize {
         }
     }
     for code in codes {
-        batch.met_in_salvage(code_met(code));
+        batch.met_in(Chapter::Salvage, code_met(code));
     }
     framed
 }
@@ -296,7 +296,8 @@ fn note_nested(batch: &mut Batch, file: &[u8]) {
         met.insert(nested_met(kind, order));
     }
     if OFTEN * file.len() < bytes {
-        met.into_iter().for_each(|what| batch.met_in_salvage(what));
+        met.into_iter()
+            .for_each(|what| batch.met_in(Chapter::Salvage, what));
     }
 }
 
@@ -309,6 +310,6 @@ fn framed_at(file: &[u8], place: u64) -> Option<Tuple> {
 
 fn note_ping(batch: &mut Batch, file: &[u8], tuple: &Tuple, kept: bool) {
     if let (Some(kind), Some(order)) = (PingKind::of(tuple.code), Order::of(file)) {
-        batch.met_in_salvage(ping_met(kind, order, kept));
+        batch.met_in(Chapter::Salvage, ping_met(kind, order, kept));
     }
 }

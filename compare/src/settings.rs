@@ -3,9 +3,10 @@
 //! nothing that can be is never there.
 
 use crate::answers::five;
-use crate::batch::{Batch, File, ENTRY_FILLED};
+use crate::batch::{Batch, File, LONG_FILLED};
 use crate::exports::export;
-use crate::tally::Given;
+use crate::slices::{Lent, Slices, Tries};
+use crate::tally::{in_both_orders, Chapter, Given};
 use crate::walked::walked;
 use second::kinds::KINDS;
 use second::layout::{ATTITUDE, THRESHOLD};
@@ -15,16 +16,7 @@ use std::collections::{BTreeSet, HashMap};
 use std::io;
 
 /// What the export compared here can give: what a check can, and 19.
-pub const GIVEN: [Given; 1] = [Given::new(
-    "settings",
-    &[
-        1, 2, 3, 4, 5, 6, 7, 8, 9, 11, 12, 13, 14, 15, 16, 17, 19, 23, 24, 25,
-    ],
-)
-.comparing(0)];
-
-/// What the lengths of all tuples are multiples of.
-const STEP: usize = 4;
+pub const GIVEN: [Given; 1] = [Given::checking("settings", &[19]).comparing(0)];
 
 /// Where a ping, a threshold and an attitude have their clock and their channel.
 const TIME_AT: usize = 8;
@@ -33,79 +25,28 @@ const CHANNEL_AT: usize = 12;
 /// What means all channels in an attitude, and there alone.
 const ALL: u16 = SoftwareChannel::ALL.0;
 
-/// The code of a slice that is too short.
-const NO_ROOM: u32 = 19;
-
-/// The slices, as the header calls them, and entries of each.
-const SLICES: [&str; 3] = ["pings", "thresholds", "attitudes"];
-type Lent = [usize; SLICES.len()];
-
-/// How much is tried besides entries that are just enough.
-#[derive(Clone, Copy, PartialEq, Eq)]
-pub enum Tries {
-    All,
-    /// One of them, by the file's length.
-    One,
-}
+/// The slices, as the header calls them.
+const SLICES: Slices = Slices {
+    chapter: Chapter::Settings,
+    names: ["pings", "thresholds", "attitudes"],
+};
 
 /// Settings of a file, lent an entry of each slice for each ping, and what else is tried.
 pub fn compare_settings(batch: &mut Batch, file: &mut File, tries: Tries) -> io::Result<()> {
     let seen = Seen::of(file.bytes);
-    let pings = seen.held.len();
-    let answer = settings_into(batch, file, [pings; 3]);
-    batch.rest()?;
-    match answer.code {
-        0 if answer.length == pings as u64 => seen.note(batch, file.bytes),
-        0 | NO_ROOM => batch.differ("settings are told of other pings than the walk finds"),
-        _ => {}
-    }
-    let mut others = others(pings, answer);
-    if tries == Tries::One {
-        let turn = file.bytes.len() / STEP % others.len();
-        others = vec![others[turn]];
-    }
-    for lent in others {
-        let answer = settings_into(batch, file, lent);
-        if answer.code == NO_ROOM {
-            note_short(batch, file.bytes, pings, lent);
-        }
-        batch.rest()?;
+    let answer = SLICES.compare(batch, file, seen.held.len(), tries, settings_into)?;
+    if answer.is_accepted() {
+        seen.note(batch, file.bytes);
     }
     Ok(())
 }
 
-/// What is lent besides just enough: more, one too few of each slice, none; where the file
-/// is refused already, none.
-fn others(pings: usize, answer: Answer) -> Vec<Lent> {
-    if !answer.is_accepted() {
-        return vec![[0; 3]];
-    }
-    let mut others = vec![[0; 3], [pings + 3, pings + 1, pings + 5]];
-    if let Some(less) = pings.checked_sub(1) {
-        others.extend([
-            [less, pings, pings],
-            [pings, less, pings],
-            [pings, pings, less],
-        ]);
-    }
-    others
-}
-
-/// Notes the one slice that was too short, where it was one.
-fn note_short(batch: &mut Batch, file: &[u8], pings: usize, lent: Lent) {
-    let slices = SLICES.iter().zip(lent);
-    let short: Vec<_> = slices.filter(|(_, entries)| *entries < pings).collect();
-    if let ([(slice, _)], Some(order)) = (&short[..], Order::of(file)) {
-        batch.met_in_settings(met(&short_met(slice), order));
-    }
-}
-
 fn settings_into(batch: &mut Batch, file: &mut File, lent: Lent) -> Answer {
-    let mut slices = lent.map(|entries| vec![ENTRY_FILLED as u64; entries]);
+    let mut slices = lent.map(|entries| vec![LONG_FILLED; entries]);
     let [pings, thresholds, attitudes] = &mut slices;
     let answer = settings(file.bytes, pings, thresholds, attitudes);
     let mut arguments = vec![batch.file(file).into()];
-    arguments.extend(slices.iter().map(|places| batch.lend_places(places)));
+    arguments.extend(slices.iter().map(|places| batch.lend_longs(places)));
     batch.call(export("settings"), &arguments, &five(answer));
     answer
 }
@@ -187,22 +128,13 @@ const OF_PINGS: [Sight; 12] = [
 const NO_PING: &str = "no listed ping";
 const BEHIND: &str = "a setting behind the last ping";
 
-fn short_met(slice: &str) -> String {
-    format!("too few entries of {slice}")
-}
-
-fn met(what: &str, order: Order) -> String {
-    format!("{what} in order {order:?}")
-}
-
 /// All that settings have to meet.
 pub fn wanted() -> Vec<String> {
-    let mut wanted: Vec<String> = SLICES.map(short_met).to_vec();
+    let mut wanted = SLICES.wanted();
     wanted.extend([NO_PING, BEHIND].map(String::from));
     wanted.extend(OF_PINGS.map(|(what, _)| what.into()));
     wanted.extend(KINDS.map(|row| row.name.into()));
-    let both = |what: &String| Order::BOTH.map(|order| met(what, order));
-    wanted.iter().flat_map(both).collect()
+    in_both_orders(&wanted)
 }
 
 /// What is seen of a file, from its first tuple up to where it can be walked.
@@ -260,9 +192,6 @@ impl Seen {
 
     /// Notes what an accepted file has, each thing once.
     fn note(&self, batch: &mut Batch, file: &[u8]) {
-        let Some(order) = Order::of(file) else {
-            return;
-        };
         let mut whats = BTreeSet::new();
         if self.held.is_empty() {
             whats.insert(NO_PING);
@@ -275,7 +204,7 @@ impl Seen {
             whats.extend(sights.map(|(what, _)| what));
         }
         for what in whats {
-            batch.met_in_settings(met(what, order));
+            batch.met_in_order(Chapter::Settings, file, what);
         }
     }
 }

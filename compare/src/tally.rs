@@ -1,10 +1,10 @@
 //! What was compared: how often each export was called, which codes it gave, how
 //! many identifiers it told as compared, which records were met and which files, and
-//! what salvage, settings, corrections and edits met in these.
+//! what each chapter met in these.
 
 use crate::exports::{Export, EXPORTS};
 use crate::kinds::KINDS;
-use crate::{corrections, edits, salvage, settings};
+use crate::{corrections, edits, energies, readings, salvage, settings};
 use second::kinds::{Kind, KINDS as PING_KINDS};
 use second::layout::{CHANNEL_LIMIT, FILE_LIMIT};
 use second::{Maker, Order, PingKind};
@@ -52,23 +52,38 @@ fn can_be(kind: &Kind, deed: Deed, has_length: bool) -> bool {
     }
 }
 
+/// The refusals of a check.
+const CHECKED: [usize; 19] = [
+    1, 2, 3, 4, 5, 6, 7, 8, 9, 11, 12, 13, 14, 15, 16, 17, 23, 24, 25,
+];
+
 /// What an export can give, and so must: said by the module that compares it.
 #[derive(Clone, Copy)]
 pub struct Given {
     name: &'static str,
-    /// The codes that it can refuse with.
-    codes: &'static [usize],
+    /// The codes that it can refuse with: a check's, where it makes one, and its own.
+    checked: &'static [usize],
+    own: &'static [usize],
     /// Of one that checks a whole file, the fewest identifiers compared that it can
     /// accept with.
     fewest: Option<u64>,
 }
 
 impl Given {
-    pub const fn new(name: &'static str, codes: &'static [usize]) -> Given {
+    pub const fn new(name: &'static str, own: &'static [usize]) -> Given {
         Given {
             name,
-            codes,
+            checked: &[],
+            own,
             fewest: None,
+        }
+    }
+
+    /// Of one that refuses as a check does, and by codes of its own.
+    pub const fn checking(name: &'static str, own: &'static [usize]) -> Given {
+        Given {
+            checked: &CHECKED,
+            ..Given::new(name, own)
         }
     }
 
@@ -77,6 +92,10 @@ impl Given {
             fewest: Some(fewest),
             ..self
         }
+    }
+
+    fn codes(&self) -> impl Iterator<Item = usize> {
+        self.checked.iter().chain(self.own).copied()
     }
 }
 
@@ -127,7 +146,7 @@ impl Count {
     }
 }
 
-/// What a call met in the files, and how often.
+/// What a chapter met in the files, and how often.
 #[derive(Clone, Default)]
 struct Met(BTreeMap<String, u64>);
 
@@ -142,23 +161,54 @@ impl Met {
         }
     }
 
-    fn tell(&self, call: &str) -> String {
+    fn tell(&self, chapter: &str) -> String {
         let met = self.0.iter();
         let met: Vec<String> = met.map(|(what, times)| format!("{what} {times}")).collect();
-        format!("{call} met {}", met.join("; "))
+        format!("{chapter} met {}", met.join("; "))
     }
 
     /// What it never met of what it has to.
-    fn never(&self, call: &str, wanted: Vec<String>) -> Vec<String> {
+    fn never(&self, chapter: &str, wanted: Vec<String>) -> Vec<String> {
         let never = wanted.iter().filter(|what| !self.0.contains_key(*what));
         never
-            .map(|what| format!("{call} never met {what}"))
+            .map(|what| format!("{chapter} never met {what}"))
             .collect()
     }
 }
 
+/// Those who note what they met.
+#[derive(Clone, Copy)]
+pub enum Chapter {
+    Salvage,
+    Settings,
+    Corrections,
+    Edits,
+    Energies,
+    Readings,
+}
+
 /// Tells all that has to be met.
 type Wanted = fn() -> Vec<String>;
+
+/// The chapters in their order, by name, and what they have to meet.
+const CHAPTERS: [(&str, Wanted); 6] = [
+    ("salvage", salvage::wanted),
+    ("settings", settings::wanted),
+    ("corrections", corrections::wanted),
+    ("edits", edits::wanted),
+    ("energies", energies::wanted),
+    ("readings", readings::wanted),
+];
+
+/// What was met in a file of a byte order, and of something that has to be met in both.
+pub fn in_order(what: &str, order: Order) -> String {
+    format!("{what} in order {order:?}")
+}
+
+pub fn in_both_orders(wanted: &[String]) -> Vec<String> {
+    let both = |what: &String| Order::BOTH.map(|order| in_order(what, order));
+    wanted.iter().flat_map(both).collect()
+}
 
 /// Of the files that begin with one of the marks.
 #[derive(Clone, Default)]
@@ -182,11 +232,8 @@ pub struct Tally {
     other_maker: [u64; 2],
     /// In the order of the kinds of ping.
     pings: [Pings; PING_KINDS.len()],
-    /// What salvage met, what settings met, what corrections did, and what edits did.
-    salvage: Met,
-    settings: Met,
-    corrections: Met,
-    edits: Met,
+    /// In the order of the chapters.
+    met: [Met; CHAPTERS.len()],
     pub cases: u64,
     files: u64,
     bytes: u64,
@@ -201,10 +248,7 @@ impl Default for Tally {
             marked: Default::default(),
             other_maker: [0; 2],
             pings: Default::default(),
-            salvage: Met::default(),
-            settings: Met::default(),
-            corrections: Met::default(),
-            edits: Met::default(),
+            met: Default::default(),
             cases: 0,
             files: 0,
             bytes: 0,
@@ -246,24 +290,9 @@ impl Tally {
         self.pings[kind as usize][deed as usize][usize::from(has_length)] += 1;
     }
 
-    /// Counts what salvage met.
-    pub fn met_in_salvage(&mut self, what: String) {
-        self.salvage.note(what);
-    }
-
-    /// Counts what settings met.
-    pub fn met_in_settings(&mut self, what: String) {
-        self.settings.note(what);
-    }
-
-    /// Counts what corrections met.
-    pub fn met_in_corrections(&mut self, what: String) {
-        self.corrections.note(what);
-    }
-
-    /// Counts what edits met.
-    pub fn met_in_edits(&mut self, what: String) {
-        self.edits.note(what);
+    /// Counts what a chapter met.
+    pub fn met_in(&mut self, chapter: Chapter, what: String) {
+        self.met[chapter as usize].note(what);
     }
 
     /// Of each kind of ping and each deed how often it was done, without a length and with
@@ -321,10 +350,9 @@ impl Tally {
         for (sum, times) in self.other_maker.iter_mut().zip(other.other_maker) {
             *sum += times;
         }
-        self.salvage.add(&other.salvage);
-        self.settings.add(&other.settings);
-        self.corrections.add(&other.corrections);
-        self.edits.add(&other.edits);
+        for (sum, met) in self.met.iter_mut().zip(&other.met) {
+            sum.add(met);
+        }
         let sums = self.pings.as_flattened_mut().as_flattened_mut();
         for (sum, times) in sums
             .iter_mut()
@@ -336,8 +364,7 @@ impl Tally {
 
     /// In words, a line each: cases and files; each export's calls with the codes
     /// that they gave and the identifiers compared; the records; the channels that
-    /// named a sounder of the other maker; the pings of each kind; what salvage,
-    /// settings, corrections and edits met.
+    /// named a sounder of the other maker; the pings of each kind; what each chapter met.
     pub fn tell(&self) -> Vec<String> {
         let [lsb, msb] = &self.marked;
         let calls: u64 = self.exports.iter().map(Count::calls).sum();
@@ -379,7 +406,8 @@ impl Tally {
             };
             lines.push(format!("{name} {what} {}{lengths}", without + with));
         }
-        lines.extend(self.all_met().map(|(call, met, _)| met.tell(call)));
+        let chapters = CHAPTERS.iter().zip(&self.met);
+        lines.extend(chapters.map(|((chapter, _), met)| met.tell(chapter)));
         lines
     }
 
@@ -415,7 +443,10 @@ impl Tally {
                 unsaid.push(format!("nobody says what {} can give", export.name));
                 continue;
             };
-            for code in count.refusals().filter(|code| !given.codes.contains(code)) {
+            for code in count
+                .refusals()
+                .filter(|code| given.codes().all(|can| can != *code))
+            {
                 unsaid.push(format!("{} gave code {code}, which it can't", export.name));
             }
         }
@@ -424,8 +455,8 @@ impl Tally {
 
     /// What was not compared: codes that no call gave; what an export or a record
     /// never did; files at the limit and past it in either order; a sounder of the
-    /// other maker named by a channel of either; pings of each kind; what salvage,
-    /// settings, corrections and edits have to meet.
+    /// other maker named by a channel of either; pings of each kind; what the chapters
+    /// have to meet.
     pub fn missing(&self, given: &[Given]) -> Vec<String> {
         let mut missing = Vec::new();
         for (export, count) in EXPORTS.iter().zip(&self.exports) {
@@ -462,19 +493,10 @@ impl Tally {
                 }
             }
         }
-        let never = |(call, met, wanted): (_, &Met, Wanted)| met.never(call, wanted());
-        missing.extend(self.all_met().into_iter().flat_map(never));
+        for ((chapter, wanted), met) in CHAPTERS.iter().zip(&self.met) {
+            missing.extend(met.never(chapter, wanted()));
+        }
         missing
-    }
-
-    /// What was met, by the name of those who met it, and what they have to meet.
-    fn all_met(&self) -> [(&'static str, &Met, Wanted); 4] {
-        [
-            ("salvage", &self.salvage, salvage::wanted),
-            ("settings", &self.settings, settings::wanted),
-            ("corrections", &self.corrections, corrections::wanted),
-            ("edits", &self.edits, edits::wanted),
-        ]
     }
 }
 
@@ -508,8 +530,8 @@ fn never_done(given: &Given, count: &Count) -> Vec<String> {
             never.push(format!("{name} was never {what}"));
         }
     }
-    for code in given.codes {
-        if count.codes[*code] == 0 {
+    for code in given.codes() {
+        if count.codes[code] == 0 {
             never.push(format!("{name} never gave code {code}"));
         }
     }

@@ -4,7 +4,7 @@ use second::walk::{forward, Step, Tuple};
 use second::Order;
 
 /// The place of the first tuple.
-const FIRST: u64 = 4;
+pub const FIRST: u64 = 4;
 
 /// The tuples of a file from its first one up to where it can be walked, with its byte order;
 /// none of a file without a mark.
