@@ -32,7 +32,7 @@ use Rattle.quantities.specs.declared.Quantity.{Quantity}
 use Rattle.quantities.specs.Quantities.{hasAngles}
 use Rattle.quantities.specs.inner.Codes.{familyIn, familyOf}
 use Rattle.sampling.specs.declared.Span.{Span}
-use Rattle.sampling.specs.inner.Walking.{handedBy, handedLeft, SpanOf}
+use Rattle.sampling.specs.inner.Walking.{handedBy, handedLeft, SpanOf, valuesHanded}
 use Rattle.sampling.proofs.Walking.{span-handed}
 use Rattle.linear.specs.Linear.{firstOutside, total}
 use Rattle.linked.specs.declared.Spot.{Spot}
@@ -41,7 +41,6 @@ use Rattle.linked.specs.inner.Here.{FoundPing}
 use Rattle.energy.specs.declared.Echo.{Echo}
 use Rattle.energy.specs.declared.Echo.the-variants.{Sum, Refused}
 use Rattle.energy.specs.Energy.{isSv, valuesIn, echoRules, echoBy, echoSought, energyAt, EnergyTold}
-use Rattle.energy.specs.inner.Sums.{valuesHanded}
 use Rattle.energy.specs.inner.Telling.{echoHere}
 
 -- ---- by the rules

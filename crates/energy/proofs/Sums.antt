@@ -11,14 +11,14 @@ use Rattle.layout.specs.Families.{Family}
 use Rattle.layout.specs.Types.{shapeOf}
 use Rattle.samples.proofs.Runs.{by-bool}
 use Rattle.quantities.specs.inner.Codes.{familyOf}
-use Rattle.sampling.specs.declared.Stepped.{Stepped}
-use Rattle.sampling.specs.inner.Walking.{Handed, widthOf, handedLeft, stepped, SteppedTo}
-use Rattle.sampling.proofs.Walking.{left-end}
+use Rattle.sampling.specs.declared.Valued.{Valued}
+use Rattle.sampling.specs.inner.Walking.{widthOf, valuesLeft, valued, ValuedTo}
+use Rattle.sampling.proofs.Values.{values-end}
 use Rattle.linear.specs.Linear.{isInside, linearOf, firstOutside, total}
 use Rattle.linear.proofs.Totals.{outside-first, outside-later}
 use Rattle.energy.specs.declared.Summed.{Summed}
 use Rattle.energy.specs.declared.Summed.the-variants.{All, Outside}
-use Rattle.energy.specs.inner.Sums.{valuesHanded, summedFrom, summedOf}
+use Rattle.energy.specs.inner.Sums.{summedFrom, summedOf}
 
 -- ---- past a value
 module _ (f : Family) (v : ℤ) (vs : List ℤ) (i sum : ℕ) where
@@ -51,77 +51,69 @@ summed-tells f (v ∷ vs) i sum =
     later e (Outside p) h = (omega (arith, e), omega (arith, e))
 
 -- ---- a loop that adds up
-pub record Summing (k : ℕ) (o : Bool) (held : List ℕ) (sum nth number at : ℕ) : Type 0 where
+pub record Summing (k : ℕ) (o : Bool) (held : List ℕ) (sum nth at : ℕ) : Type 0 where
   pub within : at ≤ length held
-  pub near : number ≤ 16384 * at
   pub few : sum ≤ nth * 100000000000000
-  pub many : nth + length (handedLeft (shapeOf k) o number (drop at held)) ≡ length (handedLeft (shapeOf k) o 0 held)
-  pub same : summedFrom (familyOf k) (valuesHanded (handedLeft (shapeOf k) o number (drop at held))) nth sum
-      ≡ summedOf (familyOf k) (valuesHanded (handedLeft (shapeOf k) o 0 held))
+  pub many : nth + length (valuesLeft (shapeOf k) o (drop at held)) ≡ length (valuesLeft (shapeOf k) o held)
+  pub same : summedFrom (familyOf k) (valuesLeft (shapeOf k) o (drop at held)) nth sum ≡ summedOf (familyOf k) (valuesLeft (shapeOf k) o held)
 
-pub summing-begin : (k : ℕ) (o : Bool) (held : List ℕ) → Summing k o held 0 0 0 0
-summing-begin k o held = record { within = omega arith; near = omega arith; few = omega arith; many = omega arith; same = refl }
+pub summing-begin : (k : ℕ) (o : Bool) (held : List ℕ) → Summing k o held 0 0 0
+summing-begin k o held = record { within = omega arith; few = omega arith; many = omega arith; same = refl }
 
-module _ {k : ℕ} {o : Bool} {held : List ℕ} {sum nth number at : ℕ} (g : Summing k o held sum nth number at) where
+module _ {k : ℕ} {o : Bool} {held : List ℕ} {sum nth at : ℕ} (g : Summing k o held sum nth at) where
   abbrev whole : Summed
-  whole = summedOf (familyOf k) (valuesHanded (handedLeft (shapeOf k) o 0 held))
+  whole = summedOf (familyOf k) (valuesLeft (shapeOf k) o held)
 
   -- what is left there begins so
-  from-here : {s : List Handed} → handedLeft (shapeOf k) o number (drop at held) ≡ s
-      → (nth + length s ≡ length (handedLeft (shapeOf k) o 0 held)) × (summedFrom (familyOf k) (valuesHanded s) nth sum ≡ whole)
+  from-here : {vs : List ℤ} → valuesLeft (shapeOf k) o (drop at held) ≡ vs
+      → (nth + length vs ≡ length (valuesLeft (shapeOf k) o held)) × (summedFrom (familyOf k) vs nth sum ≡ whole)
   from-here e = (
-    ap (λ (s : List Handed). nth + length s) (sym e) ∙ g .many,
-    ap (λ (s : List Handed). summedFrom (familyOf k) (valuesHanded s) nth sum) (sym e) ∙ g .same,
+    ap (λ (vs : List ℤ). nth + length vs) (sym e) ∙ g .many,
+    ap (λ (vs : List ℤ). summedFrom (familyOf k) vs nth sum) (sym e) ∙ g .same,
   )
 
   pub summing-done : length held < at + widthOf (shapeOf k) → All sum ≡ whole
   unfolding summedFrom
-  summing-done h = from-here (left-end (shapeOf k) o number held at h) .1
+  summing-done h = from-here (values-end (shapeOf k) o held at h) .1
 
 -- ---- a turn of the loop: what stands at its place, of so many bytes
-pub record Turn (k : ℕ) (o : Bool) (held : List ℕ) (sum nth number at w : ℕ) (r : Stepped) : Type 0 where
-  pub before : Summing k o held sum nth number at
+pub record Turn (k : ℕ) (o : Bool) (held : List ℕ) (sum nth at w : ℕ) (r : Valued) : Type 0 where
+  pub before : Summing k o held sum nth at
   pub width : w ≡ widthOf (shapeOf k)
   pub fits : at + w ≤ length held
-  pub step : SteppedTo k o held at number r
+  pub step : ValuedTo k o held at r
 
-module _ {k : ℕ} {o : Bool} {held : List ℕ} {sum nth number at w : ℕ} {r : Stepped} (t : Turn k o held sum nth number at w r) where
-  abbrev rest : List Handed
-  rest = handedLeft (shapeOf k) o (r .next) (drop (at + w) held)
+module _ {k : ℕ} {o : Bool} {held : List ℕ} {sum nth at w : ℕ} {r : Valued} (t : Turn k o held sum nth at w r) where
+  abbrev rest : List ℤ
+  rest = valuesLeft (shapeOf k) o (drop (at + w) held)
 
-  left : (b : Bool) → r .sampled ≡ b → handedLeft (shapeOf k) o number (drop at held) ≡ cond b ((r .number, r .value) ∷ rest) rest
+  left : (b : Bool) → r .sampled ≡ b → valuesLeft (shapeOf k) o (drop at held) ≡ cond b (r .value ∷ rest) rest
   left b e =
       t .step .left
-      ∙ ap (λ (n : ℕ). stepped r (handedLeft (shapeOf k) o (r .next) (drop (at + n) held))) (sym (t .width))
-      ∙ ap (λ (x : Bool). cond x ((r .number, r .value) ∷ rest) rest) e
-
-  near : r .next ≤ 16384 * (at + w)
-  near = omega (arith, t .before .near, t .step .near, t .width)
+      ∙ ap (λ (n : ℕ). valued r (valuesLeft (shapeOf k) o (drop (at + n) held))) (sym (t .width))
+      ∙ ap (λ (x : Bool). cond x (r .value ∷ rest) rest) e
 
   -- a run passed
-  pub turn-run : r .sampled ≡ false → Summing k o held sum nth (r .next) (at + w)
+  pub turn-run : r .sampled ≡ false → Summing k o held sum nth (at + w)
   turn-run e =
       let here = from-here (t .before) (left false e) in
-      record { within = t .fits; near = near; few = t .before .few; many = here .0; same = here .1 }
+      record { within = t .fits; few = t .before .few; many = here .0; same = here .1 }
 
   -- a value: outside, or added
   module _ (e : r .sampled ≡ true) where
-    pub turn-stop : isInside (familyOf k) (r .value) ≡ false
-        → Outside nth ≡ summedOf (familyOf k) (valuesHanded (handedLeft (shapeOf k) o 0 held))
-    turn-stop i =
-        sym (summed-out (familyOf k) (r .value) (valuesHanded rest) nth sum i) ∙ from-here (t .before) (left true e) .1
+    pub turn-stop : isInside (familyOf k) (r .value) ≡ false → Outside nth ≡ summedOf (familyOf k) (valuesLeft (shapeOf k) o held)
+    turn-stop i = sym (summed-out (familyOf k) (r .value) rest nth sum i) ∙ from-here (t .before) (left true e) .1
 
-    pub turn-more : nth < length (handedLeft (shapeOf k) o 0 held)
+    pub turn-more : nth < length (valuesLeft (shapeOf k) o held)
     turn-more = omega (arith, from-here (t .before) (left true e) .0)
 
     pub turn-value : isInside (familyOf k) (r .value) ≡ true → {x : ℕ} → x ≡ linearOf (familyOf k) (r .value) → x ≤ 100000000000000
-        → Summing k o held (sum + x) (nth + 1) (r .next) (at + w)
+        → Summing k o held (sum + x) (nth + 1) (at + w)
     turn-value i {x} is small =
         let here = from-here (t .before) (left true e) in
         record {
           within = t .fits;
-          near = near;
           few = omega (arith, t .before .few);
           many = omega (arith, here .0);
-          same = rw is (sym (summed-in (familyOf k) (r .value) (valuesHanded rest) nth sum i) ∙ here .1);
+          same = rw is (sym (summed-in (familyOf k) (r .value) rest nth sum i) ∙ here .1);
         }

@@ -2,6 +2,7 @@
 use layout::Answer;
 use layout::Counts;
 use layout::codes;
+use linear::LEVELS;
 use linked::Found;
 use linked::Spot;
 use links::CHANNELS;
@@ -16,11 +17,11 @@ ghost use Rattle.layout.specs.Types.{shapeOf};
 ghost use Rattle.links.specs.Links.{mostChannels};
 ghost use Rattle.tuples.specs.Readers.{isValued};
 ghost use Rattle.quantities.specs.inner.Codes.{familyOf};
-ghost use Rattle.sampling.specs.inner.Walking.{handedLeft};
+ghost use Rattle.sampling.specs.inner.Walking.{valuesLeft};
 ghost use Rattle.linked.specs.inner.Here.{SpotHere};
-ghost use Rattle.linear.specs.Roots.{roots};
+ghost use Rattle.linear.specs.inner.Values.{allValues};
 ghost use Rattle.energy.specs.Energy.{isSv, sumIn, codeIn, placesOf, energiesOf, codesOf, EnergyTold, EnergiesTold};
-ghost use Rattle.energy.specs.inner.Sums.{valuesHanded, summedOf};
+ghost use Rattle.energy.specs.inner.Sums.{summedOf};
 ghost use Rattle.energy.specs.inner.Telling.{echoHere, Roomy};
 
 // What is told of a ping: its energy in units of 10^-14, with what the file's acceptance counts; or a refusal.
@@ -36,19 +37,18 @@ enum Summed {
 }
 
 // The linear values of the samples that bytes hold, added up.
-fn sum_up(table: &[u32; 200], held: &[u8], msb: bool, code: u16) -> Summed
-    requires { ⌜ (now table ≡ roots) × (isValued code ≡ true) ⌝ }
-    requires { ⌜ (length (now held) ≤ 262112) × (length (handedLeft (shapeOf code) msb 0 (now held)) ≤ 32764) ⌝ }
-    ensures { λ r. ⌜ r ≡ summedOf (familyOf code) (valuesHanded (handedLeft (shapeOf code) msb 0 (now (held .entry)))) ⌝ }
+fn sum_up(values: &[u64; LEVELS], held: &[u8], msb: bool, code: u16) -> Summed
+    requires { ⌜ (now values ≡ allValues) × (isValued code ≡ true) ⌝ }
+    requires { ⌜ (length (now held) ≤ 262112) × (length (valuesLeft (shapeOf code) msb (now held)) ≤ 32764) ⌝ }
+    ensures { λ r. ⌜ r ≡ summedOf (familyOf code) (valuesLeft (shapeOf code) msb (now (held .entry))) ⌝ }
 {
     let width = sampling::width_of(code);
     let unit = linear::unit_of(code);
     let mut sum: u64 = 0;
     let mut nth: usize = 0;
-    let mut number: u32 = 0;
     let mut at: usize = 0;
     while width <= held.len() - at {
-        let it = sampling::sample_at(held, at, number, msb, code);
+        let it = sampling::value_at(held, at, msb, code);
         let sampled = it.sampled;
         if sampled {
             let value = it.value;
@@ -59,10 +59,9 @@ fn sum_up(table: &[u32; 200], held: &[u8], msb: bool, code: u16) -> Summed
             if linear::QUIETEST < depth {
                 return Summed::Outside(nth);
             }
-            sum += linear::linear_below(table, depth);
+            sum += linear::linear_below(values, depth);
             nth += 1;
         }
-        number = it.next;
         at += width;
     }
     Summed::All(sum)
@@ -80,8 +79,8 @@ fn is_sv(quantity: Quantity) -> bool
 }
 
 // What is told of a linked ping: 28 for angles or a channel that isn't Sv, 29 for a value outside, or its energy.
-fn echo_of(table: &[u32; 200], file: &[u8], ping: Spot, counts: Counts) -> Echo
-    requires { ⌜ now table ≡ roots ⌝ }
+fn echo_of(values: &[u64; LEVELS], file: &[u8], ping: Spot, counts: Counts) -> Echo
+    requires { ⌜ now values ≡ allValues ⌝ }
     requires { ⌜ SpotHere (now file) ping ⌝ }
     ensures { λ r. ⌜ r ≡ echoHere (now (file .entry)) ping counts ⌝ }
 {
@@ -106,7 +105,7 @@ fn echo_of(table: &[u32; 200], file: &[u8], ping: Spot, counts: Counts) -> Echo
     let span = sampling::span_of(part, msb, code);
     let from = span.from;
     let until = span.end;
-    match sum_up(table, &part[from..until], msb, code) {
+    match sum_up(values, &part[from..until], msb, code) {
         Summed::Outside(nth) => Echo::Refused {
             code: codes::OUTSIDE_LEVELS,
             place: nth,
@@ -128,8 +127,9 @@ pub fn energy(file: &[u8], place: usize) -> Echo
                 place,
             },
             Found::Ping(ping) => {
-                let table = linear::table();
-                echo_of(&table, file, ping, counts)
+                let mut values = [0u64; LEVELS];
+                linear::fill_values(&mut values);
+                echo_of(&values, file, ping, counts)
             }
         },
     }
@@ -160,7 +160,7 @@ fn code_in(echo: Echo) -> u8
 
 // Fills the three slices for an accepted file, tuple by tuple; the rows are lent for the channels declared so far.
 fn fill_with(
-    table: &[u32; 200],
+    values: &[u64; LEVELS],
     file: &[u8],
     counts: Counts,
     places: &mut [usize],
@@ -169,7 +169,7 @@ fn fill_with(
     rows: &mut [Row; CHANNELS],
     notes: &mut [u16; CHANNELS],
 )
-    requires { ⌜ (now table ≡ roots) × (length (now rows) ≡ mostChannels) ⌝ }
+    requires { ⌜ (now values ≡ allValues) × (length (now rows) ≡ mostChannels) ⌝ }
     requires { ⌜ Roomy (now file) counts (length (now places)) (length (now energies)) (length (now codes)) ⌝ }
     ensures { λ _. ⌜ now (places .exit) ≡ sets (now (places .entry)) 0 (placesOf (now (file .entry))) ⌝ }
     ensures { λ _. ⌜ now (energies .exit) ≡ sets (now (energies .entry)) 0 (energiesOf (now (file .entry))) ⌝ }
@@ -191,7 +191,7 @@ fn fill_with(
                 code,
                 quantity,
             };
-            let echo = echo_of(table, file, ping, counts);
+            let echo = echo_of(values, file, ping, counts);
             places[row] = at;
             energies[row] = units_in(echo);
             codes[row] = code_in(echo);
@@ -209,11 +209,12 @@ fn fill(file: &[u8], counts: Counts, places: &mut [usize], energies: &mut [u64],
     ensures { λ _. ⌜ now (energies .exit) ≡ sets (now (energies .entry)) 0 (energiesOf (now (file .entry))) ⌝ }
     ensures { λ _. ⌜ now (codes .exit) ≡ sets (now (codes .entry)) 0 (codesOf (now (file .entry))) ⌝ }
 {
-    let table = linear::table();
+    let mut values = [0u64; LEVELS];
+    linear::fill_values(&mut values);
     let mut rows = [links::BLANK; CHANNELS];
     let mut notes = [0u16; CHANNELS];
     fill_with(
-        &table,
+        &values,
         file,
         counts,
         places,

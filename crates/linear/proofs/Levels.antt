@@ -36,26 +36,29 @@ stepped d = record { rest = omega arith; down = omega arith; next = omega arith 
 depths-fall : (d e : ℕ) → d ≤ e → e ≤ 150000000 → linearBelow e ≤ linearBelow d
 depths-fall d e h k = steps-fall (stepsOf d) (stepsOf e) (omega arith) (omega arith)
 
-loudest : linearBelow 0 ≤ 100000000000000
+loudest : linearAt 0 ≤ 100000000000000
 unfolding linearAt scaled roots
 loudest = lit≤ tt
 
+steps-most : (s : ℕ) → s ≤ 3000 → linearAt s ≤ 100000000000000
+steps-most s h = le-trans (steps-fall 0 s zero-le h) loudest
+
 pub below-most : (d : ℕ) → d ≤ 150000000 → linearBelow d ≤ 100000000000000
-below-most d h = le-trans (depths-fall 0 d zero-le h) loudest
+below-most d h = steps-most (stepsOf d) (omega arith)
 
 -- as the code tells it: by an entry e and a power p of ten, with its bound
-module _ (d : ℕ) {e p : ℕ} (h : d ≤ 150000000) (entry : e ≡ getD roots (restOf (stepsOf d)) 0) where
-  pub told-up : tensOf (stepsOf d) ≤ 8 → p ≡ 10 ^ (8 - tensOf (stepsOf d)) → (e * p ≡ linearBelow d) × (e * p ≤ 100000000000000)
+module _ (s : ℕ) {e p : ℕ} (h : s ≤ 3000) (entry : e ≡ getD roots (restOf s) 0) where
+  pub told-up : tensOf s ≤ 8 → p ≡ 10 ^ (8 - tensOf s) → (e * p ≡ linearAt s) × (e * p ≤ 100000000000000)
   unfolding linearAt scaled
   told-up g power =
-      let r : e * p ≡ linearBelow d = rw (entry, power) (rw (le-leb _ _ g, scaled)) in
-      (r, rw r (below-most d h))
+      let r : e * p ≡ linearAt s = rw (entry, power) (rw (le-leb _ _ g, scaled)) in
+      (r, rw r (steps-most s h))
 
-  pub told-down : 8 < tensOf (stepsOf d) → p ≡ 10 ^ (tensOf (stepsOf d) - 8) → (e / p ≡ linearBelow d) × (e / p ≤ 100000000000000)
+  pub told-down : 8 < tensOf s → p ≡ 10 ^ (tensOf s - 8) → (e / p ≡ linearAt s) × (e / p ≤ 100000000000000)
   unfolding linearAt scaled
   told-down g power =
-      let r : e / p ≡ linearBelow d = rw (entry, power) (rw (lt-leb _ _ g, scaled)) in
-      (r, rw r (below-most d h))
+      let r : e / p ≡ linearAt s = rw (entry, power) (rw (lt-leb _ _ g, scaled)) in
+      (r, rw r (steps-most s h))
 
 -- ---- of a stored value: what is inside lies at most 150 dB below 0
 pub deep : (f : Family) (v : ℤ) → isInside f v ≡ true → depthOf f v ≤ 150000000

@@ -1,5 +1,6 @@
 pub mod Rule
 pub mod Levels
+pub mod Values
 pub mod Totals
 pub mod Powers
 pub mod Negated

@@ -1,3 +1,4 @@
 pub mod Roots
 pub mod Linear
 pub mod Results
+pub mod inner

@@ -2,10 +2,11 @@
 use layout::types;
 ghost use mathlib.Core.Path.{_≡_};
 ghost use Prim.Native.Nat.{_*_, _^_, _≤_, _<_};
-ghost use lib.ListN.{getD};
+ghost use lib.ListN.{length, getD};
 ghost use Rattle.quantities.specs.inner.Codes.{familyOf};
 ghost use Rattle.linear.specs.Roots.{roots};
-ghost use Rattle.linear.specs.Linear.{linearBelow, millionths, negated};
+ghost use Rattle.linear.specs.Linear.{linearAt, linearBelow, millionths, negated};
+ghost use Rattle.linear.specs.inner.Values.{allValues};
 
 // A level is stepped down to a multiple of 0.05 dB; 10 dB are so many steps, and the table has an entry for each.
 const STEP: u64 = 50_000;
@@ -14,6 +15,9 @@ const STEPS: u64 = 200;
 
 // The quietest level, in millionths of a decibel below 0 dB.
 pub const QUIETEST: u64 = 150_000_000;
+
+// The levels from 0 dB down to it, a step apart, both counted.
+pub const LEVELS: usize = 3_001;
 
 // An entry is in units of 10^-6 of its 10 dB, a sum in units of 10^-14.
 const SHIFT: u64 = 8;
@@ -223,7 +227,7 @@ const ROOTS: [u32; 200] = [
 ];
 
 // The table, to be lent to all that use it: a constant array at a place that isn't known when compiled is laid on the stack at each use.
-pub fn table() -> [u32; 200]
+fn table() -> [u32; 200]
     ensures { λ r. ⌜ r ≡ roots ⌝ }
 {
     ROOTS
@@ -261,12 +265,11 @@ fn entry(table: &[u32; 200], k: usize) -> u64
     wide(table[k])
 }
 
-// The linear value of a level so far below 0 dB.
-pub fn linear_below(table: &[u32; 200], depth: u64) -> u64
-    requires { ⌜ (now table ≡ roots) × (depth ≤ 150000000) ⌝ }
-    ensures { λ r. ⌜ (r ≡ linearBelow depth) × (r ≤ 100000000000000) ⌝ }
+// The linear value so many steps below 0 dB.
+fn linear_at(table: &[u32; 200], steps: u64) -> u64
+    requires { ⌜ (now table ≡ roots) × (steps ≤ 3000) ⌝ }
+    ensures { λ r. ⌜ (r ≡ linearAt steps) × (r ≤ 100000000000000) ⌝ }
 {
-    let steps = (depth + (STEP - 1)) / STEP;
     let tens = (steps + (STEPS - 1)) / STEPS;
     let k = (STEPS * tens - steps) as usize;
     let e = entry(table, k);
@@ -274,6 +277,28 @@ pub fn linear_below(table: &[u32; 200], depth: u64) -> u64
         return e * power(SHIFT - tens);
     }
     e / power(tens - SHIFT)
+}
+
+// The linear values of all levels, to be lent to all that use them.
+pub fn fill_values(values: &mut [u64; LEVELS])
+    requires { ⌜ length (now values) ≡ 3001 ⌝ }
+    ensures { λ _. ⌜ now (values .exit) ≡ allValues ⌝ }
+{
+    let table = table();
+    let mut i: usize = 0;
+    while i < LEVELS {
+        values[i] = linear_at(&table, i as u64);
+        i += 1;
+    }
+}
+
+// The linear value of a level so far below 0 dB.
+pub fn linear_below(values: &[u64; LEVELS], depth: u64) -> u64
+    requires { ⌜ (now values ≡ allValues) × (depth ≤ 150000000) ⌝ }
+    ensures { λ r. ⌜ (r ≡ linearBelow depth) × (r ≤ 100000000000000) ⌝ }
+{
+    let steps = (depth + (STEP - 1)) / STEP;
+    values[steps as usize]
 }
 
 // How far a value lies below 0, in its unit.

@@ -34,7 +34,7 @@ use Rattle.sampling.specs.inner.Walking.{Handed, handedBy, widthOf, left
 use Rattle.sampling.specs.inner.Walking.{stepped, wordsLeft, WordPassed, SteppedTo}
 
 -- ---- what is left at a place, as the readers of samples have it
-words-left : (k : ℕ) (o : Bool) (held : List ℕ) (at : ℕ) → allWords k o (drop at held) ≡ wordsFrom k o held at
+pub words-left : (k : ℕ) (o : Bool) (held : List ℕ) (at : ℕ) → allWords k o (drop at held) ≡ wordsFrom k o held at
 unfolding allWords wordsFrom
 words-left k o held at = ap (λ (n : ℕ). words k o (n / k) (drop at held)) (length-drop at held)
 

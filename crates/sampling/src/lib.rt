@@ -9,7 +9,7 @@ ghost use Rattle.layout.specs.Types.{shapeOf};
 ghost use Rattle.samples.specs.inner.Narrow.{wordsBy};
 ghost use Rattle.tuples.specs.Readers.{isValued};
 ghost use Rattle.pings.specs.inner.Handing.{SoundPart};
-ghost use Rattle.sampling.specs.inner.Walking.{widthOf, SpanOf, WordPassed, SteppedTo};
+ghost use Rattle.sampling.specs.inner.Walking.{widthOf, SpanOf, WordPassed, SteppedTo, WordValued, ValuedTo};
 
 // Where a ping's samples stand in its part, from its first byte to the one behind its last.
 pub struct Span {
@@ -24,6 +24,12 @@ pub struct Stepped {
     pub number: u32,
     pub value: i32,
     pub next: u32,
+}
+
+// The same without numbers: a value, or, where it is none, a run.
+pub struct Valued {
+    pub sampled: bool,
+    pub value: i32,
 }
 
 // Where the samples stand: all of an uncompressed ping's part; of a compressed one's its words, without the space behind them.
@@ -134,5 +140,47 @@ pub fn sample_at(held: &[u8], at: usize, number: u32, msb: bool, code: u16) -> S
         types::PING_C16 => narrow_word(order::read2(held, at, msb), number, false),
         // CE-16
         _ => narrow_word(order::read2(held, at, msb), number, true),
+    }
+}
+
+// A word of four bytes, whatever its number.
+fn wide_value(word: u32) -> Valued
+    ensures { λ r. ⌜ WordValued wide word r ⌝ }
+{
+    Valued {
+        sampled: !samples::is_run(word),
+        value: order::signed4(word),
+    }
+}
+
+// One of two bytes.
+fn narrow_value(word: u16, encoded: bool) -> Valued
+    ensures { λ r. ⌜ WordValued (wordsBy encoded) word r ⌝ }
+{
+    Valued {
+        sampled: !samples16::is_run(word),
+        value: samples16::value_of(word, encoded),
+    }
+}
+
+// The value that stands at a place of the bytes that hold samples, for those who add values up and ask for no numbers.
+pub fn value_at(held: &[u8], at: usize, msb: bool, code: u16) -> Valued
+    requires { ⌜ isValued code ≡ true ⌝ }
+    requires { ⌜ at + widthOf (shapeOf code) ≤ length (now held) ⌝ }
+    ensures { λ r. ⌜ ValuedTo code msb (now (held .entry)) at r ⌝ }
+{
+    match code {
+        types::PING_U => Valued {
+            sampled: true,
+            value: order::signed4(order::read4(held, at + samples::WORD, msb)),
+        },
+        types::PING_C => wide_value(order::read4(held, at, msb)),
+        types::PING_U16 => Valued {
+            sampled: true,
+            value: order::signed2(order::read2(held, at + samples16::WORD, msb)) as i32,
+        },
+        types::PING_C16 => narrow_value(order::read2(held, at, msb), false),
+        // CE-16
+        _ => narrow_value(order::read2(held, at, msb), true),
     }
 }

@@ -9,7 +9,7 @@ use Rattle.quantities.specs.inner.Codes.{familyOf}
 use Rattle.tuples.specs.Readers.{isValued}
 use Rattle.layout.specs.Types.{shapeOf}
 use Rattle.pings.specs.inner.Handing.{partSamples}
-use Rattle.sampling.proofs.Walking.{span-many}
+use Rattle.sampling.proofs.Values.{span-values}
 use Rattle.linked.specs.inner.Here.{partAt}
 use Rattle.energy.specs.declared.Summed.the-variants.{All, Outside}
 use Rattle.energy.specs.Energy.{isSv, valuesIn}
@@ -51,7 +51,7 @@ sum-up-requires c κs =
     let e = judged (c .before) .before .before in
     let before = start (e .before) .pre in
     let span = c .before .span-of .ensures in
-    ((before .0, valued e), (span-short span 262112 (before .1 .sound .few), omega (arith, span-many span, before .1 .few)))
+    ((before .0, valued e), (span-short span 262112 (before .1 .sound .few), omega (arith, span-values span, before .1 .few)))
 
 sv : (c : tie.Else2) → isSv (start (c .before .before .before) .args .ping .quantity) ≡ true
 sv c = sym (c .before .is-sv .ensures) ∙ not-false _ (c .if2 .left)

@@ -16,8 +16,8 @@ start c = c .before .before
 abbrev checked : tie.After-find → tie.After-counts
 checked c = c .before .before
 
-abbrev pinged : tie.After-table2 → tie.After-ping
-pinged c = c .before .before .before
+abbrev pinged : tie.After-values2 → tie.After-ping
+pinged c = c .before .before .before .before
 
 -- the check accepts
 accepted : (c : tie.After-counts) → checkFile (start (c .before .before) .args .file .now) ≡ Accepted (c .counts .given .0 .0)
@@ -52,7 +52,7 @@ energy-spec =
     (λ c. search needs)
     (λ c. search needs)
     (λ c κs. search needs)
-    (λ c κs. (c .before .table .ensures, found (pinged c) .here))
+    (λ c κs. (c .before .fill-values .ensures, found (pinged c) .here))
     returns
     returns-2
     returns-3)

@@ -19,16 +19,16 @@ use Rattle.energy.proofs.sum_up.Statement.{statement}
 use Rattle.energy.proofs.sum_up.Tie as tie
 
 abbrev Inv-loop : tie.InvT-loop
-Inv-loop table held msb code width unit sum₀ nth₀ number₀ at₀ sum nth number at = Summing code msb held sum nth number at
+Inv-loop table held msb code width unit sum₀ nth₀ at₀ sum nth at = Summing code msb held sum nth at
 
 abbrev μ-loop : tie.MeasureT-loop
-μ-loop table held msb code width unit sum₀ nth₀ number₀ at₀ sum nth number at = length held - at
+μ-loop table held msb code width unit sum₀ nth₀ at₀ sum nth at = length held - at
 
 -- places, named by what has been done there
 abbrev start : tie.At-loop Inv-loop μ-loop → tie.Start Inv-loop μ-loop
 start c = c .before .before .before .before
 
-abbrev looping : tie.After-sample-at Inv-loop μ-loop → tie.At-loop Inv-loop μ-loop
+abbrev looping : tie.After-value-at Inv-loop μ-loop → tie.At-loop Inv-loop μ-loop
 looping c = c .before .before
 
 abbrev told : tie.After-negated-of Inv-loop μ-loop → tie.After-struct-told Inv-loop μ-loop
@@ -42,29 +42,29 @@ fits : (c : tie.In-loop Inv-loop μ-loop)
     → c .before .loop .at + c .before .before .before .width-of .result ≤ length (start (c .before) .args .held .now)
 fits c = omega (arith, c .before .loop .inv .within)
 
-sample-at-requires : tie.Need-sample-at-requires Inv-loop μ-loop
-sample-at-requires c κs =
+value-at-requires : tie.Need-value-at-requires Inv-loop μ-loop
+value-at-requires c κs =
     let before = start (c .before) .pre in
     let f = fits c in (
       before .0 .1,
-      (rw (← c .before .before .before .width-of .ensures .0) f, omega (arith, c .before .loop .inv .near, before .1 .0)),
+      rw (← c .before .before .before .width-of .ensures .0) f,
     )
 
-turn : (c : tie.After-sample-at Inv-loop μ-loop) → let l = looping c in
+turn : (c : tie.After-value-at Inv-loop μ-loop) → let l = looping c in
     let a = start l .args in
-    Turn (a .code) (a .msb) (a .held .now) (l .loop .sum) (l .loop .nth) (l .loop .number) (l .loop .at)
-    (l .before .before .width-of .result) (c .sample-at .result)
+    Turn (a .code) (a .msb) (a .held .now) (l .loop .sum) (l .loop .nth) (l .loop .at)
+    (l .before .before .width-of .result) (c .value-at .result)
 turn c =
     let l = looping c in
-    record { before = l .loop .inv; width = l .before .before .width-of .ensures .0; fits = fits (c .before); step = c .sample-at .ensures }
+    record { before = l .loop .inv; width = l .before .before .width-of .ensures .0; fits = fits (c .before); step = c .value-at .ensures }
 
 -- the value as the code holds it, back from its bits; and how far it lies below 0 dB
-same : (c : tie.After-struct-told Inv-loop μ-loop) → let v = c .before .before .sample-at .result .value in toZ w32 (ofZ w32 v) ≡ v
-same c = toZ-ofZ w32 _ (record { sfits = c .struct-told .given .1 .1 .0 .1 })
+same : (c : tie.After-struct-told Inv-loop μ-loop) → let v = c .before .before .value-at .result .value in toZ w32 (ofZ w32 v) ≡ v
+same c = toZ-ofZ w32 _ (record { sfits = c .struct-told .given .1 .0 .1 })
 
 depth-here : (c : tie.After-negated-of Inv-loop μ-loop) → let l = looping (sampled c .before) in
     c .negated-of .result * l .before .unit-of .result
-    ≡ depthOf (familyOf (start l .args .code)) (sampled c .before .sample-at .result .value)
+    ≡ depthOf (familyOf (start l .args .code)) (sampled c .before .value-at .result .value)
 depth-here c =
     ap₂ (λ (x y : ℕ). x * y) (c .negated-of .ensures .0 ∙ ap negated (same (told c)))
     (looping (sampled c .before) .before .unit-of .ensures .0)
@@ -86,7 +86,7 @@ returns-2 c =
 
 -- a value inside
 inside : (c : tie.Else3 Inv-loop μ-loop) → let s = sampled (c .before) in
-    isInside (familyOf (start (looping (s .before)) .args .code)) (s .before .sample-at .result .value) ≡ true
+    isInside (familyOf (start (looping (s .before)) .args .code)) (s .before .value-at .result .value) ≡ true
 inside c = within _ _ (rw (same (told (c .before))) at (c .before .before .if2 .left)) (rw (depth-here (c .before)) at (c .if3 .left))
 
 few : (c : tie.Then1 Inv-loop μ-loop) → looping (c .before) .loop .nth < 32764
@@ -105,7 +105,7 @@ added : (c : tie.After-linear-below Inv-loop μ-loop) → let s = sampled (c .be
     let l = looping (s .before) in
     let a = start l .args in
     Summing (a .code) (a .msb) (a .held .now) (l .loop .sum + c .linear-below .result) (l .loop .nth + 1)
-    (s .before .sample-at .result .next) (l .loop .at + l .before .before .width-of .result)
+    (l .loop .at + l .before .before .width-of .result)
 unfolding linearOf
 added c =
     let s = sampled (c .before .before) in
@@ -145,7 +145,7 @@ sum-up-spec =
     (λ c κs. search needs)
     (λ c. summing-begin _ _ _)
     (λ c. c .loop .inv .within)
-    sample-at-requires
+    value-at-requires
     returns
     (λ c κs. search needs)
     mul-depth

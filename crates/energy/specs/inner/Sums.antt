@@ -1,17 +1,12 @@
 -- Sums as the code makes them: a value after the other, up to the first outside. Assumes nothing.
 use Prim.Native.Nat.{ℕ, _+_}
 use mathlib.Core.Bool.{true, false}
-use mathlib.Core.List.{List, [], _∷_, map}
+use mathlib.Core.List.{List, [], _∷_}
 use lib.IntN.{ℤ}
 use Rattle.layout.specs.Families.{Family}
-use Rattle.sampling.specs.inner.Walking.{Handed}
 use Rattle.energy.specs.declared.Summed.{Summed}
 use Rattle.energy.specs.declared.Summed.the-variants.{All, Outside}
 use Rattle.linear.specs.Linear.{isInside, linearOf}
-
--- the values of samples as they are handed over
-abbrev pub valuesHanded : List Handed → List ℤ
-valuesHanded s = map (λ (x : Handed). x .1) s
 
 -- behind i values that make a sum
 unfoldable pub summedFrom : Family → List ℤ → ℕ → ℕ → Summed

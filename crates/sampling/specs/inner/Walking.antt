@@ -15,6 +15,7 @@ use Rattle.samples.specs.Values.{meant, revalued}
 use Rattle.pings.specs.inner.Handing.{partSamples, partWidth}
 use Rattle.sampling.specs.declared.Span.{Span}
 use Rattle.sampling.specs.declared.Stepped.{Stepped}
+use Rattle.sampling.specs.declared.Valued.{Valued}
 
 -- a sample as it is handed over: its number, and its value of w bytes with its sign
 abbrev pub Handed : Type 0
@@ -62,8 +63,23 @@ pub record WordPassed (f : Family) (word number : ℕ) (r : Stepped) : Type 0 wh
   pub near : r .next ≤ number + radixOf f
 
 -- past what stands at a place
-
 pub record SteppedTo (k : ℕ) (o : Bool) (held : List ℕ) (at number : ℕ) (r : Stepped) : Type 0 where
   pub left : handedLeft (shapeOf k) o number (drop at held)
       ≡ stepped r (handedLeft (shapeOf k) o (r .next) (drop (at + widthOf (shapeOf k)) held))
   pub near : r .next ≤ number + 16384 * widthOf (shapeOf k)
+
+-- ---- the same of values alone, whatever their numbers
+abbrev pub valuesHanded : List Handed → List ℤ
+valuesHanded s = map (λ (x : Handed). x .1) s
+
+abbrev pub valuesLeft : Shape → Bool → List ℕ → List ℤ
+valuesLeft q o r = valuesHanded (handedLeft q o 0 r)
+
+abbrev pub valued : Valued → List ℤ → List ℤ
+valued r left = cond (r .sampled) (r .value ∷ left) left
+
+pub record WordValued (f : Family) (word : ℕ) (r : Valued) : Type 0 where
+  pub left : (ws : List ℕ) → valuesHanded (wordsLeft f 0 (word ∷ ws)) ≡ valued r (valuesHanded (wordsLeft f 0 ws))
+
+pub record ValuedTo (k : ℕ) (o : Bool) (held : List ℕ) (at : ℕ) (r : Valued) : Type 0 where
+  pub left : valuesLeft (shapeOf k) o (drop at held) ≡ valued r (valuesLeft (shapeOf k) o (drop (at + widthOf (shapeOf k)) held))
