@@ -1,6 +1,8 @@
 // The C boundary: each public call of the library, exported on numbers and slices of numbers alone. A call tells its answer in lent
 // entries: code, place, tuples, length and identifiers compared, then, where it accepts, what it found; it hands the code back too.
 // Where fewer entries are lent than it may tell it does nothing and hands 19 back. include/hac.h says all this to those who call.
+#![tactic(auto)]
+
 mod handed;
 mod of_corrections;
 mod of_edits;

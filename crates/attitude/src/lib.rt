@@ -1,5 +1,7 @@
 // Made from views/records.txt by views/make.
 // Attitude, type 40: TR Table 10. A platform's. Software channel 65535 means all channels, here alone.
+#![tactic(auto)]
+
 ghost use Rattle.std.specs.Prelude.{◌≡◌};
 ghost use Rattle.tuples.specs.Readers.{row_of};
 ghost use Rattle.rows.specs.Integers.{integers_from, patterns};
@@ -9,7 +11,7 @@ ghost use Rattle.attitude.specs.Attitude.{attitude_of, attitude_integers, Attitu
 use layout::{Answer, SoftwareChannel, types};
 use rows::RowRead;
 
-#[derive(Drop)]
+#[derive(Clone, Copy)]
 pub struct Attitude {
     pub time_fraction: u16,
     pub time_cpu: u32,
@@ -24,7 +26,7 @@ pub struct Attitude {
 }
 
 // What reading gives: the record, or a refusal.
-#[derive(Drop)]
+#[derive(Clone, Copy)]
 pub enum AttitudeRead {
     Read(Attitude),
     Refused { code: u8, place: usize },

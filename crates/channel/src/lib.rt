@@ -1,6 +1,8 @@
 // Made from views/records.txt by views/make.
 // Channel, type 1000: TR Table 4. A channel of a Biosonics echosounder, which names one of that maker. Its remarks, 30
 // characters, stand beside it; to write others is refused by 9 at 0.
+#![tactic(auto)]
+
 ghost use Rattle.std.specs.Prelude.{◌≡◌};
 ghost use Rattle.tuples.specs.Readers.{row_of};
 ghost use Rattle.rows.specs.Integers.{integers_from, patterns};
@@ -11,7 +13,7 @@ use layout::{Answer, DocumentId, SoftwareChannel, Transceiver, types};
 use rows::RowRead;
 use tuples::Part;
 
-#[derive(Drop)]
+#[derive(Clone, Copy)]
 pub struct Channel {
     pub software_channel_identifier: SoftwareChannel,
     pub echosounder_document_identifier: DocumentId,
@@ -41,7 +43,7 @@ pub struct Channel {
 }
 
 // What reading gives: the record and the place of its remarks, or a refusal.
-#[derive(Drop)]
+#[derive(Clone, Copy)]
 pub enum ChannelRead {
     Read { record: Channel, remarks: Part },
     Refused { code: u8, place: usize },

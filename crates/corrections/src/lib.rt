@@ -1,4 +1,6 @@
 // Corrections beside the deposit: the ping of a software channel and a ping number, as a part of the file that it is from.
+#![tactic(auto)]
+
 ghost use Rattle.std.specs.Prelude.{◌≡◌, drop};
 ghost use Rattle.frame.specs.Frames.{kind_at, tup_at};
 ghost use Rattle.content.specs.Items.{item_of};
@@ -10,14 +12,14 @@ ghost use Rattle.corrections.specs.inner.Spans.{Inside, Within};
 use layout::{Answer, SoftwareChannel, codes};
 
 // Where a ping stands in a file, and its length; or that none is there.
-#[derive(Drop)]
+#[derive(Clone, Copy)]
 pub enum Spot {
     At { from: usize, length: usize },
     Nowhere,
 }
 
 // Where the bytes stand: in which file, from where on and how many; or whose refusal, by its file's mark, its code and its place.
-#[derive(Drop)]
+#[derive(Clone, Copy)]
 pub enum Found {
     Corrected { from: usize, length: usize },
     Deposited { from: usize, length: usize },

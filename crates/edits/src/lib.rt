@@ -1,4 +1,6 @@
 // Edits: a file written anew with its index: the index written, tuples appended, a tuple removed.
+#![tactic(auto)]
+
 ghost use Rattle.std.specs.Prelude.{◌≡◌, true, false, ◌+◌, ◌≤◌, ◌<◌, length, drop, replicate};
 ghost use Rattle.std.proofs.lemmas.List.Edits.{sets};
 ghost use Rattle.frame.specs.Files.{limit};
@@ -20,14 +22,14 @@ use layout::{Answer, Counts, Verdict, codes, types};
 use links::{CHANNELS, Row, SOUNDERS};
 
 // How many bytes a result has, and its index.
-#[derive(Drop)]
+#[derive(Clone, Copy)]
 struct Size {
     whole: usize,
     index: usize,
 }
 
 // What is found of a part: the bytes of the tuples kept of it, and where its tuples end.
-#[derive(Drop)]
+#[derive(Clone, Copy)]
 struct Found {
     kept: usize,
     end: usize,

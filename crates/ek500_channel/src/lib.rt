@@ -1,6 +1,8 @@
 // Made from views/records.txt by views/make.
 // Ek500Channel, type 2000: TR Table 5. A channel of an EK-500, which names an echosounder of that maker. Its remarks, 30
 // characters, stand beside it; to write others is refused by 9 at 0.
+#![tactic(auto)]
+
 ghost use Rattle.std.specs.Prelude.{◌≡◌};
 ghost use Rattle.tuples.specs.Readers.{row_of};
 ghost use Rattle.rows.specs.Integers.{integers_from, patterns};
@@ -11,7 +13,7 @@ use layout::{Answer, DocumentId, SoftwareChannel, Transceiver, types};
 use rows::RowRead;
 use tuples::Part;
 
-#[derive(Drop)]
+#[derive(Clone, Copy)]
 pub struct Ek500Channel {
     pub software_channel_identifier: SoftwareChannel,
     pub echosounder_document_identifier: DocumentId,
@@ -41,7 +43,7 @@ pub struct Ek500Channel {
 }
 
 // What reading gives: the record and the place of its remarks, or a refusal.
-#[derive(Drop)]
+#[derive(Clone, Copy)]
 pub enum Ek500ChannelRead {
     Read { record: Ek500Channel, remarks: Part },
     Refused { code: u8, place: usize },

@@ -2,6 +2,8 @@
 // Ek500Sounder, type 200: TR Table 3. An echosounder of the other maker, the EK-500 of Simrad. The start of its super layer is
 // one signed number of four bytes at 30: nothing is aligned. Its remarks, 30 characters, stand beside it; to write others is
 // refused by 9 at 0.
+#![tactic(auto)]
+
 ghost use Rattle.std.specs.Prelude.{◌≡◌};
 ghost use Rattle.tuples.specs.Readers.{row_of};
 ghost use Rattle.rows.specs.Integers.{integers_from, patterns};
@@ -12,7 +14,7 @@ use layout::{Answer, DocumentId, types};
 use rows::RowRead;
 use tuples::Part;
 
-#[derive(Drop)]
+#[derive(Clone, Copy)]
 pub struct Ek500Sounder {
     pub number_of_software_channels: u16,
     pub echosounder_document_identifier: DocumentId,
@@ -33,7 +35,7 @@ pub struct Ek500Sounder {
 }
 
 // What reading gives: the record and the place of its remarks, or a refusal.
-#[derive(Drop)]
+#[derive(Clone, Copy)]
 pub enum Ek500SounderRead {
     Read { record: Ek500Sounder, remarks: Part },
     Refused { code: u8, place: usize },

@@ -1,4 +1,6 @@
 // Energy: the echo energy of a ping, and of all pings of a file, in linear units.
+#![tactic(auto)]
+
 ghost use Rattle.std.specs.Prelude.{◌≡◌, true, ◌≤◌, length};
 ghost use Rattle.std.proofs.lemmas.List.Edits.{sets};
 ghost use Rattle.layout.specs.Types.{shape_of};
@@ -19,14 +21,14 @@ use links::{CHANNELS, Row};
 use quantities::Quantity;
 
 // What is told of a ping: its energy in units of 10^-14, with what the file's acceptance counts; or a refusal.
-#[derive(Drop)]
+#[derive(Clone, Copy)]
 pub enum Echo {
     Sum { units: u64, counts: Counts },
     Refused { code: u8, place: usize },
 }
 
 // What adding up values gives: the sum of all, or the place among them of the first outside -150 to 0 dB.
-#[derive(Drop)]
+#[derive(Clone, Copy)]
 enum Summed {
     All(u64),
     Outside(usize),

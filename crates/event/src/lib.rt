@@ -1,6 +1,8 @@
 // Made from views/records.txt by views/make.
 // Event, type 10110: TR Table 11. An event marker. Its text, a multiple of four characters and not none, stands beside it; to
 // write another is refused by 9 at 0, one that makes the tuple too long by 11 at 0.
+#![tactic(auto)]
+
 ghost use Rattle.std.specs.Prelude.{◌≡◌};
 ghost use Rattle.tuples.specs.Readers.{row_of};
 ghost use Rattle.rows.specs.Integers.{integers_from, patterns};
@@ -11,7 +13,7 @@ use layout::{Answer, types};
 use rows::RowRead;
 use tuples::Part;
 
-#[derive(Drop)]
+#[derive(Clone, Copy)]
 pub struct Event {
     pub time_fraction: u16,
     pub time_cpu: u32,
@@ -19,7 +21,7 @@ pub struct Event {
 }
 
 // What reading gives: the record and the place of its text, or a refusal.
-#[derive(Drop)]
+#[derive(Clone, Copy)]
 pub enum EventRead {
     Read { record: Event, text: Part },
     Refused { code: u8, place: usize },

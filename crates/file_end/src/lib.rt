@@ -1,6 +1,8 @@
 // Made from views/records.txt by views/make.
 // FileEnd, type 65534: TR Table 17. Its possible data, 2 bytes or 6, 10, 14 and so on, stand beside it when it is read. It is
 // written with 2 bytes of them, all 0.
+#![tactic(auto)]
+
 ghost use Rattle.std.specs.Prelude.{◌≡◌};
 ghost use Rattle.tuples.specs.Readers.{row_of};
 ghost use Rattle.rows.specs.Integers.{integers_from, patterns};
@@ -11,7 +13,7 @@ use layout::{Answer, types};
 use rows::RowRead;
 use tuples::Part;
 
-#[derive(Drop)]
+#[derive(Clone, Copy)]
 pub struct FileEnd {
     pub time_fraction: u16,
     pub time_cpu: u32,
@@ -20,7 +22,7 @@ pub struct FileEnd {
 }
 
 // What reading gives: the record and the place of its data, or a refusal.
-#[derive(Drop)]
+#[derive(Clone, Copy)]
 pub enum FileEndRead {
     Read { record: FileEnd, data: Part },
     Refused { code: u8, place: usize },

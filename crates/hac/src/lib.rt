@@ -5,6 +5,7 @@
 // asks for nothing. It accepts, or it refuses by one code with a place: the first rule broken, in the order of docs/RULES.md. A refused
 // call leaves all lent memory as it was; an accepted one leaves what stands past what it wrote. `msb` is the byte order that a writer
 // is asked for: most significant byte first where it is true. Codes are named in `codes`, type codes in `types`.
+#![tactic(auto)]
 
 // What a call says: accepted with the tuples counted, the length written and the identifiers compared, or refused with a code and a
 // place.

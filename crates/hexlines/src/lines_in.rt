@@ -10,7 +10,7 @@ use crate::{LETTER, LINE_FEED};
 pub const ROOM: usize = 65_536;
 
 // How the text was read: so many bytes, or the number of the first bad line.
-#[derive(Drop)]
+#[derive(Clone, Copy)]
 pub enum Decoded {
     Bytes(usize),
     Bad(usize),

@@ -1,4 +1,6 @@
 // Index: the types of a file's tuples, kept as flags, counted, and written as the Index 1 tuple of TR Table 14.
+#![tactic(auto)]
+
 ghost use Rattle.std.specs.Prelude.{◌≡◌, ◌+◌, ◌*◌, ◌%◌, ◌^◌, ◌≤◌, ◌<◌, length};
 ghost use Rattle.std.proofs.lemmas.List.Edits.{sets};
 ghost use Rattle.samples.specs.Words.{unwords};

@@ -1,4 +1,6 @@
 // Intake: the check of a file, and asking for a ping's channel and sounder.
+#![tactic(auto)]
+
 ghost use Rattle.std.specs.Prelude.{◌≡◌, ◌+◌, ◌-◌, ◌^◌, ◌<◌, ◌≤◌, length, drop, true, ◌&&◌, ◌||◌};
 ghost use Rattle.layout.specs.Types;
 ghost use Rattle.layout.specs.Types.{in_class, is_ping};
@@ -35,7 +37,7 @@ pub const ALL_CHANNELS: u16 = 65535;
 
 // What asking gives: both identifiers and both tuples' places, the channel's sampling rate and type of data sample, and what the
 // file's acceptance counts; or a refusal.
-#[derive(Drop)]
+#[derive(Clone, Copy)]
 pub enum Asked {
     Parents {
         channel: SoftwareChannel,
@@ -54,7 +56,7 @@ pub enum Asked {
 
 // Where the check stands: its place in the file, the tuples counted, the identifiers compared, the sounders and the channels declared,
 // the row where the next channel is looked for first, the classes seen.
-#[derive(Drop)]
+#[derive(Clone, Copy)]
 pub struct Tally {
     pub at: usize,
     pub count: usize,
@@ -69,7 +71,7 @@ pub struct Tally {
 }
 
 // A turn takes the tally past a tuple, or ends the check.
-#[derive(Drop)]
+#[derive(Clone, Copy)]
 pub enum Turned {
     On(Tally),
     Done(Answer),

@@ -1,5 +1,7 @@
 // The listed types as constant tables: their codes, classes, lengths, rows and what they say to other tuples. The three kinds of
 // identifier. What is said of a tuple and of a call.
+#![tactic(auto)]
+
 pub mod codes;
 pub mod types;
 
@@ -11,7 +13,7 @@ ghost use Rattle.layout.specs.inner.Codes.{place_in, rowed, row_codes, measures,
 
 // What an acceptance counts: the tuples of what was handed in, the bytes or samples written, the identifiers compared while linking
 // the tuples of a file.
-#[derive(Drop)]
+#[derive(Clone, Copy)]
 pub struct Counts {
     pub tuples: usize,
     pub written: usize,
@@ -19,33 +21,33 @@ pub struct Counts {
 }
 
 // What intake says: it accepts and counts, or it refuses with the code and the place of the first broken rule.
-#[derive(Drop)]
+#[derive(Clone, Copy)]
 pub enum Answer {
     Accepted(Counts),
     Refused { code: u8, place: usize },
 }
 
 // What is said of one tuple: it is fine, or the code of its first broken rule, with a place counted from the tuple's first byte.
-#[derive(Drop)]
+#[derive(Clone, Copy)]
 pub enum Verdict {
     Fine,
     Fault { code: u8, offset: usize },
 }
 
 // Names an echosounder tuple.
-#[derive(Drop)]
+#[derive(Clone, Copy)]
 pub struct DocumentId(pub u32);
 
 // Names a channel tuple.
-#[derive(Drop)]
+#[derive(Clone, Copy)]
 pub struct SoftwareChannel(pub u16);
 
 // The hardware channel of an echosounder. It names no tuple.
-#[derive(Drop)]
+#[derive(Clone, Copy)]
 pub struct Transceiver(pub u16);
 
 // Who made an echosounder: Biosonics, or Simrad, whose is the EK-500.
-#[derive(Drop)]
+#[derive(Clone, Copy)]
 pub enum Maker {
     Biosonics,
     Simrad,
@@ -53,7 +55,7 @@ pub enum Maker {
 
 // What the tuples of a type say to the others: nothing; they declare a maker's sounder or channel; they name a channel; or they name
 // one, or all.
-#[derive(Drop)]
+#[derive(Clone, Copy)]
 pub enum Says {
     Nothing,
     Sounder(Maker),

@@ -1,4 +1,6 @@
 // Linear: the linear value of a level in decibels, by a table of 200 entries.
+#![tactic(auto)]
+
 ghost use Rattle.std.specs.Prelude.{◌≡◌, ◌*◌, ◌^◌, ◌≤◌, ◌<◌, length, get_or};
 ghost use Rattle.quantities.specs.inner.Codes.{family_of};
 ghost use Rattle.linear.specs.Roots.{roots};

@@ -1,4 +1,6 @@
 // Linked: the listed pings of an accepted file, each with what its channel's samples are.
+#![tactic(auto)]
+
 ghost use Rattle.std.specs.Prelude.{◌≡◌, [], ◌+◌, ◌^◌, ◌≤◌, ◌<◌, length, get_or};
 ghost use Rattle.links.specs.Links.{Apart, id_of, place_of, most_channels};
 ghost use Rattle.links.specs.inner.Tables.{channel_of, channels_in};
@@ -13,7 +15,7 @@ use links::{CHANNELS, Row};
 use quantities::{Quantity, quantity_by};
 
 // A linked ping: its place, the file's byte order, its length and its type code, and what its channel's samples are.
-#[derive(Drop)]
+#[derive(Clone, Copy)]
 pub struct Spot {
     pub at: usize,
     pub msb: bool,
@@ -23,7 +25,7 @@ pub struct Spot {
 }
 
 // The one at a place, or that none stands there.
-#[derive(Drop)]
+#[derive(Clone, Copy)]
 pub enum Found {
     Ping(Spot),
     Nowhere,

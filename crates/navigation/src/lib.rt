@@ -1,5 +1,7 @@
 // Made from views/records.txt by views/make.
 // Navigation, type 30: TR Table 9.
+#![tactic(auto)]
+
 ghost use Rattle.std.specs.Prelude.{◌≡◌};
 ghost use Rattle.tuples.specs.Readers.{row_of};
 ghost use Rattle.rows.specs.Integers.{integers_from, patterns};
@@ -9,7 +11,7 @@ ghost use Rattle.navigation.specs.Navigation.{navigation_of, navigation_integers
 use layout::{Answer, types};
 use rows::RowRead;
 
-#[derive(Drop)]
+#[derive(Clone, Copy)]
 pub struct Navigation {
     pub time_fraction: u16,
     pub time_cpu: u32,
@@ -20,7 +22,7 @@ pub struct Navigation {
 }
 
 // What reading gives: the record, or a refusal.
-#[derive(Drop)]
+#[derive(Clone, Copy)]
 pub enum NavigationRead {
     Read(Navigation),
     Refused { code: u8, place: usize },

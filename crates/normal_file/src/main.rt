@@ -1,4 +1,6 @@
 // Program one: reads a file as lines of hexadecimal from standard input and prints its normal form, or why there is none.
+#![tactic(auto)]
+
 ghost use Rattle.std.specs.Prelude.{◌≡◌, length};
 
 use libc::{STDERR_FILENO, STDIN_FILENO, STDOUT_FILENO};

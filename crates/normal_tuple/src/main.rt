@@ -1,5 +1,7 @@
 // Program two: reads a mark and one tuple as lines of hexadecimal from standard input and prints the mark and the
 // normal tuple, or why there is none.
+#![tactic(auto)]
+
 ghost use Rattle.std.specs.Prelude.{◌≡◌, length};
 
 use libc::{STDERR_FILENO, STDIN_FILENO, STDOUT_FILENO};

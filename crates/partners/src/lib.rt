@@ -1,1 +1,2 @@
 // Private tuples disturb nobody: no code, theorems alone.
+#![tactic(auto)]

@@ -1,4 +1,6 @@
 // Ping forms: the normal form of a ping, measured and written: of the 32-bit family in `wide`, of words of two bytes in `narrow`.
+#![tactic(auto)]
+
 pub mod narrow;
 pub mod plain;
 pub mod wide;
@@ -19,7 +21,7 @@ use frame::DATA;
 use layout::{FIELDS, types};
 
 // What is measured of a tuple's normal form: its bytes and its type.
-#[derive(Drop)]
+#[derive(Clone, Copy)]
 pub struct Form {
     pub bytes: usize,
     pub code: u16,

@@ -1,5 +1,7 @@
 // Pings written into lent memory: a writer for each of the seven types. Each asks the rules first, and where one is broken nothing is
 // written.
+#![tactic(auto)]
+
 pub mod judging;
 pub mod parts;
 

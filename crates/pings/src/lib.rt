@@ -1,5 +1,7 @@
 // Pings: reading a listed ping's fields, samples and angles at any place of any file; `ping_writers` writes pings. What is the own of each
 // type stands in its module.
+#![tactic(auto)]
+
 pub mod of_c16;
 pub mod of_ce16;
 pub mod of_pairs;
@@ -33,7 +35,7 @@ use tuples::Opened;
 pub const FIRST_WORD: usize = samples::WORDS - samples::SAMPLES;
 
 // The fields before a ping's samples: TR Tables 6 and 19 to 24.
-#[derive(Drop)]
+#[derive(Clone, Copy)]
 pub struct PingHeader {
     pub time_fraction: u16,
     pub time_cpu: u32,
@@ -73,7 +75,7 @@ impl PingHeader {
 }
 
 // The ways in which a ping's samples are stored.
-#[derive(Drop)]
+#[derive(Clone, Copy)]
 pub enum PingKind {
     U32,
     C32,
@@ -85,14 +87,14 @@ pub enum PingKind {
 }
 
 // A ping's length, where it ends in a run: how many samples it has, runs counted. Any other ping has none.
-#[derive(Drop)]
+#[derive(Clone, Copy)]
 pub enum PingLength {
     Absent,
     Samples(u32),
 }
 
 // What reading a ping's fields gives: its header, attribute, kind, number of values and length; or a refusal.
-#[derive(Drop)]
+#[derive(Clone, Copy)]
 pub enum PingRead {
     Read {
         header: PingHeader,

@@ -1,5 +1,7 @@
 // Made from views/records.txt by views/make.
 // Position, type 20: TR Table 7. Its time fraction is signed, here alone.
+#![tactic(auto)]
+
 ghost use Rattle.std.specs.Prelude.{◌≡◌};
 ghost use Rattle.tuples.specs.Readers.{row_of};
 ghost use Rattle.rows.specs.Integers.{integers_from, patterns};
@@ -9,7 +11,7 @@ ghost use Rattle.position.specs.Position.{position_of, position_integers, Positi
 use layout::{Answer, types};
 use rows::RowRead;
 
-#[derive(Drop)]
+#[derive(Clone, Copy)]
 pub struct Position {
     pub time_fraction: i16,
     pub time_cpu: u32,
@@ -21,7 +23,7 @@ pub struct Position {
 }
 
 // What reading gives: the record, or a refusal.
-#[derive(Drop)]
+#[derive(Clone, Copy)]
 pub enum PositionRead {
     Read(Position),
     Refused { code: u8, place: usize },

@@ -1,4 +1,6 @@
 // Quantities: what the samples of a channel are, and in which units a ping stores them.
+#![tactic(auto)]
+
 ghost use Rattle.std.specs.Prelude.{◌≡◌};
 ghost use Rattle.quantities.specs.Quantities.{quantity_by, per_volt, per_decibel};
 ghost use Rattle.quantities.specs.inner.Codes.{family_of};
@@ -6,7 +8,7 @@ ghost use Rattle.quantities.specs.inner.Codes.{family_of};
 use layout::{Maker, types};
 
 // What the samples of a channel are: volts, volume backscattering strength, target strength, or none of these.
-#[derive(Drop)]
+#[derive(Clone, Copy)]
 pub enum Quantity {
     Volts,
     Sv,

@@ -1,4 +1,6 @@
 // Readings: what a viewer is shown for each sample number of a ping, as a double with its kind.
+#![tactic(auto)]
+
 ghost use Rattle.std.specs.Prelude.{◌≡◌, true, [], map, ◌+◌, ◌≤◌, ◌<◌, length, replicate};
 ghost use Rattle.layout.specs.Types.{shape_of, is_ping};
 ghost use Rattle.pings.specs.inner.Handing.{part_samples};
@@ -17,7 +19,7 @@ use quantities::Quantity;
 use sampling::Stepped;
 
 // A reading: silent, or a double in volts, of volume backscattering strength or of target strength in decibels.
-#[derive(Drop)]
+#[derive(Clone, Copy)]
 pub enum Reading {
     Silent,
     Volts(f64),
@@ -29,13 +31,13 @@ pub enum Reading {
 pub const PAGE: usize = 64;
 
 // A reading of a page;
-#[derive(Drop)]
+#[derive(Clone, Copy)]
 pub struct Shown {
     pub reading: Reading,
 }
 
 // and a page of them, by value, with the answer.
-#[derive(Drop)]
+#[derive(Clone, Copy)]
 pub struct Page {
     pub answer: Answer,
     pub readings: [Shown; PAGE],

@@ -1,1 +1,2 @@
 // What is written is read back: no code, theorems alone.
+#![tactic(auto)]

@@ -1,4 +1,6 @@
 // Rows: the record of any type, read as the numbers of its row and written from them. Each record's view stands on these two calls.
+#![tactic(auto)]
+
 ghost use Rattle.std.specs.Prelude.{◌≡◌, ◌+◌, ◌%◌, ◌^◌, ◌≤◌, ◌<◌, length, drop};
 ghost use Rattle.std.proofs.lemmas.List.Edits.{sets};
 ghost use Rattle.order.specs.Order.{signed_of, pattern_of};
@@ -18,7 +20,7 @@ use tuples::{Opened, Part};
 const AROUND: usize = frame::DATA + frame::TAIL;
 
 // What reading gives: the numbers are in lent memory, and where the characters stand; or a refusal.
-#[derive(Drop)]
+#[derive(Clone, Copy)]
 pub enum RowRead {
     Read { text: Part },
     Refused { code: u8, place: usize },

@@ -1,5 +1,7 @@
 // Made from views/records.txt by views/make.
 // RunEnd, type 65517: TR Table 16.
+#![tactic(auto)]
+
 ghost use Rattle.std.specs.Prelude.{◌≡◌};
 ghost use Rattle.tuples.specs.Readers.{row_of};
 ghost use Rattle.rows.specs.Integers.{integers_from, patterns};
@@ -9,7 +11,7 @@ ghost use Rattle.run_end.specs.RunEnd.{run_end_of, run_end_integers, RunEndAt, R
 use layout::{Answer, types};
 use rows::RowRead;
 
-#[derive(Drop)]
+#[derive(Clone, Copy)]
 pub struct RunEnd {
     pub time_fraction: u16,
     pub time_cpu: u32,
@@ -17,7 +19,7 @@ pub struct RunEnd {
 }
 
 // What reading gives: the record, or a refusal.
-#[derive(Drop)]
+#[derive(Clone, Copy)]
 pub enum RunEndRead {
     Read(RunEnd),
     Refused { code: u8, place: usize },

@@ -1,5 +1,7 @@
 // Made from views/records.txt by views/make.
 // RunStart, type 65516: TR Table 15.
+#![tactic(auto)]
+
 ghost use Rattle.std.specs.Prelude.{◌≡◌};
 ghost use Rattle.tuples.specs.Readers.{row_of};
 ghost use Rattle.rows.specs.Integers.{integers_from, patterns};
@@ -9,7 +11,7 @@ ghost use Rattle.run_start.specs.RunStart.{run_start_of, run_start_integers, Run
 use layout::{Answer, types};
 use rows::RowRead;
 
-#[derive(Drop)]
+#[derive(Clone, Copy)]
 pub struct RunStart {
     pub time_fraction: u16,
     pub time_cpu: u32,
@@ -17,7 +19,7 @@ pub struct RunStart {
 }
 
 // What reading gives: the record, or a refusal.
-#[derive(Drop)]
+#[derive(Clone, Copy)]
 pub enum RunStartRead {
     Read(RunStart),
     Refused { code: u8, place: usize },

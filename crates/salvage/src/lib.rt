@@ -1,6 +1,8 @@
 // Salvage: what is kept of a damaged recording. From behind the mark a tuple is looked for at one offset after the other: behind a tuple
 // that is kept, and 4 bytes further on where none is. The kept tuples are written behind the mark, and a table lists the ranges that are
 // kept and dropped.
+#![tactic(auto)]
+
 ghost use Rattle.std.specs.Prelude.{◌≡◌, true, cond, ◌+◌, ◌-◌, ◌*◌, ◌≤◌, ◌<◌, length, drop};
 ghost use Rattle.std.proofs.lemmas.List.Edits.{sets};
 ghost use Rattle.frame.specs.Files.{limit, marked, is_msb};
@@ -14,7 +16,7 @@ ghost use Rattle.salvage.specs.inner.Passes.{Ready, Few, Within, Roomy, growing,
 use layout::{Counts, Verdict, codes};
 
 // What salvage says: the ranges of the file, the offsets tried, the tuples kept and the bytes written; or a refusal.
-#[derive(Drop)]
+#[derive(Clone, Copy)]
 pub enum Outcome {
     Saved {
         ranges: usize,
@@ -28,7 +30,7 @@ pub enum Outcome {
 }
 
 // Bytes of a file that are kept or dropped: those of one offset where a tuple was looked for, or a range of them.
-#[derive(Drop)]
+#[derive(Clone, Copy)]
 struct Piece {
     kept: bool,
     from: usize,
@@ -36,7 +38,7 @@ struct Piece {
 }
 
 // What is counted so far.
-#[derive(Drop)]
+#[derive(Clone, Copy)]
 struct Sums {
     tuples: usize,
     written: usize,

@@ -1,5 +1,7 @@
 // Samples of two bytes: the words of C-16 and CE-16 pings, the samples of U-16 pings; and the angles of either width. Judging them, and
 // handing samples over. `spelling16` writes them.
+#![tactic(auto)]
+
 pub mod angles;
 
 ghost use Rattle.std.specs.Prelude.{◌≡◌, false, not, ◌&&◌, ◌*◌, ◌+◌, ◌%◌, ◌≤◌, ◌<◌, eqb, leb, ltb, length, take, drop};
@@ -216,7 +218,7 @@ pub fn read_samples(part: &[u8], msb: bool, numbers: &mut [u32], values: &mut [i
 
 // ---- compressed
 // What is seen of words: how many are values, and how many are outside the limits.
-#[derive(Drop)]
+#[derive(Clone, Copy)]
 struct Seen {
     values: u16,
     bad: u16,
@@ -255,7 +257,7 @@ fn block_end(p: usize, end: usize) -> usize
 }
 
 // What is seen of all words, block by block.
-#[derive(Drop)]
+#[derive(Clone, Copy)]
 struct Sight {
     values: u32,
     bad: bool,

@@ -1,4 +1,6 @@
 // Sampling: the samples of a ping with values, one at a time, whatever its kind. A loop over them reads no sample twice and keeps none.
+#![tactic(auto)]
+
 ghost use Rattle.std.specs.Prelude.{◌≡◌, true, ◌+◌, ◌^◌, ◌≤◌, ◌<◌, length};
 ghost use Rattle.layout.specs.Families.{wide};
 ghost use Rattle.layout.specs.Types.{shape_of};
@@ -10,7 +12,7 @@ ghost use Rattle.sampling.specs.inner.Walking.{width_of, SpanOf, WordPassed, Ste
 use layout::types;
 
 // Where a ping's samples stand in its part, from its first byte to the one behind its last.
-#[derive(Drop)]
+#[derive(Clone, Copy)]
 pub struct Span {
     pub from: usize,
     pub end: usize,
@@ -18,7 +20,7 @@ pub struct Span {
 
 // What stands at a place there: a sample with its number and its value, or, where it is none, a run of samples below threshold; and the
 // number of what stands behind it.
-#[derive(Drop)]
+#[derive(Clone, Copy)]
 pub struct Stepped {
     pub sampled: bool,
     pub number: u32,
@@ -27,7 +29,7 @@ pub struct Stepped {
 }
 
 // The same without numbers: a value, or, where it is none, a run.
-#[derive(Drop)]
+#[derive(Clone, Copy)]
 pub struct Valued {
     pub sampled: bool,
     pub value: i32,

@@ -1,4 +1,6 @@
 // Settings: for each listed ping of a file, in file order, the threshold and the attitude that govern it.
+#![tactic(auto)]
+
 ghost use Rattle.std.specs.Prelude.{◌≡◌, ◌+◌, ◌≤◌, ◌<◌, ◌^◌, cond, length, drop};
 ghost use Rattle.std.proofs.lemmas.List.Edits.{sets};
 ghost use Rattle.frame.specs.Frames.{tup_at};
@@ -13,7 +15,7 @@ use layout::{Answer, Counts, Says, SoftwareChannel, codes};
 use links::{CHANNELS, Channel, Row};
 
 // A tuple's part: a ping, a threshold or an attitude of a channel; an attitude for all channels; a channel's own tuple; any other.
-#[derive(Drop)]
+#[derive(Clone, Copy)]
 pub enum Role {
     Ping(SoftwareChannel),
     Threshold(SoftwareChannel),
@@ -24,7 +26,7 @@ pub enum Role {
 }
 
 // The channels declared so far, the place of the last attitude for all, and the row where the next channel is looked for first.
-#[derive(Drop)]
+#[derive(Clone, Copy)]
 struct Held {
     channels: usize,
     every: usize,
@@ -32,7 +34,7 @@ struct Held {
 }
 
 // Whether a tuple is a ping, and what governs it: the places of a threshold and of an attitude, 0 for none.
-#[derive(Drop)]
+#[derive(Clone, Copy)]
 struct Told {
     ping: bool,
     threshold: usize,

@@ -1,5 +1,7 @@
 // Made from views/records.txt by views/make.
 // Signature, type 65535: TR Table 18. Its identifier is no field: 44204 and 44201 are read, and 44204 is written.
+#![tactic(auto)]
+
 ghost use Rattle.std.specs.Prelude.{◌≡◌};
 ghost use Rattle.tuples.specs.Readers.{row_of};
 ghost use Rattle.rows.specs.Integers.{integers_from, patterns};
@@ -9,7 +11,7 @@ ghost use Rattle.signature.specs.Signature.{signature_of, signature_integers, Si
 use layout::{Answer, types};
 use rows::RowRead;
 
-#[derive(Drop)]
+#[derive(Clone, Copy)]
 pub struct Signature {
     pub hac_version: u16,
     pub acquisition_software_version: u16,
@@ -18,7 +20,7 @@ pub struct Signature {
 }
 
 // What reading gives: the record, or a refusal.
-#[derive(Drop)]
+#[derive(Clone, Copy)]
 pub enum SignatureRead {
     Read(Signature),
     Refused { code: u8, place: usize },

@@ -1,6 +1,8 @@
 // Made from views/records.txt by views/make.
 // Sounder, type 100: TR Table 2. An echosounder, of Biosonics. Its remarks, 30 characters, stand beside it; to write others is
 // refused by 9 at 0.
+#![tactic(auto)]
+
 ghost use Rattle.std.specs.Prelude.{◌≡◌};
 ghost use Rattle.tuples.specs.Readers.{row_of};
 ghost use Rattle.rows.specs.Integers.{integers_from, patterns};
@@ -11,7 +13,7 @@ use layout::{Answer, DocumentId, types};
 use rows::RowRead;
 use tuples::Part;
 
-#[derive(Drop)]
+#[derive(Clone, Copy)]
 pub struct Sounder {
     pub number_of_software_channels: u16,
     pub echosounder_document_identifier: DocumentId,
@@ -29,7 +31,7 @@ pub struct Sounder {
 }
 
 // What reading gives: the record and the place of its remarks, or a refusal.
-#[derive(Drop)]
+#[derive(Clone, Copy)]
 pub enum SounderRead {
     Read { record: Sounder, remarks: Part },
     Refused { code: u8, place: usize },

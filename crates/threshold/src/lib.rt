@@ -1,5 +1,7 @@
 // Made from views/records.txt by views/make.
 // Threshold, type 10100: TR Table 8.
+#![tactic(auto)]
+
 ghost use Rattle.std.specs.Prelude.{◌≡◌};
 ghost use Rattle.tuples.specs.Readers.{row_of};
 ghost use Rattle.rows.specs.Integers.{integers_from, patterns};
@@ -9,7 +11,7 @@ ghost use Rattle.threshold.specs.Threshold.{threshold_of, threshold_integers, Th
 use layout::{Answer, SoftwareChannel, types};
 use rows::RowRead;
 
-#[derive(Drop)]
+#[derive(Clone, Copy)]
 pub struct Threshold {
     pub time_fraction: u16,
     pub time_cpu: u32,
@@ -26,7 +28,7 @@ pub struct Threshold {
 }
 
 // What reading gives: the record, or a refusal.
-#[derive(Drop)]
+#[derive(Clone, Copy)]
 pub enum ThresholdRead {
     Read(Threshold),
     Refused { code: u8, place: usize },

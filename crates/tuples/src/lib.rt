@@ -1,4 +1,6 @@
 // Tuples: what every reader finds at a place, and how every writer frames what it writes.
+#![tactic(auto)]
+
 ghost use Rattle.std.specs.Prelude.{◌≡◌, Bool, [], ℕ, ◌+◌, ◌-◌, ◌^◌, ◌≤◌, ◌<◌, length, take, drop};
 ghost use Rattle.std.proofs.lemmas.List.Edits.{sets};
 ghost use Rattle.order.specs.Order.{num_of, signed_of, pattern_of};
@@ -14,14 +16,14 @@ use frame::{DATA, Step, TAIL, Walk};
 use layout::{Answer, Verdict, codes, types};
 
 // What a reader finds: a tuple that it asks for and that keeps its own rules, or its refusal.
-#[derive(Drop)]
+#[derive(Clone, Copy)]
 pub enum Opened {
     Tuple { msb: bool, whole: usize, code: u16 },
     Refused { code: u8, place: usize },
 }
 
 // Where characters stand in the file that was read.
-#[derive(Drop)]
+#[derive(Clone, Copy)]
 pub struct Part {
     pub place: usize,
     pub length: usize,

@@ -1,5 +1,7 @@
 // Sums over a file's words and samples, block by block: by them a ping's own rules are judged without reading it whole, so that a file
 // in which many pings seem to start one within another is judged fast.
+#![tactic(auto)]
+
 pub mod judging;
 mod weigh;
 
@@ -9,7 +11,7 @@ ghost use Rattle.weights.specs.inner.Weights.{step_by, block_by, span_by, beyond
 ghost use Rattle.weights.specs.inner.Rows.{rows, kind_at, base_at, entries, RowOf, SummedTo, Summed};
 
 // What is weighed: the words of C-32, C-16 and CE-16 pings; the numbers of samples every eight, four and six bytes.
-#[derive(Drop)]
+#[derive(Clone, Copy)]
 pub enum Kind {
     C32,
     C16,
