@@ -15,7 +15,7 @@ use Rattle.layout.proofs.Tables.{NoneOf, has_code, none_has, alike_all}
 
 -- the family of a shape that has samples
 abbrev pub OfFamily : Shape → Type 0
-OfFamily q = (f : Family) × (q ≡ uncompressed f) ⊎ (q ≡ compressed f)
+OfFamily q = (f : Family) × ((q ≡ uncompressed f) ⊎ (q ≡ compressed f))
 
 sampled : (q : Shape) → has_samples q ≡ true → OfFamily q
 sampled indexed e = absurd (true≢false (sym e))

@@ -9,14 +9,14 @@ use Rattle.archive.proofs.Telling.{tell_next, tell_end}
 use Rattle.archive.proofs.tell.Statement.{statement}
 use Rattle.archive.proofs.tell.Tie as tie
 
-abbrev invariant-loop : tie.invariant-loop
+abbrev invariant-loop : tie.invariant-loop-i
 invariant-loop answer₀ at numbers i₀ answer i =
     (i ≤ length numbers) × (length answer ≡ length answer₀) × (sets answer (at + i) (drop i numbers) ≡ sets answer₀ at numbers)
 
-abbrev decreases-loop : tie.decreases-loop
+abbrev decreases-loop : tie.decreases-loop-i
 decreases-loop answer₀ at numbers i₀ answer i = length numbers - i
 
-loop-holds : tie.Need-loop-init invariant-loop decreases-loop
+loop-holds : tie.Need-loop-i-init invariant-loop decreases-loop
 loop-holds c =
     let a = c.args in
     let z : a.at + 0 ≡ a.at = omega arith in (
@@ -25,24 +25,24 @@ loop-holds c =
       ap (λ (k : ℕ). sets a.answer.now k a.numbers.now) z,
     )
 
-loop-again : tie.Need-loop-preserved invariant-loop decreases-loop
+loop-again : tie.Need-loop-i-preserved invariant-loop decreases-loop
 loop-again c =
     let d = c.before in
-    let l = d.before.loop in
-    let a = d.before.before.args in (
+    let l = d.loop-i in
+    let a = d.args in (
       omega arith,
       length-set l.answer (a.at + l.i) _ ∙ l.invariant.1,
-      tell_next l.answer a.numbers.now a.at l.i d.loop-test.true ∙ l.invariant.2,
+      tell_next l.answer a.numbers.now a.at l.i d.loop-i-test.true ∙ l.invariant.2,
     )
 
 returns : tie.Need-returns invariant-loop decreases-loop
 returns c =
-    let l = c.before.loop in
-    let a = c.before.before.args in
-    tell_end l.answer a.numbers.now a.at l.i c.loop-test.false ∙ l.invariant.2
+    let l = c.loop-i in
+    let a = c.args in
+    tell_end l.answer a.numbers.now a.at l.i c.loop-i-test.false ∙ l.invariant.2
 
-pub tell-spec : {M : Type 1} → statement M
-tell-spec =
+pub tell_spec : {M : Type 1} → statement M
+tell_spec =
     tie.close
     (tie.spec
     invariant-loop

@@ -4,14 +4,14 @@ use borrow.Author.Rules.{rules}
 use Rattle.archive.proofs.tell_answer.Statement.{statement}
 use Rattle.archive.proofs.tell_answer.Tie as tie
 
-returns : tie.Need-returns
-returns c = let t = c.before.before in rw t.before.before.before.said.given.1 (refl, t.tell-head.ensures)
+returns : tie.Need-returns-in-Accepted
+returns c = let t = c.before.before in rw t.in-Accepted.is (refl, t.tell_head.ensures)
 
-returns-2 : tie.Need-returns-2
-returns-2 c = let t = c.before.before in rw t.before.before.before.said2.given.1 t.tell-refusal.ensures
+returns-2 : tie.Need-returns-in-Refused
+returns-2 c = let t = c.before.before in rw t.in-Refused.is t.tell_refusal.ensures
 
-pub tell-answer-spec : {M : Type 1} → statement M
-tell-answer-spec =
+pub tell_answer_spec : {M : Type 1} → statement M
+tell_answer_spec =
     tie.close
     (tie.spec
     (λ c. search rules)

@@ -11,10 +11,14 @@ returns : tie.Need-returns
 returns c =
     let f = c.before.before in
     let t = f.before.before.before.before in
-    let a = t.before.before.before.before.args in (
-      t.tell-answer.ensures.0,
-      told-behind (five a.said) a.fields.now a.answer.now head refl t.tell-answer.ensures.1 f.tell.ensures,
+    let a = t.args in (
+      t.tell_answer-code.ensures.0,
+      told-behind (five a.said) a.fields.now a.answer-1.now head refl t.tell_answer-code.ensures.1 f.tell.ensures,
     )
 
-pub tell-found-spec : {M : Type 1} → statement M
-tell-found-spec = tie.close (tie.spec (λ c κs. search rules) (λ c κs. search rules) (λ c. search rules) returns)
+pub tell_found_spec : {M : Type 1} → statement M
+tell_found_spec = tie.close (tie.spec
+    (λ c κs. search rules)
+    (λ c κs. search rules)
+    (λ c. search rules)
+    returns)

@@ -11,16 +11,16 @@ returns c =
     let p = c.before in
     let x = p.before in
     let m = x.before in
-    let e = m.before.look.ensures.0 in
+    let e = m.look-found.ensures.0 in
     record {
-      marked = m.mark-of.ensures ∙ ap mark_of e;
-      coded = x.code-of.ensures ∙ ap (λ (f : Found). (found_numbers f).code) e;
+      marked = m.mark_of.ensures ∙ ap mark_of e;
+      coded = x.code_of.ensures ∙ ap (λ (f : Found). (found_numbers f).code) e;
       placed = p.place_of.ensures ∙ ap (λ (f : Found). (found_numbers f).place) e;
       bytes = c.part.ensures ∙ ap (part_of _ _) e;
     }
 
-pub corrected-spec : {M : Type 1} → statement M
-corrected-spec =
+pub corrected_spec : {M : Type 1} → statement M
+corrected_spec =
     tie.close
     (tie.spec
     (λ c κs. search rules)

@@ -10,46 +10,46 @@ use Rattle.corrections.proofs.Wanted.{seeking_again, seeking_less}
 use Rattle.corrections.proofs.find.Statement.{statement}
 use Rattle.corrections.proofs.find.Tie as tie
 
-abbrev invariant-loop : tie.invariant-loop
+abbrev invariant-loop : tie.invariant-loop-at
 invariant-loop file channel number edited msb at₀ at = Seeking edited channel number msb file at
 
-abbrev decreases-loop : tie.decreases-loop
+abbrev decreases-loop : tie.decreases-loop-at
 decreases-loop file channel number edited msb at₀ at = length file - at
 
 -- places, named by what has been done there
-abbrev inside : tie.After-is-wanted invariant-loop decreases-loop → tie.In-loop invariant-loop decreases-loop
+abbrev inside : tie.After-is_wanted invariant-loop decreases-loop → tie.In-loop-at invariant-loop decreases-loop
 inside c = c.before.before
 
 -- the tuple where the loop stands
-there : (c : tie.In-loop invariant-loop decreases-loop) → let o = c.before.before.is-msb.result in
-    let f = c.before.before.before.before.args.file.now in
-    Whole o f c.before.loop.at (len_at o (drop c.before.loop.at f))
-there c = seeking_whole _ _ _ _ _ _ c.before.loop.invariant c.loop-test.true
+there : (c : tie.In-loop-at invariant-loop decreases-loop) → let o = c.is_msb-msb.result in
+    let f = c.args.file.now in
+    Whole o f c.loop-at.at (len_at o (drop c.loop-at.at f))
+there c = seeking_whole _ _ _ _ _ _ c.loop-at.invariant c.loop-at-test.true
 
-is-wanted-requires : tie.Need-is-wanted-requires invariant-loop decreases-loop
+is-wanted-requires : tie.Need-is_wanted-requires invariant-loop decreases-loop
 is-wanted-requires c κs =
     let l = c.before in
-    seeking_sound _ _ _ _ _ _ l.before.loop.invariant l.loop-test.true _ c.length_at.ensures
+    seeking_sound _ _ _ _ _ _ l.loop-at.invariant l.loop-at-test.true _ c.length_at-whole.ensures
 
-returns : tie.Need-returns invariant-loop decreases-loop
+returns : tie.Need-returns-then-is_wanted invariant-loop decreases-loop
 returns c =
     let w = c.before in
     let l = inside w in
-    seeking_here _ _ _ _ _ _ l.before.loop.inv l.loop-test.taken _ w.before.length_at.ensures w.is-wanted.ensures
-    c.if1.true
+    seeking_here _ _ _ _ _ _ l.loop-at.invariant l.loop-at-test.true _ w.length_at-whole.ensures w.is_wanted.ensures
+    c.if-is_wanted.true
 
-loop-less : tie.Need-loop-smaller invariant-loop decreases-loop
+loop-less : tie.Need-loop-at-smaller invariant-loop decreases-loop
 loop-less c =
     let w = c.before in
     let l = inside w in
-    seeking_less _ _ _ _ _ _ l.before.loop.inv l.loop-test.taken _ w.before.length_at.ensures
+    seeking_less _ _ _ _ _ _ l.loop-at.invariant l.loop-at-test.true _ w.length_at-whole.ensures
 
-loop-again : tie.Need-loop-preserved invariant-loop decreases-loop
+loop-again : tie.Need-loop-at-preserved invariant-loop decreases-loop
 loop-again c =
     let w = c.before in
     let l = inside w in
-    seeking_again _ _ _ _ _ _ l.before.loop.inv l.loop-test.taken _ w.before.length_at.ensures w.is-wanted.ensures
-    c.if1.false
+    seeking_again _ _ _ _ _ _ l.loop-at.invariant l.loop-at-test.true _ w.length_at-whole.ensures w.is_wanted.ensures
+    c.if-is_wanted.false
 
 pub find_spec : {M : Type 1} → statement M
 find_spec =
@@ -57,12 +57,12 @@ find_spec =
     (tie.spec
     invariant-loop
     decreases-loop
-    (λ c κs. accepted_4 _ c.before.requires)
-    (λ c. seeking_begin _ _ _ _ _ c.before.before.requires c.is-msb.ensures)
+    (λ c κs. accepted_4 _ c.requires)
+    (λ c. seeking_begin _ _ _ _ _ c.requires c.is_msb-msb.ensures)
     (λ c κs. omega (arith, (there c).long, (there c).ranges))
     is-wanted-requires
     returns
-    (λ c. omega (arith, (there (inside c.before)).fits, c.before.before.length_at.ensures))
+    (λ c. omega (arith, (there (inside c.before)).fits, c.length_at-whole.ensures))
     loop-less
     loop-again
-    (λ c. seeking_none _ _ _ _ _ _ c.before.loop.invariant c.loop-test.false))
+    (λ c. seeking_none _ _ _ _ _ _ c.loop-at.invariant c.loop-at-test.false))

@@ -15,65 +15,65 @@ use Rattle.corrections.proofs.is_wanted.Statement.{statement}
 use Rattle.corrections.proofs.is_wanted.Tie as tie
 
 -- places, named by what has been done there
-abbrev start : tie.After-is-ping → tie.Start
+abbrev start : tie.After-is_ping → tie.Start
 start c = c.before.before.before
 
-abbrev asked : tie.After-named-at → tie.Start
+abbrev asked : tie.After-named_at-named → tie.Start
 asked c = start c.before.before
 
-abbrev named : tie.Else2 → tie.After-named-at
+abbrev named : tie.Else-named-channel → tie.After-named_at-named
 named c = c.before.before.before
 
 -- it is a ping, or it is none
-tested : (c : tie.After-is-ping) → let a = (start c).args in c.is-ping.result ≡ is_ping (kind_at a.msb (drop a.at a.file.now))
-tested c = c.is-ping.ensures ∙ ap is_ping c.before.kind_at.ensures
+tested : (c : tie.After-is_ping) → let a = (start c).args in c.is_ping.result ≡ is_ping (kind_at a.msb (drop a.at a.file.now))
+tested c = c.is_ping.ensures ∙ ap is_ping c.kind_at.ensures
 
-is : (c : tie.Else1) → let a = (start c.before).args in is_ping (kind_at a.msb (drop a.at a.file.now)) ≡ true
-is c = sym (tested c.before) ∙ not-false _ c.if1.false
+is : (c : tie.Else-not-is_ping) → let a = (start c.before).args in is_ping (kind_at a.msb (drop a.at a.file.now)) ≡ true
+is c = sym (tested c.before) ∙ not-false _ c.if-not-is_ping.false
 
 -- the channel that it names
-channel : (c : tie.After-named-at) → let a = (asked c).args in c.named-at.result.0 ≡ field_at a.msb a.file.now a.at 2 12
-channel c = ap (λ (x : SoftwareChannel). x.0) c.named-at.ensures
+channel : (c : tie.After-named_at-named) → let a = (asked c).args in c.named_at-named.result.0 ≡ field_at a.msb a.file.now a.at 2 12
+channel c = ap (λ (x : SoftwareChannel). x.0) c.named_at-named.ensures
 
-returns : tie.Need-returns
-returns c = not-ping (start c.before).requires _ _ _ (sym (tested c.before) ∙ not-true _ c.if1.true)
+returns : tie.Need-returns-then-not-is_ping
+returns c = not-ping (start c.before).requires _ _ _ (sym (tested c.before) ∙ not-true _ c.if-not-is_ping.true)
 
-returns-2 : tie.Need-returns-2
+returns-2 : tie.Need-returns-then-named-channel
 returns-2 c =
     let n = c.before.before.before in
-    other-channel (asked n).requires _ _ _ (is n.before) (λ e. c.if2.true (channel n ∙ e))
+    other-channel (asked n).requires _ _ _ (is n.before) (λ e. c.if-named-channel.true (channel n ∙ e))
 
-returns-3 : tie.Need-returns-3
+returns-3 : tie.Need-returns-then-read4-number
 returns-3 c =
     let n = named c.before.before in
-    other-number (asked n).pre _ _ _ (is n.before) (sym (channel n) ∙ c.before.before.if2.false)
-    (λ e. c.if3.true (c.before.read4.ensures ∙ e))
+    other-number (asked n).requires _ _ _ (is n.before) (sym (channel n) ∙ c.if-named-channel.false)
+    (λ e. c.if-read4-number.true (c.read4.ensures ∙ e))
 
-returns-4 : tie.Need-returns-4
+returns-4 : tie.Need-returns-then-not-edited
 returns-4 c =
     let r = c.before.before in
     let n = named r.before in
-    any-attribute (asked n).pre _ _ _ (is n.before) (sym (channel n) ∙ r.before.if2.false)
-    (sym r.read4.ensures ∙ c.before.if3.false) (not-true _ c.if4.true)
+    any-attribute (asked n).requires _ _ _ (is n.before) (sym (channel n) ∙ r.if-named-channel.false)
+    (sym r.read4.ensures ∙ c.if-read4-number.false) (not-true _ c.if-not-edited.true)
 
-returns-5 : tie.Need-returns-5
+returns-5 : tie.Need-returns
 returns-5 c =
     let r = c.before.before.before in
     let n = named r.before in
-    one-attribute (asked n).pre _ _ _ (is n.before) (sym (channel n) ∙ r.before.if2.false)
-    (sym r.read4.ensures ∙ c.before.before.if3.false) (not-false _ c.before.if4.false) _ c.read42.ensures
+    one-attribute (asked n).requires _ _ _ (is n.before) (sym (channel n) ∙ r.if-named-channel.false)
+    (sym r.read4.ensures ∙ c.if-read4-number.false) (not-false _ c.if-not-edited.false) _ c.read4-2.ensures
 
-pub is-wanted-spec : {M : Type 1} → statement M
-is-wanted-spec =
+pub is_wanted_spec : {M : Type 1} → statement M
+is_wanted_spec =
     tie.close
     (tie.spec
-    (λ c κs. let s = c.before.requires in omega (arith, (sound-whole s).fits, (sound-whole s).long))
+    (λ c κs. let s = c.requires in omega (arith, (sound-whole s).fits, (sound-whole s).long))
     (λ c κs. search rules)
     returns
     (λ c κs. room (start c.before).requires.here)
     returns-2
     (λ c. search rules)
-    (λ c κs. let n = named c in let s = (asked n).pre in omega (arith, (sound-whole s).fits, (pinged s (is n.before)).long))
+    (λ c κs. let n = named c in let s = (asked n).requires in omega (arith, (sound-whole s).fits, (pinged s (is n.before)).long))
     returns-3
     returns-4
     (λ c. let s = (asked (named c.before.before.before)).requires in omega (arith, (sound-whole s).fits))

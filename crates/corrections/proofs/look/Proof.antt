@@ -11,39 +11,39 @@ use Rattle.corrections.proofs.look.Tie as tie
 abbrev start : tie.After-check → tie.Start
 start c = c.before.before.before
 
-abbrev first : tie.After-enum-told → tie.After-check
-first c = c.before.before
+abbrev first : tie.In-Accepted → tie.After-check
+first c = c.before
 
-abbrev second : tie.After-enum-told2 → tie.After-check2
-second c = c.before.before
+abbrev second : tie.In-Accepted-check → tie.After-check-in-Accepted
+second c = c.before
 
 -- the check accepts the deposit, and the corrections
-deposit : (c : tie.After-enum-told) → check_file (start (first c)).args.deposit.now ≡ Accepted c.enum_told.given.0.0
-deposit c = sym (first c).check.ensures.is ∙ c.enum_told.given.1
+deposit : (c : tie.In-Accepted) → check_file (start (first c)).args.deposit.now ≡ Accepted c.in-Accepted.field-0
+deposit c = sym (first c).check.ensures.is ∙ c.in-Accepted.is
 
-corrections : (c : tie.After-enum-told2)
-    → check_file (start (first (second c).before)).args.corrections.now ≡ Accepted c.enum-told2.given.0.0
-corrections c = sym (second c).check2.ensures.is ∙ c.enum-told2.given.1
+corrections : (c : tie.In-Accepted-check)
+    → check_file (start (first (second c).before)).args.corrections.now ≡ Accepted c.in-Accepted-check.field-0
+corrections c = sym (second c).check-in-Accepted.ensures.is ∙ c.in-Accepted-check.is
 
-returns : tie.Need-returns
-returns c = let k = c.before in (found_deposit _ _ _ _ _ _ (sym k.before.before.check.ensures.is ∙ k.code.given.1), tt)
+returns : tie.Need-returns-in-Refused
+returns c = let k = c in (found_deposit _ _ _ _ _ _ (sym k.check.ensures.is ∙ k.in-Refused.is), tt)
 
-returns-2 : tie.Need-returns-2
+returns-2 : tie.Need-returns-in-Refused-check
 returns-2 c =
-    let k = c.before in
-    let e = k.before.before in
-    (found-corrections _ _ _ _ (deposit e.before) _ _ (sym e.check2.ensures.is ∙ k.code2.given.1), tt)
+    let k = c in
+    let e = k.before in
+    (found-corrections _ _ _ _ (deposit e.before) _ _ (sym e.check-in-Accepted.ensures.is ∙ k.in-Refused-check.is), tt)
 
-returns-3 : tie.Need-returns-3
+returns-3 : tie.Need-returns-in-Accepted-check
 returns-3 c =
     let t = c.before in
     let s = t.before in
     let e = s.before in
-    let p = s.find.ensures in
-    let q = t.find2.ensures in (
-      found-both _ _ _ _ (deposit (second e).before) (corrections e) {s = s.find.result} {t = t.find2.result} c.choose.ensures
+    let p = s.find-corrected.ensures in
+    let q = t.find-deposited.ensures in (
+      found-both _ _ _ _ (deposit (second e).before) (corrections e) {s = s.find-corrected.result} {t = t.find-deposited.result} c.choose.ensures
           p.0 q.0,
-      chosen-within _ _ s.find.result t.find2.result c.choose.ensures p.1 q.1,
+      chosen-within _ _ s.find-corrected.result t.find-deposited.result c.choose.ensures p.1 q.1,
     )
 
 pub look_spec : {M : Type 1} → statement M

@@ -8,32 +8,32 @@ use borrow.Author.Rules.{rules}
 use Rattle.corrections.proofs.part.Statement.{statement}
 use Rattle.corrections.proofs.part.Tie as tie
 
-lies : (c : tie.After-known-told) → let g = c.before.found.given.0 in
-    g.0 + g.1.0 ≤ length c.before.before.before.args.corrections.now
-lies c = rw c.before.found.given.1 at c.before.before.before.requires
+lies : (c : tie.In-Corrected) → let g = c.in-Corrected.found.given.0 in
+    g.0 + g.1.0 ≤ length c.args.corrections.now
+lies c = rw c.in-Corrected.is at c.requires
 
-lies-2 : (c : tie.After-known-told2) → let g = c.before.found2.given.0 in
-    g.0 + g.1.0 ≤ length c.before.before.before.args.deposit.now
-lies-2 c = rw c.before.found2.given.1 at c.before.before.before.requires
+lies-2 : (c : tie.In-Deposited) → let g = c.in-Deposited.found2.given.0 in
+    g.0 + g.1.0 ≤ length c.args.deposit.now
+lies-2 c = rw c.in-Deposited.is at c.requires
 
 -- a part of a length, from a place on
 from_on : (f : List ℕ) (a m : ℕ) → take (a + m - a) (drop a f) ≡ take m (drop a f)
 from_on f a m = let z : a + m - a ≡ m = omega arith in ap (λ (i : ℕ). take i (drop a f)) z
 
-returns : tie.Need-returns
+returns : tie.Need-returns-in-Corrected
 returns c =
-    let k = c.before.before in
-    let g = k.found.given in
-    rw g.1 (from_on k.before.before.args.corrections.now g.0.0 g.0.1.0)
+    let k = c.before in
+    let g = k.in-Corrected.found.given in
+    rw g.1 (from_on k.args.corrections.now g.0.0 g.0.1.0)
 
-returns-2 : tie.Need-returns-2
+returns-2 : tie.Need-returns-in-Deposited
 returns-2 c =
-    let k = c.before.before in
-    let g = k.found2.given in
-    rw g.1 (from_on k.before.before.args.deposit.now g.0.0 g.0.1.0)
+    let k = c.before in
+    let g = k.in-Deposited.found2.given in
+    rw g.1 (from_on k.args.deposit.now g.0.0 g.0.1.0)
 
-pub part-spec : {M : Type 1} → statement M
-part-spec =
+pub part_spec : {M : Type 1} → statement M
+part_spec =
     tie.close
     (tie.spec
     (λ c. search rules)

@@ -11,41 +11,41 @@ use Rattle.edits.proofs.append.Tie as tie
 abbrev start : tie.After-check → tie.Start
 start c = c.before.before.before.before
 
-abbrev checked : tie.After-counts → tie.After-check
+abbrev checked : tie.In-Accepted-2 → tie.After-check
 checked c = c.before.before
 
 -- the check accepts
-accepted : (c : tie.After-counts) → check_file (start (checked c)).args.file.now ≡ Accepted c.counts.given.0.0
-accepted c = sym (checked c).check.ensures.is ∙ c.counts.given.1
+accepted : (c : tie.In-Accepted-2) → check_file (start (checked c)).args.file.now ≡ Accepted c.counts-1.given.0.0
+accepted c = sym (checked c).check.ensures.is ∙ c.counts-1.given.1
 
-returns : tie.Need-returns
+returns : tie.Need-returns-then-bytes-gt-LIMIT
 returns c =
     let t = c.before in
-    let n = t.before.before in
+    let n = t.before in
     let a = (start (checked n)).args in
-    let z = c.refuse2.ensures in
-    rw z (appended-over a.file.now a.out.now a.bytes.now _ (accepted n) t.if1.true)
+    let z = c.refuse-then-bytes-gt-LIMIT.ensures in
+    rw z (appended-over a.file.now a.out-1.now a.bytes.now _ (accepted n) t.if-bytes-gt-LIMIT.true)
 
 insert-requires : tie.Need-insert-requires
-insert-requires c κs = let e = c.before in (accepted e.before.before, e.if1.false)
+insert-requires c κs = let e = c.before in (accepted e.before, e.if-bytes-gt-LIMIT.false)
 
-returns-2 : tie.Need-returns-2
+returns-2 : tie.Need-returns-in-Refused
 returns-2 c =
-    let k = c.before.before in
-    let a = (start k.before.before).args in
+    let k = c.before in
+    let a = (start k.before).args in
     rw c.refuse.ensures
-    (appended-refused a.file.now a.out.now a.bytes.now _ _ (sym k.before.before.check.ensures.is ∙ k.code.given.1))
+    (appended-refused a.file.now a.out-1.now a.bytes.now _ _ (sym k.check.ensures.is ∙ k.in-Refused.is))
 
-returns-3 : tie.Need-returns-3
+returns-3 : tie.Need-returns-else-bytes-gt-LIMIT
 returns-3 c =
     let i = c.before.before in
     let e = i.before.before in
-    let n = e.before.before in
+    let n = e.before in
     let a = (start (checked n)).args in
-    appended-given a.file.now a.out.now a.bytes.now _ (accepted n) e.if1.false _ _ i.insert.ensures
+    appended-given a.file.now a.out-1.now a.bytes.now _ (accepted n) e.if-bytes-gt-LIMIT.false _ _ i.insert.ensures
 
-pub append-spec : {M : Type 1} → statement M
-append-spec =
+pub append_spec : {M : Type 1} → statement M
+append_spec =
     tie.close
     (tie.spec
     (λ c κs. search rules)

@@ -18,52 +18,52 @@ use Rattle.edits.proofs.insert.Statement.{statement}
 use Rattle.edits.proofs.insert.Tie as tie
 
 -- places, named by what has been done there
-abbrev start : tie.After-slice-known → tie.Start
+abbrev start : tie.After-slice_known-1 → tie.Start
 start c = c.before.before.before
 
-abbrev ordered : tie.After-find-end → tie.After-is-msb
+abbrev ordered : tie.After-find_end-end → tie.After-is_msb-msb
 ordered c = c.before.before
 
-abbrev sought : tie.After-rewrite-arg3 → tie.After-find-end
+abbrev sought : tie.After-rewrite-arg-3-1 → tie.After-find_end-end
 sought c = c.before.before.before
 
-bytes : (c : tie.After-slice-known) → Bytes (start c).args.file.now
-bytes c = bytes_of_lem (start c).args.file.now (λ i. (c.before.before.shared-slice-known.given i).fits)
+bytes : (c : tie.After-slice_known-1) → Bytes (start c).args.file.now
+bytes c = bytes_of_lem (start c).args.file.now (λ i. (c.shared_slice_known-1.given i).fits)
 
-four : (c : tie.After-slice-known) → 4 ≤ length (start c).args.file.now
+four : (c : tie.After-slice_known-1) → 4 ≤ length (start c).args.file.now
 four c = taken_4 (start c).args.file.now (bytes c) _ (start c).requires.0
 
 -- where the end of file stands
-end_is : (c : tie.After-find-end) → let f = (start (ordered c).before).args.file.now in
-    4 + c.find-end.result ≡ 4 + length (frames (is_msb f) (before_end (tuples_of f)))
+end_is : (c : tie.After-find_end-end) → let f = (start (ordered c).before).args.file.now in
+    4 + c.find_end-end.result ≡ 4 + length (frames (is_msb f) (before_end (tuples_of f)))
 end_is c =
     let i = ordered c in
     let s = start i.before in
-    end-found s.args.file.now (bytes i.before) _ s.pre.0 i.is-msb.result i.is-msb.ensures _ c.find-end.ensures
+    end-found s.args.file.now (bytes i.before) _ s.requires.0 i.is_msb-msb.result i.is_msb-msb.ensures _ c.find_end-end.ensures
 
-add-end : tie.Need-overflow-add-end
+add-end : tie.Need-overflow_add-end
 add-end c =
     let i = ordered c in
     let s = start i.before in
     omega (
       arith,
-      (end-within s.args.file.now (bytes i.before) _ s.pre.0 i.is-msb.result i.is-msb.ensures _
+      (end-within s.args.file.now (bytes i.before) _ s.requires.0 i.is_msb-msb.result i.is_msb-msb.ensures _
           (end_is c)).1,
       s.good,
     )
 
-within : (c : tie.After-find-end) → let f = (start (ordered c).before).args.file.now in 4 + c.find-end.result ≤ length f
+within : (c : tie.After-find_end-end) → let f = (start (ordered c).before).args.file.now in 4 + c.find_end-end.result ≤ length f
 within c =
     let i = ordered c in
     let s = start i.before in
-    (end-within s.args.file.now (bytes i.before) _ s.pre.0 i.is-msb.result i.is-msb.ensures _ (end_is c)).1
+    (end-within s.args.file.now (bytes i.before) _ s.requires.0 i.is_msb-msb.result i.is_msb-msb.ensures _ (end_is c)).1
 
 rewrite-requires : tie.Need-rewrite-requires
 rewrite-requires c κs =
     let e = sought c in
     let i = ordered e in
     let s = start i.before in
-    inserted_cut s.args.file.now (bytes i.before) _ s.pre.0 i.is-msb.result i.is-msb.ensures _ (end_is e) _ s.pre.1
+    inserted_cut s.args.file.now (bytes i.before) _ s.requires.0 i.is_msb-msb.result i.is_msb-msb.ensures _ (end_is e) _ s.requires.1
 
 returns : tie.Need-returns
 returns c =
@@ -72,11 +72,11 @@ returns c =
     let i = ordered e in
     let s = start i.before in
     subst (λ (g : List ℕ). Rewritten g s.args.counts s.args.out.now r.rewrite.result r.rewrite.new.1.1.1.1.1.0)
-    (inserted_result s.args.file.now (bytes i.before) _ s.pre.0 i.is-msb.result i.is-msb.ensures _ (end_is e) _)
+    (inserted_result s.args.file.now (bytes i.before) _ s.requires.0 i.is_msb-msb.result i.is_msb-msb.ensures _ (end_is e) _)
     r.rewrite.ensures
 
-pub insert-spec : {M : Type 1} → statement M
-insert-spec =
+pub insert_spec : {M : Type 1} → statement M
+insert_spec =
     tie.close
     (tie.spec
     (λ c κs. four c)

@@ -14,30 +14,35 @@ use Rattle.edits.proofs.is_dropped.Statement.{statement}
 use Rattle.edits.proofs.is_dropped.Tie as tie
 
 -- the tuple that stands there
-front : (c : tie.Then1) → let a = c.before.before.before.args in Front a.msb (drop a.at a.part.now)
+front : (c : tie.Then-is_tuple) → let a = c.args in Front a.msb (drop a.at a.part.now)
 front c =
     let k = c.before.before in
-    let a = k.before.args in
-    here a.msb a.part.now a.at (bytes_of_lem a.part.now (λ i. (k.shared-slice-known.given i).fits))
-    (sym c.before.is-tuple.ensures ∙ c.if1.true)
+    let a = k.args in
+    here a.msb a.part.now a.at (bytes_of_lem a.part.now (λ i. (k.shared_slice_known-1.given i).fits))
+    (sym c.is_tuple.ensures ∙ c.if-is_tuple.true)
 
-kind-at-requires : tie.Need-kind-at-requires
-kind-at-requires c κs = omega (arith, holds_16 _ _ _ (front c) c.before.before.before.requires)
+kind-at-requires : tie.Need-kind_at-requires
+kind-at-requires c κs = omega (arith, holds_16 _ _ _ (front c) c.requires)
 
-returns : tie.Need-returns
+returns : tie.Need-returns-then-is_tuple
 returns c =
     let e = c.before.before in
-    let a = e.before.before.before.args in
+    let a = e.args in
     let q = drop a.at a.part.now in
-    c.in-class.ensures
-    ∙ ap (in_class Types.index) c.before.kind_at.ensures
-    ∙ sym (ap (λ (b : Bool). b && in_class Types.index (kind_at a.msb q)) (sym e.before.is-tuple.ensures ∙ e.if1.true))
+    c.in_class.ensures
+    ∙ ap (in_class Types.index) c.kind_at.ensures
+    ∙ sym (ap (λ (b : Bool). b && in_class Types.index (kind_at a.msb q)) (sym e.is_tuple.ensures ∙ e.if-is_tuple.true))
 
-returns-2 : tie.Need-returns-2
+returns-2 : tie.Need-returns
 returns-2 c =
-    let a = c.before.before.before.args in
+    let a = c.args in
     let q = drop a.at a.part.now in
-    sym (ap (λ (b : Bool). b && in_class Types.index (kind_at a.msb q)) (sym c.before.is-tuple.ensures ∙ c.if1.false))
+    sym (ap (λ (b : Bool). b && in_class Types.index (kind_at a.msb q)) (sym c.is_tuple.ensures ∙ c.if-is_tuple.false))
 
-pub is-dropped-spec : {M : Type 1} → statement M
-is-dropped-spec = tie.close (tie.spec (λ c κs. search rules) kind-at-requires (λ c κs. search rules) returns returns-2)
+pub is_dropped_spec : {M : Type 1} → statement M
+is_dropped_spec = tie.close (tie.spec
+    (λ c κs. search rules)
+    kind-at-requires
+    (λ c κs. search rules)
+    returns
+    returns-2)

@@ -5,12 +5,12 @@ use Rattle.layout.specs.Answers.{is_fine}
 use Rattle.edits.proofs.is_tuple.Statement.{statement}
 use Rattle.edits.proofs.is_tuple.Tie as tie
 
-pub is-tuple-spec : {M : Type 1} → statement M
-is-tuple-spec =
+pub is_tuple_spec : {M : Type 1} → statement M
+is_tuple_spec =
     tie.close
     (tie.spec
     (λ c κs. search rules)
     (λ c. search rules)
     (λ c. search rules)
-    (λ c. ap is_fine (sym c.enum_told.given.1 ∙ c.before.before.judge-frame.ensures))
-    (λ c. ap is_fine (sym c.enum-told2.given.1 ∙ c.before.before.judge-frame.ensures)))
+    (λ c. ap is_fine (sym c.in-Fine.is ∙ c.judge_frame.ensures))
+    (λ c. ap is_fine (sym c.in-Fault.is ∙ c.judge_frame.ensures)))

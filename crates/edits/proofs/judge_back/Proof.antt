@@ -8,55 +8,55 @@ use Rattle.edits.proofs.judge_back.Statement.{statement}
 use Rattle.edits.proofs.judge_back.Tie as tie
 
 -- places, named by what has been done there
-abbrev start : tie.After-struct-known → tie.Start
+abbrev start : tie.After-struct_known-1 → tie.Start
 start c = c.before.before
 
-abbrev passing : tie.After-judge-part → tie.After-pass-index
+abbrev passing : tie.After-judge_part → tie.After-pass_index-w
 passing c = c.before.before.before.before
 
-returns : tie.Need-returns
+returns : tie.Need-returns-then-from-eq0
 returns c =
     let a = (start c.before.before).args in
     rw c.refuse.ensures
     (back-first a.msb a.size.whole a.last.now a.size.index a.from (tables a.sounders.now a.channels.now)
-    c.before.if1.true)
+    c.if-from-eq0.true)
 
-pass-index-requires : tie.Need-pass-index-requires
+pass-index-requires : tie.Need-pass_index-w-requires
 pass-index-requires c κs =
     let s = start c.before in
-    (s.pre.0.standing, (omega (arith, c.if1.false), (omega (arith, s.pre.1.0), s.pre.1.1)))
+    (s.requires.0.standing, (omega (arith, c.if-from-eq0.false), (omega (arith, s.requires.1.0), s.requires.1.1)))
 
-judge-part-requires : tie.Need-judge-part-requires
+judge-part-requires : tie.Need-judge_part-requires
 judge-part-requires c κs =
     let i = c.before.before.before in
     let s = start i.before.before in
-    let p = i.pass-index.ensures in (
-      record { standing = p.stands; steady = p.steady _ s.pre.0.steady; sized = s.pre.0.sized },
+    let p = i.pass_index-w.ensures in (
+      record { standing = p.stands; steady = p.steady _ s.requires.0.steady; sized = s.requires.0.sized },
       omega
-          (arith, p.at, s.pre.1.0),
+          (arith, p.at, s.requires.1.0),
     )
 
-returns-2 : tie.Need-returns-2
+returns-2 : tie.Need-returns-in-On
 returns-2 c =
-    let n = c.before.before in
-    let j = n.before.before in
+    let n = c.before in
+    let j = n.before in
     let i = passing j in
     let a = (start i.before.before).args in
-    rw c.refuse2.ensures
+    rw c.refuse-in-On.ensures
     (back_open a.msb a.size.whole a.last.now a.size.index a.from (tables a.sounders.now a.channels.now) _
-    i.pass-index.ensures _ _ (part_to a.msb a.size.whole a.last.now _ _ _ _ _ j.judge-part.ensures n.next.given.1))
+    i.pass_index-w.ensures _ _ (part_to a.msb a.size.whole a.last.now _ _ _ _ _ j.judge_part.ensures n.in-On.is))
 
-returns-3 : tie.Need-returns-3
+returns-3 : tie.Need-returns-in-Done
 returns-3 c =
-    let n = c.before in
-    let j = n.before.before in
+    let n = c in
+    let j = n.before in
     let i = passing j in
     let a = (start i.before.before).args in
     back_done a.msb a.size.whole a.last.now a.size.index a.from (tables a.sounders.now a.channels.now) _
-    i.pass-index.ensures _ (part_to a.msb a.size.whole a.last.now _ _ _ _ _ j.judge-part.ensures n.answer.given.1)
+    i.pass_index-w.ensures _ (part_to a.msb a.size.whole a.last.now _ _ _ _ _ j.judge_part.ensures n.in-Done.is)
 
-pub judge-back-spec : {M : Type 1} → statement M
-judge-back-spec =
+pub judge_back_spec : {M : Type 1} → statement M
+judge_back_spec =
     tie.close
     (tie.spec
     (λ c κs. search rules)

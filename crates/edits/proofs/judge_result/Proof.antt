@@ -20,118 +20,118 @@ abbrev zeroed : Tables
 zeroed = tables (replicate most_sounders (replicate 6 0)) (replicate most_channels (replicate 6 0))
 
 -- places, named by what has been done there
-abbrev begun : tie.After-notes → tie.After-begin
+abbrev begun : tie.After-notes-1 → tie.After-begin-begin
 begun c = c.before.before.before
 
-abbrev start : tie.After-begin → tie.Start
+abbrev start : tie.After-begin-begin → tie.Start
 start c = c.before.before.before.before
 
-abbrev one : tie.After-w → tie.After-judge-part
+abbrev one : tie.In-On-2 → tie.After-judge_part
 one c = c.before.before
 
-abbrev first : tie.After-notes2 → tie.After-w
-first c = c.before.before.before.before
+abbrev first : tie.After-notes-in-On-1 → tie.In-On-2
+first c = c.before.before.before
 
-abbrev two : tie.After-v → tie.After-judge-part2
+abbrev two : tie.In-On-judge_part-2 → tie.After-judge_part-in-On
 two c = c.before.before
 
-abbrev second : tie.After-notes3 → tie.After-v
-second c = c.before.before.before.before
+abbrev second : tie.After-notes-in-On-judge_part-1 → tie.In-On-judge_part-2
+second c = c.before.before.before
 
-judge-part-requires : tie.Need-judge-part-requires
+judge-part-requires : tie.Need-judge_part-requires
 judge-part-requires c κs =
     let b = begun c in
     let a = (start b).args in
-    let p = (start b).pre in (
-      ready-begin _ _ b.begin.ensures sized-zeros,
-      first_small_lem a.msb a.first.now a.second.now a.last.now _ p.1.0.whole p.1.1 _ b.begin.ensures,
+    let p = (start b).requires in (
+      ready-begin _ _ b.begin-begin.ensures sized-zeros,
+      first_small_lem a.msb a.first.now a.second.now a.last.now _ p.1.0.whole p.1.1 _ b.begin-begin.ensures,
     )
 
 -- the first part is passed
-first-passed : (c : tie.After-w) → let j = one c in let b = begun j.before in let a = (start b).args in
-    Passed a.msb a.size.whole a.first.now b.begin.result zeroed c.w.given.0.0
-    (tables j.judge-part.last.1.1.1.1.0 j.judge-part.last.1.1.1.1.1.0)
+first-passed : (c : tie.In-On-2) → let j = one c in let b = begun j.before in let a = (start b).args in
+    Passed a.msb a.size.whole a.first.now b.begin-begin.result zeroed c.w-1.given.0.0
+    (tables j.judge_part.last.1.1.1.1.0 j.judge_part.last.1.1.1.1.1.0)
 first-passed c =
     let j = one c in
     let b = begun j.before in
     let a = (start b).args in
-    part_to a.msb a.size.whole a.first.now b.begin.result zeroed j.judge-part.result _ _ j.judge-part.ensures
-    c.w.given.1
+    part_to a.msb a.size.whole a.first.now b.begin-begin.result zeroed j.judge_part.result _ _ j.judge_part.ensures
+    c.w-1.given.1
 
 -- and the second
-second-passed : (c : tie.After-v) → let j = two c in let f = first j.before in let a = (start (begun (one f).before)).args in
-    Passed a.msb a.size.whole a.second.now f.w.given.0.0
-    (tables (one f).judge-part.last.1.1.1.1.0 (one f).judge-part.last.1.1.1.1.1.0) c.v.given.0.0
-    (tables j.judge-part2.last.1.1.1.1.0 j.judge-part2.last.1.1.1.1.1.0)
+second-passed : (c : tie.In-On-judge_part-2) → let j = two c in let f = first j.before in let a = (start (begun (one f).before)).args in
+    Passed a.msb a.size.whole a.second.now f.w-1.given.0.0
+    (tables (one f).judge_part.last.1.1.1.1.0 (one f).judge_part.last.1.1.1.1.1.0) c.v-1.given.0.0
+    (tables j.judge_part-in-On.last.1.1.1.1.0 j.judge_part-in-On.last.1.1.1.1.1.0)
 second-passed c =
     let j = two c in
     let f = first j.before in
     let a = (start (begun (one f).before)).args in
-    part_to a.msb a.size.whole a.second.now _ _ j.judge-part2.result _ _ j.judge-part2.ensures c.v.given.1
+    part_to a.msb a.size.whole a.second.now _ _ j.judge_part-in-On.result _ _ j.judge_part-in-On.ensures c.v-1.given.1
 
-judge-part-requires-2 : tie.Need-judge-part-requires-2
+judge-part-requires-2 : tie.Need-judge_part-requires-in-On
 judge-part-requires-2 c κs =
     let f = first c in
     let b = begun (one f).before in
     let a = (start b).args in
-    let p = (start b).pre in (
+    let p = (start b).requires in (
       (first-passed f).ready,
-      second-small a.msb a.first.now a.second.now a.last.now _ p.1.0.whole p.1.1 _ zeroed b.begin.ensures _ _
+      second-small a.msb a.first.now a.second.now a.last.now _ p.1.0.whole p.1.1 _ zeroed b.begin-begin.ensures _ _
           (first-passed f),
     )
 
-judge-back-requires : tie.Need-judge-back-requires
+judge-back-requires : tie.Need-judge_back-requires
 judge-back-requires c κs =
     let s = second c in
     let f = first (two s).before in
     let b = begun (one f).before in
     let a = (start b).args in
-    let p = (start b).pre in
+    let p = (start b).requires in
     let x = index_of a.msb a.first.now a.second.now a.last.now _ p.1.0.index in (
       (second-passed s).ready,
       (
         behind-small a.msb a.first.now a.second.now a.last.now _ p.1.0.whole p.1.1 _ zeroed
-            b.begin.ensures _ _ (first-passed f) _ _ (second-passed s) _ p.1.0.index,
+            b.begin-begin.ensures _ _ (first-passed f) _ _ (second-passed s) _ p.1.0.index,
         subst (λ (m : ℕ). allowed m ≡ true) x.size x.framed.allowed,
       ),
     )
 
-returns : tie.Need-returns
+returns : tie.Need-returns-in-Done
 returns c =
-    let n = c.before in
-    let j = n.before.before in
+    let n = c in
+    let j = n.before in
     let b = begun j.before in
     let a = (start b).args in
-    let p = (start b).pre in
-    first_done a.msb a.first.now a.second.now a.last.now _ p.1.0.whole p.1.1 _ zeroed b.begin.ensures p.0 _
-    (part_to a.msb a.size.whole a.first.now b.begin.result zeroed j.judge-part.result _ _ j.judge-part.ensures
-    n.answer.given.1)
+    let p = (start b).requires in
+    first_done a.msb a.first.now a.second.now a.last.now _ p.1.0.whole p.1.1 _ zeroed b.begin-begin.ensures p.0 _
+    (part_to a.msb a.size.whole a.first.now b.begin-begin.result zeroed j.judge_part.result _ _ j.judge_part.ensures
+    n.in-Done.is)
 
-returns-2 : tie.Need-returns-2
+returns-2 : tie.Need-returns-in-Done-judge_part
 returns-2 c =
-    let n = c.before in
-    let j = n.before.before in
+    let n = c in
+    let j = n.before in
     let f = first j.before in
     let b = begun (one f).before in
     let a = (start b).args in
-    let p = (start b).pre in
-    second-done a.msb a.first.now a.second.now a.last.now _ p.1.0.whole p.1.1 _ zeroed b.begin.ensures _ _
+    let p = (start b).requires in
+    second-done a.msb a.first.now a.second.now a.last.now _ p.1.0.whole p.1.1 _ zeroed b.begin-begin.ensures _ _
     (first-passed f) _
-    (part_to a.msb a.size.whole a.second.now _ _ j.judge-part2.result _ _ j.judge-part2.ensures n.answer2.given.1)
+    (part_to a.msb a.size.whole a.second.now _ _ j.judge_part-in-On.result _ _ j.judge_part-in-On.ensures n.in-Done-judge_part.is)
 
-returns-3 : tie.Need-returns-3
+returns-3 : tie.Need-returns-in-On-judge_part
 returns-3 c =
     let s = second c.before in
     let f = first (two s).before in
     let b = begun (one f).before in
     let a = (start b).args in
-    let p = (start b).pre in
-    behind-done a.msb a.first.now a.second.now a.last.now _ p.1.0.whole p.1.1 _ zeroed b.begin.ensures _ _
+    let p = (start b).requires in
+    behind-done a.msb a.first.now a.second.now a.last.now _ p.1.0.whole p.1.1 _ zeroed b.begin-begin.ensures _ _
     (first-passed f) _ _ (second-passed s) _ p.1.0.index _
-    c.judge-back.ensures
+    c.judge_back.ensures
 
-pub judge-result-spec : {M : Type 1} → statement M
-judge-result-spec =
+pub judge_result_spec : {M : Type 1} → statement M
+judge_result_spec =
     tie.close
     (tie.spec
     (λ c κs. search rules)

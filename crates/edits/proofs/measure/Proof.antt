@@ -15,85 +15,85 @@ use Rattle.edits.proofs.measure.Statement.{statement}
 use Rattle.edits.proofs.measure.Tie as tie
 
 -- places, named by what has been done there
-abbrev third : tie.After-index-length → tie.After-survey3
+abbrev third : tie.After-index_length-index → tie.After-survey-z
 third c = c.before.before.before
 
-abbrev second : tie.After-survey3 → tie.After-survey2
+abbrev second : tie.After-survey-z → tie.After-survey-b
 second c = c.before.before
 
-abbrev first : tie.After-survey2 → tie.After-survey
+abbrev first : tie.After-survey-b → tie.After-survey-a
 first c = c.before.before
 
-abbrev start : tie.After-survey → tie.Start
+abbrev start : tie.After-survey-a → tie.Start
 start c = c.before.before.before.before.before
 
-abbrev indexed : tie.After-struct-known3 → tie.After-index-length
+abbrev indexed : tie.After-struct_known-3-1 → tie.After-index_length-index
 indexed c = c.before.before.before
 
-abbrev began : tie.After-index-length → tie.Start
+abbrev began : tie.After-index_length-index → tie.Start
 began c = start (first (second (third c)))
 
 -- the three surveys
-one : (c : tie.After-survey) → let a = (start c).args in
-    Surveyed a.msb a.first.now (replicate 8192 0) c.survey.result.kept c.survey.result.end c.survey.new.1.1.0
+one : (c : tie.After-survey-a) → let a = (start c).args in
+    Surveyed a.msb a.first.now (replicate 8192 0) c.survey-a.result.kept c.survey-a.result.end c.survey-a.new.1.1.0
 one c =
     let a = (start c).args in
-    subst (λ (g : List ℕ). Surveyed a.msb a.first.now g c.survey.result.kept c.survey.result.end
-    c.survey.new.1.1.0) (start c).requires.1 c.survey.ensures
+    subst (λ (g : List ℕ). Surveyed a.msb a.first.now g c.survey-a.result.kept c.survey-a.result.end
+    c.survey-a.new.1.1.0) (start c).requires.1 c.survey-a.ensures
 
-index-length-requires : tie.Need-index-length-requires
-index-length-requires c κs = omega (arith, c.count-types.ensures, few-flagged c.before.before.survey3.new.1.1.0)
+index-length-requires : tie.Need-index_length-index-requires
+index-length-requires c κs = omega (arith, c.count_types.ensures, few-flagged c.before.before.survey-z.new.1.1.0)
 
 -- the index's bytes
-index-bytes : (c : tie.After-index-length) → let a = (began c).args in
-    c.index-length.result ≡ length_of (index_in a.msb a.first.now a.second.now a.last.now)
+index-bytes : (c : tie.After-index_length-index) → let a = (began c).args in
+    c.index_length-index.result ≡ length_of (index_in a.msb a.first.now a.second.now a.last.now)
 index-bytes c =
     let z = third c in
     let b = second z in
     let f = first b in
     let a = (start f).args in
-    index-size a.msb a.first.now a.second.now a.last.now _ _ _ _ _ _ _ _ _ (one f) b.survey2.ensures
-    z.survey3.ensures
-    _ c.before.count-types.ensures _ c.index-length.ensures
+    index-size a.msb a.first.now a.second.now a.last.now _ _ _ _ _ _ _ _ _ (one f) b.survey-b.ensures
+    z.survey-z.ensures
+    _ c.count_types.ensures _ c.index_length-index.ensures
 
 -- all that is added stays small
-record Small (c : tie.After-index-length) : Type 0 where
-  pub first : (first (second (third c))).survey.result.kept ≤ limit
-  pub second : (second (third c)).survey2.result.kept ≤ limit
-  pub last : (third c).survey3.result.kept ≤ limit
-  pub index : c.index-length.result ≤ 200000
+record Small (c : tie.After-index_length-index) : Type 0 where
+  pub first : (first (second (third c))).survey-a.result.kept ≤ limit
+  pub second : (second (third c)).survey-b.result.kept ≤ limit
+  pub last : (third c).survey-z.result.kept ≤ limit
+  pub index : c.index_length-index.result ≤ 200000
 
-small : (c : tie.After-index-length) → Small c
+small : (c : tie.After-index_length-index) → Small c
 small c =
     let p = (began c).requires.0 in
     let z = third c in
     record {
-      first = omega (arith, (first (second z)).survey.ensures.few, (first (second z)).survey.ensures.fits, p.first_small);
-      second = omega (arith, (second z).survey2.ensures.few, (second z).survey2.ensures.fits, p.second_small);
-      last = omega (arith, z.survey3.ensures.few, z.survey3.ensures.fits, p.last_small);
-      index = omega (arith, c.index-length.ensures, c.before.count-types.ensures, few-flagged z.survey3.last.1.1.0);
+      first = omega (arith, (first (second z)).survey-a.ensures.few, (first (second z)).survey-a.ensures.fits, p.first_small);
+      second = omega (arith, (second z).survey-b.ensures.few, (second z).survey-b.ensures.fits, p.second_small);
+      last = omega (arith, z.survey-z.ensures.few, z.survey-z.ensures.fits, p.last_small);
+      index = omega (arith, c.index_length-index.ensures, c.count_types.ensures, few-flagged z.survey-z.last.1.1.0);
     }
 
 -- all types are flagged
-flagged : (c : tie.After-index-length) → let a = (began c).args in
-    (third c).survey3.new.1.1.0 ≡ flag_all (replicate 8192 0) (all_of a.msb a.first.now a.second.now a.last.now)
+flagged : (c : tie.After-index_length-index) → let a = (began c).args in
+    (third c).survey-z.new.1.1.0 ≡ flag_all (replicate 8192 0) (all_of a.msb a.first.now a.second.now a.last.now)
 flagged c =
     let z = third c in
     let b = second z in
     let f = first b in
     let a = (start f).args in
-    all-flags a.msb a.first.now a.second.now a.last.now _ _ _ _ _ _ _ _ _ (one f) b.survey2.ensures z.survey3.ensures
+    all-flags a.msb a.first.now a.second.now a.last.now _ _ _ _ _ _ _ _ _ (one f) b.survey-b.ensures z.survey-z.ensures
 
-sub-t18 : tie.Need-overflow-sub-t18
-sub-t18 c = (second (third (indexed c.before.before))).survey2.ensures.fits
+sub-t18 : tie.Need-overflow_sub-result
+sub-t18 c = (second (third (indexed c.before.before))).survey-b.ensures.fits
 
-add-t19 : tie.Need-overflow-add-t19
+add-t19 : tie.Need-overflow_add-result
 add-t19 c =
     let i = indexed c.before.before in
     let s = small i in
-    omega (arith, s.first, s.second, (began i).pre.0.second_small)
+    omega (arith, s.first, s.second, (began i).requires.0.second_small)
 
-returns : tie.Need-returns
+returns : tie.Need-returns-then-b-second
 returns c =
     let i = indexed c.before.before in
     let z = third i in
@@ -101,21 +101,21 @@ returns c =
     let f = first b in
     let a = (start f).args in (
       record {
-        whole = broken-size a.msb a.first.now a.second.now a.last.now _ _ _ _ _ _ _ _ _ (one f) b.survey2.ensures
-            z.survey3.ensures
-            (start f).pre.0 c.before.if1.true;
+        whole = broken-size a.msb a.first.now a.second.now a.last.now _ _ _ _ _ _ _ _ _ (one f) b.survey-b.ensures
+            z.survey-z.ensures
+            (start f).requires.0 c.if-b-second.true;
         index = index-bytes i;
       },
       flagged i,
     )
 
-add-t14 : tie.Need-overflow-add-t14
+add-t14 : tie.Need-overflow_add-result-2
 add-t14 c = let s = small (indexed c.before) in omega (arith, s.first, s.second, s.index)
 
-add-t20 : tie.Need-overflow-add-t20
+add-t20 : tie.Need-overflow_add-result-3
 add-t20 c = let s = small (indexed c.before.before) in omega (arith, s.first, s.second, s.last, s.index)
 
-returns-2 : tie.Need-returns-2
+returns-2 : tie.Need-returns
 returns-2 c =
     let i = indexed c.before.before in
     let z = third i in
@@ -123,16 +123,16 @@ returns-2 c =
     let f = first b in
     let a = (start f).args in (
       record {
-        whole = whole-size a.msb a.first.now a.second.now a.last.now _ _ _ _ _ _ _ _ _ (one f) b.survey2.ensures
-            z.survey3.ensures
-            (start f).pre.0 c.before.if1.false _ (index-bytes i);
+        whole = whole-size a.msb a.first.now a.second.now a.last.now _ _ _ _ _ _ _ _ _ (one f) b.survey-b.ensures
+            z.survey-z.ensures
+            (start f).requires.0 c.if-b-second.false _ (index-bytes i);
         index = index-bytes i;
       },
       flagged i,
     )
 
-pub measure-spec : {M : Type 1} → statement M
-measure-spec =
+pub measure_spec : {M : Type 1} → statement M
+measure_spec =
     tie.close
     (tie.spec
     (λ c κs. search rules)

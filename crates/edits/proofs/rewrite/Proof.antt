@@ -11,83 +11,83 @@ use Rattle.edits.proofs.rewrite.Statement.{statement}
 use Rattle.edits.proofs.rewrite.Tie as tie
 
 -- places, named by what has been done there
-abbrev start : tie.After-measure → tie.Start
+abbrev start : tie.After-measure-size → tie.Start
 start c = c.before.before.before.before.before.before
 
-abbrev measured : tie.After-judge-result → tie.After-measure
+abbrev measured : tie.After-judge_result → tie.After-measure-size
 measured c = c.before.before.before
 
-returns : tie.Need-returns
+returns : tie.Need-returns-then-size-gt-LIMIT
 returns c =
     let m = c.before.before.before in
-    rw c.refuse.ensures (result-over _ _ _ (omega (arith, m.measure.ensures.0.whole, c.before.if1.true)))
+    rw c.refuse.ensures (result-over _ _ _ (omega (arith, m.measure-size.ensures.0.whole, c.if-size-gt-LIMIT.true)))
 
-judge-result-requires : tie.Need-judge-result-requires
+judge-result-requires : tie.Need-judge_result-requires
 judge-result-requires c κs =
     let m = c.before.before in
-    ((start m).requires.first, (m.measure.ensures.0, c.if1.false))
+    ((start m).requires.first, (m.measure-size.ensures.0, c.if-size-gt-LIMIT.false))
 
-abbrev judged : tie.Else2 → tie.After-judge-result
-judged c = c.before.before.before.before
+abbrev judged : tie.Else-out-size → tie.After-judge_result
+judged c = c.before.before.before
 
-returns-2 : tie.Need-returns-2
+returns-2 : tie.Need-returns-then-out-size
 returns-2 c =
     let k = c.before.before in
-    let j = k.before.before.before in
+    let j = k.before.before in
     let m = measured j in
-    rw c.refuse3.ensures
-    (result_no_room _ _ _ _ (sym j.judge-result.ensures ∙ k.before.enum_told.given.1)
-    (omega (arith, m.measure.ensures.0.whole, c.before.if2.true)))
+    rw c.refuse-then-out-size.ensures
+    (result_no_room _ _ _ _ (sym j.judge_result.ensures ∙ k.in-Accepted.is)
+    (omega (arith, m.measure-size.ensures.0.whole, c.if-out-size.true)))
 
 -- the second part divides, since the result is accepted
-divides : (c : tie.Else2) → let a = (start (measured (judged c))).args in Divides a.msb a.second.now
+divides : (c : tie.Else-out-size) → let a = (start (measured (judged c))).args in Divides a.msb a.second.now
 divides c =
     let j = judged c in
     let m = measured j in
     let k = m.before.before.before in
     let a = (start m).args in
     accepted-divides a.msb a.first.now a.second.now a.last.now
-    (bytes_of_lem a.first.now (λ i. (k.before.before.shared-slice-known.given i).fits))
-    (bytes_of_lem a.second.now (λ i. (k.before.shared-slice-known2.given i).fits))
-    (start m).pre.first _ (sym j.judge-result.ensures ∙ c.before.before.enum_told.given.1)
+    (bytes_of_lem a.first.now (λ i. (k.shared_slice_known-1.given i).fits))
+    (bytes_of_lem a.second.now (λ i. (k.shared_slice_known-2-1.given i).fits))
+    (start m).requires.first _ (sym j.judge_result.ensures ∙ c.in-Accepted.is)
 
-write-result-requires : tie.Need-write-result-requires
+write-result-requires : tie.Need-write_result-requires
 write-result-requires c κs =
     let e = c.before.before in
     let m = measured (judged e) in
     let a = (start m).args in (
-      (start m).pre,
+      (start m).requires,
       (
         divides e,
         (
-          m.measure.ensures.0,
+          m.measure-size.ensures.0,
           (
-            e.if2.false,
-            ap flagged_types m.measure.ensures.1 ∙ flagged-types
+            e.if-out-size.false,
+            ap flagged_types m.measure-size.ensures.1 ∙ flagged-types
                 (all_of a.msb a.first.now a.second.now a.last.now),
           ),
         ),
       ),
     )
 
-returns-3 : tie.Need-returns-3
+returns-3 : tie.Need-returns-in-Refused
 returns-3 c =
-    let k = c.before.before in
-    let j = k.before.before in
-    rw c.refuse2.ensures (result-refused _ _ _ _ _ (sym j.judge-result.ensures ∙ k.code.given.1))
+    let k = c.before in
+    let j = k.before in
+    rw c.refuse-in-Refused.ensures (result-refused _ _ _ _ _ (sym j.judge_result.ensures ∙ k.in-Refused.is))
 
-returns-4 : tie.Need-returns-4
+returns-4 : tie.Need-returns-else-out-size
 returns-4 c =
     let w = c.before.before in
     let e = w.before.before.before in
     let j = judged e in
     let m = measured j in
-    result-written _ _ _ _ (sym j.judge-result.ensures ∙ e.before.before.enum_told.given.1) _ m.measure.ensures.0.whole
-    e.if2.false _
-    w.write-result.ensures
+    result-written _ _ _ _ (sym j.judge_result.ensures ∙ e.in-Accepted.is) _ m.measure-size.ensures.0.whole
+    e.if-out-size.false _
+    w.write_result.ensures
 
-pub rewrite-spec : {M : Type 1} → statement M
-rewrite-spec =
+pub rewrite_spec : {M : Type 1} → statement M
+rewrite_spec =
     tie.close
     (tie.spec
     (λ c κs. search rules)

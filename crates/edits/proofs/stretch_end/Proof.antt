@@ -11,71 +11,71 @@ use Rattle.edits.proofs.Stretches.{Stretching, stretching_begin, stretching_fron
 use Rattle.edits.proofs.stretch_end.Statement.{statement}
 use Rattle.edits.proofs.stretch_end.Tie as tie
 
-abbrev invariant-loop : tie.invariant-loop
+abbrev invariant-loop : tie.invariant-loop-at
 invariant-loop part from msb at₀ at = Stretching msb part from at
 
-abbrev decreases-loop : tie.decreases-loop
+abbrev decreases-loop : tie.decreases-loop-at
 decreases-loop part from msb at₀ at = length part - at
 
 -- the part's elements are bytes
-bytes : (l : tie.At-loop invariant-loop decreases-loop) → Bytes l.before.before.args.part.now
-bytes l = let k = l.before in bytes_of_lem k.before.args.part.now (λ i. (k.shared-slice-known.given i).fits)
+bytes : (l : tie.At-loop-at invariant-loop decreases-loop) → Bytes l.args.part.now
+bytes l = let k = l.before in bytes_of_lem k.args.part.now (λ i. (k.shared_slice_known-1.given i).fits)
 
 -- the tuple where the loop stands
-front : (c : tie.Then1 invariant-loop decreases-loop)
-    → let l = c.before.before in let a = l.before.before.args in Front a.msb (drop l.loop.at a.part.now)
+front : (c : tie.In-loop-at invariant-loop decreases-loop)
+    → let l = c.before.before in let a = l.args in Front a.msb (drop l.loop-at.at a.part.now)
 front c =
     let l = c.before.before in
-    stretching_front l.loop.invariant (bytes l) (sym c.before.is-kept.ensures ∙ c.if1.true)
+    stretching_front l.loop-at.invariant (bytes l) (sym c.is_kept.ensures ∙ c.loop-at-test.true)
 
-length-at-requires : tie.Need-length-at-requires invariant-loop decreases-loop
-length-at-requires c κs = omega (arith, holds_16 _ _ _ (front c) c.before.before.loop.invariant.within)
+length-at-requires : tie.Need-length_at-at-requires invariant-loop decreases-loop
+length-at-requires c κs = omega (arith, holds_16 _ _ _ (front c) c.loop-at.invariant.within)
 
-add_at : tie.Need-overflow-add-at invariant-loop decreases-loop
+add_at : tie.Need-overflow_add-at invariant-loop decreases-loop
 add_at c =
     let t = c.before in
     let l = t.before.before in
-    omega (arith, ends-within _ _ _ (front t) l.loop.invariant.within, c.length_at.ensures, l.before.before.well-formed)
+    omega (arith, ends-within _ _ _ (front t) l.loop-at.invariant.within, c.length_at-at.ensures, l.well-formed)
 
-loop-less : tie.Need-loop-smaller invariant-loop decreases-loop
+loop-less : tie.Need-loop-at-smaller invariant-loop decreases-loop
 loop-less c =
     let t = c.before in
-    omega (arith, ends-within _ _ _ (front t) t.before.before.loop.invariant.within, (front t).size, (front t).long, c.length_at.ensures)
+    omega (arith, ends-within _ _ _ (front t) t.loop-at.invariant.within, (front t).size, (front t).long, c.length_at-at.ensures)
 
-loop-again : tie.Need-loop-preserved invariant-loop decreases-loop
+loop-again : tie.Need-loop-at-preserved invariant-loop decreases-loop
 loop-again c =
     let t = c.before in
     let l = t.before.before in
-    stretching_again l.loop.invariant (bytes l) (sym t.before.is-kept.ensures ∙ t.if1.true) _ c.length_at.ensures
+    stretching_again l.loop-at.invariant (bytes l) (sym t.is_kept.ensures ∙ t.loop-at-test.true) _ c.length_at-at.ensures
 
-returns : tie.Need-returns invariant-loop decreases-loop
+returns : tie.Need-returns-then-is_tuple invariant-loop decreases-loop
 returns c =
     let e = c.before.before in
     let l = e.before.before in
-    let p = l.before.before.requires in
-    stretch_dropped l.loop.invariant p.0 p.1 (sym e.before.is-kept.ensures ∙ e.if1.false)
-    (sym c.before.is-tuple.ensures ∙ c.if2.true)
+    let p = l.requires in
+    stretch_dropped l.loop-at.invariant p.0 p.1 (sym e.is_kept.ensures ∙ e.loop-at-test.false)
+    (sym c.is_tuple.ensures ∙ c.if-is_tuple.true)
 
-returns-2 : tie.Need-returns-2 invariant-loop decreases-loop
+returns-2 : tie.Need-returns invariant-loop decreases-loop
 returns-2 c =
     let e = c.before.before in
     let l = e.before.before in
-    let p = l.before.before.requires in
-    stretch_open l.loop.invariant p.0 p.1 (sym e.before.is-kept.ensures ∙ e.if1.false)
-    (sym c.before.is-tuple.ensures ∙ c.if2.false)
+    let p = l.requires in
+    stretch_open l.loop-at.invariant p.0 p.1 (sym e.is_kept.ensures ∙ e.loop-at-test.false)
+    (sym c.is_tuple.ensures ∙ c.if-is_tuple.false)
 
-pub stretch-end-spec : {M : Type 1} → statement M
-stretch-end-spec =
+pub stretch_end_spec : {M : Type 1} → statement M
+stretch_end_spec =
     tie.close
     (tie.spec
     invariant-loop
     decreases-loop
-    (λ c. let p = c.before.requires in stretching_begin _ _ _ (omega (arith, p.0)))
-    (λ c κs. c.loop.invariant.within)
+    (λ c. let p = c.requires in stretching_begin _ _ _ (omega (arith, p.0)))
+    (λ c κs. c.loop-at.invariant.within)
     length-at-requires
     add_at
     loop-less
     loop-again
-    (λ c κs. c.before.before.loop.invariant.within)
+    (λ c κs. c.loop-at.invariant.within)
     returns
     returns-2)

@@ -5,11 +5,11 @@ use Rattle.energy.specs.Energy.{code_in}
 use Rattle.energy.proofs.code_in.Statement.{statement}
 use Rattle.energy.proofs.code_in.Tie as tie
 
-pub code-in-spec : {M : Type 1} → statement M
-code-in-spec =
+pub code_in_spec : {M : Type 1} → statement M
+code_in_spec =
     tie.close
     (tie.spec
     (λ c. search rules)
     (λ c. search rules)
-    (λ c. sym (ap code_in c.enum_told.given.1))
-    (λ c. sym (ap code_in c.before.echo.given.1)))
+    (λ c. sym (ap code_in c.in-Sum.is))
+    (λ c. sym (ap code_in c.in-Refused.is)))

@@ -11,68 +11,68 @@ use Rattle.energy.proofs.energies.Tie as tie
 abbrev start : tie.After-check → tie.Start
 start c = c.before.before.before.before.before
 
-abbrev checked : tie.After-count-pings → tie.After-counts
-checked c = c.before.before
+abbrev checked : tie.After-count_pings-n → tie.In-Accepted-2
+checked c = c.before
 
-abbrev counted : tie.Else3 → tie.After-count-pings
+abbrev counted : tie.Else-codes-n → tie.After-count_pings-n
 counted c = c.before.before.before
 
-abbrev filled : tie.After-slice-known6 → tie.After-fill
+abbrev filled : tie.After-slice_known-in-Accepted-3-1 → tie.After-fill
 filled c = c.before.before.before.before.before.before
 
-abbrev roomed : tie.After-fill → tie.Else3
+abbrev roomed : tie.After-fill → tie.Else-codes-n
 roomed c = c.before.before.before.before
 
 -- the check accepts
-accepted : (c : tie.After-counts) → check_file (start c.before.before).args.file.now ≡ Accepted c.counts.given.0.0
-accepted c = sym c.before.before.check.ensures.is ∙ c.counts.given.1
+accepted : (c : tie.In-Accepted-2) → check_file (start c.before.before).args.file.now ≡ Accepted c.counts-1.given.0.0
+accepted c = sym c.check.ensures.is ∙ c.counts-1.given.1
 
-returns : tie.Need-returns
+returns : tie.Need-returns-then-places-n
 returns c =
     let n = c.before.before in
-    rw c.refuse2.ensures (short-places _ _ _ _ _ _ (accepted (checked n)) n.count-pings.ensures c.before.if1.true)
+    rw c.refuse-then-places-n.ensures (short-places _ _ _ _ _ _ (accepted (checked n)) n.count_pings-n.ensures c.if-places-n.true)
 
-returns-2 : tie.Need-returns-2
+returns-2 : tie.Need-returns-then-energies-n
 returns-2 c =
     let n = c.before.before.before in
-    rw c.refuse3.ensures (short-energies _ _ _ _ _ _ (accepted (checked n)) n.count-pings.ensures c.before.if2.true)
+    rw c.refuse-then-energies-n.ensures (short-energies _ _ _ _ _ _ (accepted (checked n)) n.count_pings-n.ensures c.if-energies-n.true)
 
-returns-3 : tie.Need-returns-3
+returns-3 : tie.Need-returns-then-codes-n
 returns-3 c =
     let n = c.before.before.before.before in
-    rw c.refuse4.ensures (short-codes _ _ _ _ _ _ (accepted (checked n)) n.count-pings.ensures c.before.if3.true)
+    rw c.refuse-then-codes-n.ensures (short-codes _ _ _ _ _ _ (accepted (checked n)) n.count_pings-n.ensures c.if-codes-n.true)
 
 fill-requires : tie.Need-fill-requires
 fill-requires c κs =
     let r = c.before.before.before in
     let n = counted r in
     let s = (start (checked n).before.before).args in
-    roomy s.file.now s.places.now s.energies.now s.codes.now _ _ (accepted (checked n)) n.count-pings.ensures
-    r.before.before.if1.false r.before.if2.false r.if3.false
+    roomy s.file.now s.places-1.now s.energies-1.now s.codes-1.now _ _ (accepted (checked n)) n.count_pings-n.ensures
+    r.if-places-n.false r.if-energies-n.false r.if-codes-n.false
 
-returns-4 : tie.Need-returns-4
+returns-4 : tie.Need-returns-in-Refused
 returns-4 c =
-    let k = c.before.before in
-    rw c.refuse.ensures (all-refused _ _ _ _ _ _ (sym k.before.before.check.ensures.is ∙ k.code.given.1))
+    let k = c.before in
+    rw c.refuse.ensures (all-refused _ _ _ _ _ _ (sym k.check.ensures.is ∙ k.in-Refused.is))
 
-returns-5 : tie.Need-returns-5
+returns-5 : tie.Need-returns-else-codes-n
 returns-5 c =
     let w = filled c in
     let r = roomed w in
     let n = counted r in
     let e = w.fill.ensures in
-    told-all _ _ _ _ _ _ (accepted (checked n)) n.count-pings.ensures r.before.before.if1.left r.before.if2.left
-    r.if3.left _ _ _ e.0 e.1.0 e.1.1
+    told-all _ _ _ _ _ _ (accepted (checked n)) n.count_pings-n.ensures r.if-places-n.false r.if-energies-n.false
+    r.if-codes-n.false _ _ _ e.0 e.1.0 e.1.1
 
-pub energies-spec : {M : Type 1} → statement M
-energies-spec =
+pub energies_spec : {M : Type 1} → statement M
+energies_spec =
     tie.close
     (tie.spec
     (λ c κs. search rules)
     (λ c. search rules)
     (λ c κs. search rules)
     (λ c. search rules)
-    (λ c κs. record { counts = _; answer = accepted c.before })
+    (λ c κs. record { counts-1 = _; answer = accepted c })
     (λ c κs. search rules)
     returns
     (λ c κs. search rules)

@@ -13,46 +13,46 @@ use Rattle.energy.proofs.energy.Tie as tie
 abbrev start : tie.After-check → tie.Start
 start c = c.before.before
 
-abbrev checked : tie.After-find → tie.After-counts
-checked c = c.before.before
+abbrev checked : tie.After-find → tie.In-Accepted-2
+checked c = c.before
 
-abbrev pinged : tie.After-values2 → tie.After-ping
-pinged c = c.before.before.before.before
+abbrev pinged : tie.After-values-in-Ping-1 → tie.In-Ping-2
+pinged c = c.before.before.before
 
 -- the check accepts
-accepted : (c : tie.After-counts) → check_file (start c.before.before).args.file.now ≡ Accepted c.counts.given.0.0
-accepted c = sym c.before.before.check.ensures.is ∙ c.counts.given.1
+accepted : (c : tie.In-Accepted-2) → check_file (start c.before.before).args.file.now ≡ Accepted c.counts-1.given.0.0
+accepted c = sym c.check.ensures.is ∙ c.counts-1.given.1
 
 -- a ping is found
-found : (c : tie.After-ping) → let x = (start (checked c.before.before).before.before).args in
-    FoundPing x.file.now x.place c.ping.given.0.0
-found c = subst (FoundAt _ _) c.ping.given.1 c.before.before.find.ensures
+found : (c : tie.In-Ping-2) → let x = (start (checked c.before.before).before.before).args in
+    FoundPing x.file.now x.place c.ping-1.given.0.0
+found c = subst (FoundAt _ _) c.ping-1.given.1 c.find.ensures
 
-returns : tie.Need-returns
-returns c = told-refused _ _ (sym c.before.before.before.check.ensures.is ∙ c.before.code.given.1)
+returns : tie.Need-returns-in-Refused
+returns c = told-refused _ _ (sym c.check.ensures.is ∙ c.in-Refused.is)
 
-returns-2 : tie.Need-returns-2
+returns-2 : tie.Need-returns-in-Nowhere
 returns-2 c =
-    let f = c.before.before in
-    told-nowhere _ _ (accepted (checked f)) (subst (FoundAt _ _) c.enum_told.given.1 f.find.ensures)
+    let f = c.before in
+    told-nowhere _ _ (accepted (checked f)) (subst (FoundAt _ _) c.in-Nowhere.is f.find.ensures)
 
-returns-3 : tie.Need-returns-3
+returns-3 : tie.Need-returns-in-Ping
 returns-3 c =
     let p = pinged c.before in
     tells (c.echo_of.ensures ∙ sym (found_echo _ _ (accepted (checked p.before.before)) (found p)))
 
-pub energy-spec : {M : Type 1} → statement M
-energy-spec =
+pub energy_spec : {M : Type 1} → statement M
+energy_spec =
     tie.close
     (tie.spec
     (λ c κs. search rules)
     (λ c. search rules)
     (λ c. search rules)
-    (λ c κs. record { counts = _; answer = accepted c.before })
+    (λ c κs. record { counts-1 = _; answer = accepted c })
     (λ c. search rules)
     (λ c. search rules)
     (λ c κs. search rules)
-    (λ c κs. (c.before.fill-values.ensures, (found (pinged c)).here))
+    (λ c κs. (c.fill_values.ensures, (found (pinged c)).here))
     returns
     returns-2
     returns-3)

@@ -5,15 +5,15 @@ use Rattle.energy.specs.Energy.{is_sv}
 use Rattle.energy.proofs.is_sv.Statement.{statement}
 use Rattle.energy.proofs.is_sv.Tie as tie
 
-pub is-sv-spec : {M : Type 1} → statement M
-is-sv-spec =
+pub is_sv_spec : {M : Type 1} → statement M
+is_sv_spec =
     tie.close
     (tie.spec
     (λ c. search rules)
     (λ c. search rules)
     (λ c. search rules)
     (λ c. search rules)
-    (λ c. sym (ap is_sv c.enum_told.given.1))
-    (λ c. sym (ap is_sv c.enum-told2.given.1))
-    (λ c. sym (ap is_sv c.enum-told3.given.1))
-    (λ c. sym (ap is_sv c.enum-told4.given.1)))
+    (λ c. sym (ap is_sv c.in-Volts.is))
+    (λ c. sym (ap is_sv c.in-Sv.is))
+    (λ c. sym (ap is_sv c.in-Ts.is))
+    (λ c. sym (ap is_sv c.in-Other.is)))

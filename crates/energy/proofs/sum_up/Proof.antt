@@ -18,142 +18,142 @@ use Rattle.energy.proofs.Sums.{Summing, summing_begin, summing_done, Turn, turn-
 use Rattle.energy.proofs.sum_up.Statement.{statement}
 use Rattle.energy.proofs.sum_up.Tie as tie
 
-abbrev invariant-loop : tie.invariant-loop
+abbrev invariant-loop : tie.invariant-loop-at
 invariant-loop table held msb code width unit sum₀ nth₀ at₀ sum nth at = Summing code msb held sum nth at
 
-abbrev decreases-loop : tie.decreases-loop
+abbrev decreases-loop : tie.decreases-loop-at
 decreases-loop table held msb code width unit sum₀ nth₀ at₀ sum nth at = length held - at
 
 -- places, named by what has been done there
-abbrev start : tie.At-loop invariant-loop decreases-loop → tie.Start invariant-loop decreases-loop
+abbrev start : tie.At-loop-at invariant-loop decreases-loop → tie.Start invariant-loop decreases-loop
 start c = c.before.before.before.before
 
-abbrev looping : tie.After-value-at invariant-loop decreases-loop → tie.At-loop invariant-loop decreases-loop
+abbrev looping : tie.After-value_at-it invariant-loop decreases-loop → tie.At-loop-at invariant-loop decreases-loop
 looping c = c.before.before
 
-abbrev told : tie.After-negated-of invariant-loop decreases-loop → tie.After-struct-told invariant-loop decreases-loop
+abbrev told : tie.After-negated_of invariant-loop decreases-loop → tie.After-struct_told-1 invariant-loop decreases-loop
 told c = c.before.before
 
-abbrev sampled : tie.After-negated-of invariant-loop decreases-loop → tie.Then1 invariant-loop decreases-loop
+abbrev sampled : tie.After-negated_of invariant-loop decreases-loop → tie.Then-sampled invariant-loop decreases-loop
 sampled c = (told c).before
 
 -- what stands at the loop's place lies within
-fits : (c : tie.In-loop invariant-loop decreases-loop)
-    → c.before.loop.at + c.before.before.before.width_of_lem.result ≤ length (start c.before).args.held.now
-fits c = omega (arith, c.before.loop.invariant.within)
+fits : (c : tie.In-loop-at invariant-loop decreases-loop)
+    → c.loop-at.at + c.width_of-width.result ≤ length (start c.before).args.held.now
+fits c = omega (arith, c.loop-at.invariant.within)
 
-value-at-requires : tie.Need-value-at-requires invariant-loop decreases-loop
+value-at-requires : tie.Need-value_at-it-requires invariant-loop decreases-loop
 value-at-requires c κs =
-    let before = (start c.before).pre in
+    let before = (start c.before).requires in
     let f = fits c in (
       before.0.1,
-      rw (← c.before.before.before.width_of_lem.ensures.0) f,
+      rw (← c.width_of-width.ensures.0) f,
     )
 
-turn : (c : tie.After-value-at invariant-loop decreases-loop) → let l = looping c in
+turn : (c : tie.After-value_at-it invariant-loop decreases-loop) → let l = looping c in
     let a = (start l).args in
-    Turn a.code a.msb a.held.now l.loop.sum l.loop.nth l.loop.at
-    l.before.before.width_of_lem.result c.value-at.result
+    Turn a.code a.msb a.held.now l.loop-at.sum l.loop-at.nth l.loop-at.at
+    l.width_of-width.result c.value_at-it.result
 turn c =
     let l = looping c in
-    record { before = l.loop.inv; width = l.before.before.width_of_lem.ensures.0; fits = fits c.before; step = c.value-at.ensures }
+    record { before = l.loop-at.invariant; width = l.width_of-width.ensures.0; fits = fits c.before; step = c.value_at-it.ensures }
 
 -- the value as the code holds it, back from its bits; and how far it lies below 0 dB
-same : (c : tie.After-struct-told invariant-loop decreases-loop) → let v = c.before.before.value-at.result.value in to_z w32 (of_z w32 v) ≡ v
-same c = to_z-of_z w32 _ (record { sfits = c.struct_told.given.1.0.1 })
+same : (c : tie.After-struct_told-1 invariant-loop decreases-loop) → let v = c.value_at-it.result.value in to_z w32 (of_z w32 v) ≡ v
+same c = to_z-of_z w32 _ (record { sfits = c.struct_told-1.given.1.0.1 })
 
-depth-here : (c : tie.After-negated-of invariant-loop decreases-loop) → let l = looping (sampled c).before in
-    c.negated-of.result * l.before.unit-of.result
-    ≡ depth_of (family_of (start l).args.code) (sampled c).before.value-at.result.value
+depth-here : (c : tie.After-negated_of invariant-loop decreases-loop) → let l = looping (sampled c).before in
+    c.negated_of.result * l.unit_of-unit.result
+    ≡ depth_of (family_of (start l).args.code) (sampled c).value_at-it.result.value
 depth-here c =
-    ap₂ (λ (x y : ℕ). x * y) (c.negated-of.ensures.0 ∙ ap negated (same (told c)))
-    (looping (sampled c).before).before.unit-of.ensures.0
+    ap₂ (λ (x y : ℕ). x * y) (c.negated_of.ensures.0 ∙ ap negated (same (told c)))
+    (looping (sampled c).before).unit_of-unit.ensures.0
 
-returns : tie.Need-returns invariant-loop decreases-loop
+returns : tie.Need-returns-then-value-gt0 invariant-loop decreases-loop
 returns c =
     let s = c.before.before in
-    turn-stop (turn s.before) s.if1.true (too_loud _ _ (rw (same c.before) at c.if2.true))
+    turn-stop (turn s.before) s.if-sampled.true (too_loud _ _ (rw (same c.before) at c.if-value-gt0.true))
 
-mul-depth : tie.Need-overflow-mul-depth invariant-loop decreases-loop
+mul-depth : tie.Need-overflow_mul-depth invariant-loop decreases-loop
 mul-depth c =
-    let u = (looping (sampled c).before).before.unit-of.ensures.1 in
-    record { fits = lt_of_le_of_lt (mul-le-mul c.negated-of.ensures.1 u) (lit< tt) }
+    let u = (looping (sampled c).before).unit_of-unit.ensures.1 in
+    record { fits = lt_of_le_of_lt (mul-le-mul c.negated_of.ensures.1 u) (lit< tt) }
 
-returns-2 : tie.Need-returns-2 invariant-loop decreases-loop
+returns-2 : tie.Need-returns-then-depth-gt-QUIETEST invariant-loop decreases-loop
 returns-2 c =
     let s = sampled c.before in
-    turn-stop (turn s.before) s.if1.taken (too_quiet _ _ (rw (depth-here c.before) at c.if3.true))
+    turn-stop (turn s.before) s.if-sampled.true (too_quiet _ _ (rw (depth-here c.before) at c.if-depth-gt-QUIETEST.true))
 
 -- a value inside
-inside : (c : tie.Else3 invariant-loop decreases-loop) → let s = sampled c.before in
-    is_inside (family_of (start (looping s.before)).args.code) s.before.value-at.result.value ≡ true
-inside c = within _ _ (rw (same (told c.before)) at c.before.before.if2.false) (rw (depth-here c.before) at c.if3.false)
+inside : (c : tie.Else-depth-gt-QUIETEST invariant-loop decreases-loop) → let s = sampled c.before in
+    is_inside (family_of (start (looping s.before)).args.code) s.value_at-it.result.value ≡ true
+inside c = within _ _ (rw (same (told c.before)) at c.if-value-gt0.false) (rw (depth-here c.before) at c.if-depth-gt-QUIETEST.false)
 
-few : (c : tie.Then1 invariant-loop decreases-loop) → (looping c.before).loop.nth < 32764
-few c = omega (arith, turn_more (turn c.before) c.if1.true, (start (looping c.before)).pre.1.1)
+few : (c : tie.Then-sampled invariant-loop decreases-loop) → (looping c.before).loop-at.nth < 32764
+few c = omega (arith, turn_more (turn c.before) c.if-sampled.true, (start (looping c.before)).requires.1.1)
 
-add-sum : tie.Need-overflow-add-sum invariant-loop decreases-loop
+add-sum : tie.Need-overflow_add-sum invariant-loop decreases-loop
 add-sum c =
     let s = sampled c.before.before in
-    omega (arith, few s, (looping s.before).loop.inv.few, c.linear-below.ensures.1)
+    omega (arith, few s, (looping s.before).loop-at.invariant.few, c.linear_below-sum.ensures.1)
 
-add-nth : tie.Need-overflow-add-nth invariant-loop decreases-loop
+add-nth : tie.Need-overflow_add-nth invariant-loop decreases-loop
 add-nth c = omega (arith, few (sampled c.before.before))
 
 -- and added
-added : (c : tie.After-linear-below invariant-loop decreases-loop) → let s = sampled c.before.before in
+added : (c : tie.After-linear_below-sum invariant-loop decreases-loop) → let s = sampled c.before.before in
     let l = looping s.before in
     let a = (start l).args in
-    Summing a.code a.msb a.held.now (l.loop.sum + c.linear-below.result) (l.loop.nth + 1)
-    (l.loop.at + l.before.before.width_of_lem.result)
+    Summing a.code a.msb a.held.now (l.loop-at.sum + c.linear_below-sum.result) (l.loop-at.nth + 1)
+    (l.loop-at.at + l.width_of-width.result)
 unfolding linear_of
 added c =
     let s = sampled c.before.before in
-    turn-value (turn s.before) s.if1.taken (inside c.before)
-    (c.linear-below.ensures.0 ∙ ap linear_below (depth-here c.before.before)) c.linear-below.ensures.1
+    turn-value (turn s.before) s.if-sampled.true (inside c.before)
+    (c.linear_below-sum.ensures.0 ∙ ap linear_below (depth-here c.before.before)) c.linear_below-sum.ensures.1
 
-add_at : tie.Need-overflow-add-at invariant-loop decreases-loop
+add_at : tie.Need-overflow_add-at invariant-loop decreases-loop
 add_at c = omega (arith, fits c.before.before)
 
-loop-less : tie.Need-loop-smaller invariant-loop decreases-loop
-loop-less c = omega (arith, fits c.before.before, (looping c.before).before.before.width_of_lem.ensures.1)
+loop-less : tie.Need-loop-at-smaller invariant-loop decreases-loop
+loop-less c = omega (arith, fits c.before.before, (looping c.before).width_of-width.ensures.1)
 
-loop-again : tie.Need-loop-preserved invariant-loop decreases-loop
+loop-again : tie.Need-loop-at-preserved invariant-loop decreases-loop
 loop-again c =
     ⊎_elim
     (λ w. rw (w.6, w.7)
     (added (record {
       before = record {
         before = record {
-          before = record { before = record { before = record { before = c.before; if1 = w.0 }; struct_told = w.1 }; if2 = w.2 };
-          negated-of = w.3;
+          before = record { before = record { before = record { before = c.before; if-sampled = w.0 }; struct_told-1 = w.1 }; if-value-gt0 = w.2 };
+          negated_of = w.3;
         };
-        if3 = w.4;
+        if-depth-gt-QUIETEST = w.4;
       };
-      linear-below = w.5;
+      linear_below-sum = w.5;
     })))
-    (λ w. rw (w.1, w.2) (turn-run (turn c.before) w.0.left))
-    c.if1.branch
+    (λ w. rw (w.1, w.2) (turn-run (turn c.before) w.0.false))
+    c.if-sampled.branch
 
-pub sum-up-spec : {M : Type 1} → statement M
-sum-up-spec =
+pub sum_up_spec : {M : Type 1} → statement M
+sum_up_spec =
     tie.close
     (tie.spec
     invariant-loop
     decreases-loop
-    (λ c κs. c.before.requires.0.1)
+    (λ c κs. c.requires.0.1)
     (λ c κs. search rules)
     (λ c. summing_begin _ _ _)
-    (λ c. c.loop.invariant.within)
+    (λ c. c.loop-at.invariant.within)
     value-at-requires
     returns
     (λ c κs. search rules)
     mul-depth
     returns-2
-    (λ c κs. ((start (looping (sampled c.before).before)).pre.0.0, c.if3.false))
+    (λ c κs. ((start (looping (sampled c.before).before)).requires.0.0, c.if-depth-gt-QUIETEST.false))
     add-sum
     add-nth
     add_at
     loop-less
     loop-again
-    (λ c. let l = c.before in summing_done l.loop.invariant (omega (arith, l.before.before.width_of_lem.ensures.0, l.loop.invariant.within))))
+    (λ c. let l = c.before in summing_done l.loop-at.invariant (omega (arith, l.width_of-width.ensures.0, l.loop-at.invariant.within))))

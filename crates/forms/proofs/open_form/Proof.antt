@@ -9,11 +9,11 @@ returns : tie.Need-returns
 returns c =
     let fields = c.before.before in
     let front = fields.before.before.before.before in
-    let a = front.before.before.before.before.args in
-    rw (fields.turn-listed.ensures, front.open-frame.ensures) (opening-stored false a.out.now a.to a.bytes a.code _)
+    let a = front.args in
+    rw (fields.turn_listed.ensures, front.open_frame.ensures) (opening-stored false a.out-1.now a.to a.bytes a.code _)
 
-pub open-form-spec : {M : Type 1} → statement M
-open-form-spec =
+pub open_form_spec : {M : Type 1} → statement M
+open_form_spec =
     tie.close
     (tie.spec
     (λ c κs. search rules)

@@ -10,12 +10,12 @@ use Rattle.forms.proofs.turn_first.Statement.{statement}
 use Rattle.forms.proofs.turn_first.Tie as tie
 
 -- behind the four arms one listing is left
-last : (m : tie.At-match-rest) → m.before.before.before.args.listing ≡ 4
-last m = let s = m.before.before.before in omega (arith, s.requires.0, at_least 4 s.args.listing m.match.rest)
+last : (m : tie.In_default) → m.args.listing ≡ 4
+last m = let s = m.before.before.before in omega (arith, s.requires.0, at_least 4 s.args.listing m.in_default.in_default-own.rest)
 
-pub turn-first-spec : {M : Type 1} → statement M
+pub turn_first_spec : {M : Type 1} → statement M
 unfolding row_codes listings fields_of field_of
-turn-first-spec =
+turn_first_spec =
     tie.close
     (tie.spec
     (λ c κs. search rules)
@@ -27,7 +27,7 @@ turn-first-spec =
     let m = r.before in
     let s = m.before.before.before in
     let a = s.args in
-    asked m.match.keys1 r.row.ensures refl a.at a.to a.file.now a.out.now s.requires.1.0 s.requires.1.1)
+    asked m.in-0.is r.row.ensures refl a.at a.to a.file.now a.out-1.now s.requires.1.0 s.requires.1.1)
     (λ c κs. search rules)
     (λ c. search rules)
     (λ c. search rules)
@@ -37,7 +37,7 @@ turn-first-spec =
     let m = r.before in
     let s = m.before.before.before in
     let a = s.args in
-    asked m.match.keys2 r.row2.ensures refl a.at a.to a.file.now a.out.now s.requires.1.0 s.requires.1.1)
+    asked m.in-1.is r.row-in-1.ensures refl a.at a.to a.file.now a.out-1.now s.requires.1.0 s.requires.1.1)
     (λ c κs. search rules)
     (λ c. search rules)
     (λ c. search rules)
@@ -47,7 +47,7 @@ turn-first-spec =
     let m = r.before in
     let s = m.before.before.before in
     let a = s.args in
-    asked m.match.keys3 r.row3.ensures refl a.at a.to a.file.now a.out.now s.requires.1.0 s.requires.1.1)
+    asked m.in-2.is r.row-in-2.ensures refl a.at a.to a.file.now a.out-1.now s.requires.1.0 s.requires.1.1)
     (λ c κs. search rules)
     (λ c. search rules)
     (λ c. search rules)
@@ -57,7 +57,7 @@ turn-first-spec =
     let m = r.before in
     let s = m.before.before.before in
     let a = s.args in
-    asked m.match.keys4 r.row4.ensures refl a.at a.to a.file.now a.out.now s.requires.1.0 s.requires.1.1)
+    asked m.in-3.is r.row-in-3.ensures refl a.at a.to a.file.now a.out-1.now s.requires.1.0 s.requires.1.1)
     (λ c κs. search rules)
     (λ c. search rules)
     (λ c. search rules)
@@ -67,34 +67,34 @@ turn-first-spec =
     let m = r.before in
     let s = m.before.before.before in
     let a = s.args in
-    asked (last m) r.row5.ensures refl a.at a.to a.file.now a.out.now s.requires.1.0 s.requires.1.1)
+    asked (last m) r.row-in_default.ensures refl a.at a.to a.file.now a.out-1.now s.requires.1.0 s.requires.1.1)
     (λ c. search rules)
     (λ c. let t = c.before.before in
     let r = t.before.before.before.before in
     let m = r.before in
-    let a = m.before.before.before.args in
-    left m.match.keys1 r.row.ensures refl a.at a.to a.msb a.file.now a.out.now t.turn-row.ensures)
+    let a = m.args in
+    left m.in-0.is r.row.ensures refl a.at a.to a.msb a.file.now a.out-1.now t.turn_row.ensures)
     (λ c. search rules)
     (λ c. let t = c.before.before in
     let r = t.before.before.before.before in
     let m = r.before in
-    let a = m.before.before.before.args in
-    left m.match.keys2 r.row2.ensures refl a.at a.to a.msb a.file.now a.out.now t.turn-row2.ensures)
+    let a = m.args in
+    left m.in-1.is r.row-in-1.ensures refl a.at a.to a.msb a.file.now a.out-1.now t.turn_row-in-1.ensures)
     (λ c. search rules)
     (λ c. let t = c.before.before in
     let r = t.before.before.before.before in
     let m = r.before in
-    let a = m.before.before.before.args in
-    left m.match.keys3 r.row3.ensures refl a.at a.to a.msb a.file.now a.out.now t.turn-row3.ensures)
+    let a = m.args in
+    left m.in-2.is r.row-in-2.ensures refl a.at a.to a.msb a.file.now a.out-1.now t.turn_row-in-2.ensures)
     (λ c. search rules)
     (λ c. let t = c.before.before in
     let r = t.before.before.before.before in
     let m = r.before in
-    let a = m.before.before.before.args in
-    left m.match.keys4 r.row4.ensures refl a.at a.to a.msb a.file.now a.out.now t.turn-row4.ensures)
+    let a = m.args in
+    left m.in-3.is r.row-in-3.ensures refl a.at a.to a.msb a.file.now a.out-1.now t.turn_row-in-3.ensures)
     (λ c. search rules)
     (λ c. let t = c.before.before in
     let r = t.before.before.before.before in
     let m = r.before in
-    let a = m.before.before.before.args in
-    left (last m) r.row5.ensures refl a.at a.to a.msb a.file.now a.out.now t.turn-row5.ensures))
+    let a = m.args in
+    left (last m) r.row-in_default.ensures refl a.at a.to a.msb a.file.now a.out-1.now t.turn_row-in_default.ensures))

@@ -9,7 +9,7 @@ use Rattle.forms.proofs.write_raw.Statement.{statement}
 use Rattle.forms.proofs.write_raw.Tie as tie
 
 -- places, named by what has been done there
-abbrev start : tie.After-copy-arg → tie.Start
+abbrev start : tie.After-copy-arg-1 → tie.Start
 start c = c.before.before.before.before.before.before.before
 
 -- the tuple stands in the file, and is no longer than a tuple may be
@@ -19,13 +19,13 @@ Room s = let a = s.args in (16 ≤ a.whole) × (a.whole ≤ 262144) × (a.at + a
 room : (s : tie.Start) → Room s
 room s = most s.requires.0
 
-open-frame-requires : tie.Need-open-frame-requires
+open-frame-requires : tie.Need-open_frame-requires
 open-frame-requires c κs = let r = room c.before.before.before in (omega arith, (omega arith, omega arith))
 
 copy-requires : tie.Need-copy-requires
 copy-requires c κs = let r = room (start c) in (omega arith, omega arith)
 
-cast-store4 : tie.Need-overflow-cast-store4
+cast-store4 : tie.Need-overflow_cast-whole
 cast-store4 c = let r = room (start c.before.before.before.before) in omega arith
 
 returns : tie.Need-returns
@@ -33,11 +33,11 @@ returns c =
     let back = c.before.before in
     let body = back.before.before.before.before in
     let front = body.before.before.before.before in
-    let p = front.before.before.before.before.requires in
-    raw-written p.0 _ _ _ p.1.0 (rw (back.store4.ensures, body.copy.ensures, front.open-frame.ensures))
+    let p = front.requires in
+    raw-written p.0 _ _ _ p.1.0 (rw (back.store4.ensures, body.copy.ensures, front.open_frame.ensures))
 
-pub write-raw-spec : {M : Type 1} → statement M
-write-raw-spec =
+pub write_raw_spec : {M : Type 1} → statement M
+write_raw_spec =
     tie.close
     (tie.spec
     open-frame-requires

@@ -8,11 +8,11 @@ returns : tie.Need-returns
 returns c =
     let back = c.before.before in
     let attribute = back.before.before.before.before in
-    let a = attribute.before.before.before.args in
-    rw (back.store42.ensures, attribute.store4.ensures) (close_stored a.msb a.out.now a.to a.whole a.attribute)
+    let a = attribute.args in
+    rw (back.store4-2.ensures, attribute.store4.ensures) (close_stored a.msb a.out-1.now a.to a.whole a.attribute)
 
-pub close-frame-spec : {M : Type 1} → statement M
-close-frame-spec =
+pub close_frame_spec : {M : Type 1} → statement M
+close_frame_spec =
     tie.close
     (tie.spec
     (λ c κs. search rules)

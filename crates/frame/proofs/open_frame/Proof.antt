@@ -8,11 +8,11 @@ returns : tie.Need-returns
 returns c =
     let type = c.before.before in
     let size = type.before.before.before.before in
-    let a = size.before.before.before.args in
-    rw (type.store2.ensures, size.store4.ensures) (open_stored a.msb a.out.now a.to a.whole a.code)
+    let a = size.args in
+    rw (type.store2.ensures, size.store4.ensures) (open_stored a.msb a.out-1.now a.to a.whole a.code)
 
-pub open-frame-spec : {M : Type 1} → statement M
-open-frame-spec =
+pub open_frame_spec : {M : Type 1} → statement M
+open_frame_spec =
     tie.close
     (tie.spec
     (λ c. search rules)

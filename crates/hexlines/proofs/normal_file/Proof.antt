@@ -14,40 +14,40 @@ use Rattle.hexlines.proofs.normal_file.Tie as tie
 
 -- the characters that were read
 abbrev text : tie.After-decode → List ℕ
-text d = let a = d.before.before.before.before.before.args in take a.characters a.text.now
+text d = let a = d.before.before.before.before.before.args in take a.characters a.text-1.now
 
 -- a bad line, or the bytes at the front of the space
-finds-bad : (c : tie.After-number) → input_of (text c.before.before.before) ≡ bad c.number.given.0.0
-finds-bad c = read-bad c.before.before.before.decode.ensures _ c.number.given.1
+finds-bad : (c : tie.In-Bad-2) → input_of (text c.before.before.before) ≡ bad c.number-1.given.0.0
+finds-bad c = read-bad c.decode.ensures _ c.number-1.given.1
 
-finds-bytes : (c : tie.After-n) →
-    let n = c.n.given.0.0 in
-    (n ≤ room) × (input_of (text c.before.before.before) ≡ bytes (take n c.before.before.before.decode.new.1.0))
+finds-bytes : (c : tie.In-Bytes-2) →
+    let n = c.n-1.given.0.0 in
+    (n ≤ room) × (input_of (text c.before.before.before) ≡ bytes (take n c.decode.new.1.0))
 finds-bytes c = let d = c.before.before.before in
-    read-bytes d.decode.ensures _ d.before.before.before.space.ensures c.n.given.1
+    read-bytes d.decode.ensures _ d.before.before.before.space-file.ensures c.n-1.given.1
 
-fits : (c : tie.After-n) → c.n.given.0.0 ≤ length c.before.before.before.decode.new.1.0
+fits : (c : tie.In-Bytes-2) → c.n-1.given.0.0 ≤ length c.decode.new.1.0
 fits c = let d = c.before.before.before in
-    omega (arith, (finds-bytes c).0, d.decode.auto.1.0, d.before.before.before.space.ensures)
+    omega (arith, (finds-bytes c).0, d.decode.auto.1.0, d.before.before.before.space-file.ensures)
 
-slice-aggregate-decode : tie.Need-slice-aggregate-decode
+slice-aggregate-decode : tie.Need-slice_bounds-decode-end-2
 slice-aggregate-decode c = sym (length-take-le _ _ c.before.before.before.requires.0)
 
-array-share-prefix-file : tie.Need-array-share-prefix-file
-array-share-prefix-file c = fits c.before.before
+array-share-prefix-file : tie.Need-slice_bounds-file-end
+array-share-prefix-file c = fits c.before
 
-slice-aggregate-print : tie.Need-slice-aggregate-print
-slice-aggregate-print c = sym (length-take-le _ _ (fits c.before.before.before))
+slice-aggregate-print : tie.Need-slice_bounds-print-end
+slice-aggregate-print c = sym (length-take-le _ _ (fits c.before.before))
 
-returns : tie.Need-returns
-returns c = prints-file _ _ (finds-bad c.before.before.before.before.before) c.before.before.print-bad.ensures
+returns : tie.Need-returns-in-Bad
+returns c = prints-file _ _ (finds-bad c.before.before.before.before) c.print_bad.ensures
 
-returns-2 : tie.Need-returns-2
+returns-2 : tie.Need-returns-in-Bytes
 returns-2 c = let printed = c.before.before in
-    prints-file _ _ (finds-bytes printed.before.before.before.before).1 printed.print.ensures
+    prints-file _ _ (finds-bytes printed.before.before.before).1 printed.print.ensures
 
-pub normal-file-spec : {M : Type 1} → statement M
-normal-file-spec =
+pub normal_file_spec : {M : Type 1} → statement M
+normal_file_spec =
     tie.close
     (tie.spec
     (λ c κs. search rules)

@@ -12,42 +12,42 @@ use Rattle.hexlines.proofs.print_answer.Statement.{statement}
 use Rattle.hexlines.proofs.print_answer.Tie as tie
 
 -- what is accepted is within the lent bytes
-within : (c : tie.After-answer2) → Within c.answer2.given.0.0.written c.before.before.before.before.args.form.now
+within : (c : tie.In-Accepted-2) → Within c.answer-in-Accepted-1.given.0.0.written c.args.form.now
 within c =
-    subst (λ (a : Answer). Ready a c.before.before.before.before.args.form.now) c.answer2.given.1
-    c.before.before.before.before.requires.1
+    subst (λ (a : Answer). Ready a c.args.form.now) c.answer-in-Accepted-1.given.1
+    c.requires.1
 
-counted : (c : tie.After-answer2) → let m = c.answer2.given.0.0.written in
-    length (take m c.before.before.before.before.args.form.now) ≡ m
+counted : (c : tie.In-Accepted-2) → let m = c.answer-in-Accepted-1.given.0.0.written in
+    length (take m c.args.form.now) ≡ m
 counted c = length-take-le _ _ (within c).long
 
-print-form-requires : tie.Need-print-form-requires
+print-form-requires : tie.Need-print_form-requires
 print-form-requires c κs =
-    let told = c.before.before.before in
+    let told = c.before in
     let w = within told in
     (w.form, omega (arith, most _ _ w.form (omega (arith, counted told, w.small)), told.before.before.before.before.requires.0))
 
-returns : tie.Need-returns
+returns : tie.Need-returns-in-Refused
 returns c =
-    let told = c.before.before.before.before.before in
-    put_same (ap (λ (a : Answer). printed_by a told.before.before.before.before.args.form.now) (sym told.answer.given.1))
-    c.before.before.print-refused.ensures
+    let told = c.before.before.before.before in
+    put_same (ap (λ (a : Answer). printed_by a told.args.form.now) (sym told.in-Refused.is))
+    c.print_refused.ensures
 
-returns-2 : tie.Need-returns-2
+returns-2 : tie.Need-returns-in-Accepted
 returns-2 c =
     let printed = c.before.before in
-    let told = printed.before.before.before.before in
-    put_same (ap (λ (a : Answer). printed_by a told.before.before.before.before.args.form.now) (sym told.answer2.given.1))
-    printed.print-form.ensures
+    let told = printed.before.before in
+    put_same (ap (λ (a : Answer). printed_by a told.before.before.before.before.args.form.now) (sym told.answer-in-Accepted-1.given.1))
+    printed.print_form.ensures
 
-pub print-answer-spec : {M : Type 1} → statement M
-print-answer-spec =
+pub print_answer_spec : {M : Type 1} → statement M
+print_answer_spec =
     tie.close
     (tie.spec
     (λ c. search rules)
     (λ c κs. search rules)
     (λ c. search rules)
-    (λ c. sym (counted c.before.before.before))
+    (λ c. sym (counted c.before))
     print-form-requires
     (λ c. search rules)
     returns

@@ -6,36 +6,36 @@ use Rattle.index.proofs.Flags.{flag-within, flag-outside, flag-stands, flag_adde
 use Rattle.index.proofs.flag_type.Statement.{statement}
 use Rattle.index.proofs.flag_type.Tie as tie
 
-returns : tie.Need-returns
-returns c = flag-within _ _ (sym c.before.in-class.ensures ∙ c.if1.true)
+returns : tie.Need-returns-then-in_class
+returns c = flag-within _ _ (sym c.in_class.ensures ∙ c.if-in_class.true)
 
-returns-2 : tie.Need-returns-2
+returns-2 : tie.Need-returns-then-is_flagged
 returns-2 c =
     let outside = c.before.before.before in
     let a = outside.before.before.args in
-    flag-stands a.flags.now a.code (sym c.before.is-flagged.ensures ∙ c.if2.true)
-    ∙ flag-outside a.flags.now a.code (sym outside.before.in-class.ensures ∙ outside.if1.false)
+    flag-stands a.flags.now a.code (sym c.is_flagged.ensures ∙ c.if-is_flagged.true)
+    ∙ flag-outside a.flags.now a.code (sym outside.before.in_class.ensures ∙ outside.if-in_class.false)
 
-add-flags : tie.Need-overflow-add-flags
+add-flags : tie.Need-overflow_add-flags
 add-flags c =
     let flagging = c.before.before.before in
-    let a = flagging.before.before.before.before.before.args in
-    let e = sym flagging.before.is-flagged.ensures ∙ flagging.if2.false in
-    let b = c.before.byte.ensures in
+    let a = flagging.args in
+    let e = sym flagging.is_flagged.ensures ∙ flagging.if-is_flagged.false in
+    let b = c.byte-b.ensures in
     rw (c.bit.ensures, b.0) (record { fits = flag-fits a.flags.now a.code (subst (λ x. x < 256) b.0 b.1) e })
 
-returns-3 : tie.Need-returns-3
+returns-3 : tie.Need-returns
 returns-3 c =
     let flagging = c.before.before.before in
     let outside = flagging.before.before.before in
-    let a = outside.before.before.args in
-    let e = sym flagging.before.is-flagged.ensures ∙ flagging.if2.false in
-    rw (c.bit.ensures, c.before.byte.ensures.0)
+    let a = outside.args in
+    let e = sym flagging.is_flagged.ensures ∙ flagging.if-is_flagged.false in
+    rw (c.bit.ensures, c.byte-b.ensures.0)
     (flag_added a.flags.now a.code e
-    ∙ flag-outside a.flags.now a.code (sym outside.before.in-class.ensures ∙ outside.if1.false))
+    ∙ flag-outside a.flags.now a.code (sym outside.in_class.ensures ∙ outside.if-in_class.false))
 
-pub flag-type-spec : {M : Type 1} → statement M
-flag-type-spec =
+pub flag_type_spec : {M : Type 1} → statement M
+flag_type_spec =
     tie.close
     (tie.spec
     (λ c κs. search rules)

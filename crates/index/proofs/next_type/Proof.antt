@@ -8,27 +8,27 @@ use Rattle.index.proofs.Flags.{blank_none, blank-past}
 use Rattle.index.proofs.next_type.Statement.{statement}
 use Rattle.index.proofs.next_type.Tie as tie
 
-abbrev invariant-loop : tie.invariant-loop
+abbrev invariant-loop : tie.invariant-loop-k
 invariant-loop flags from k₀ k = Blank flags from k
 
-abbrev decreases-loop : tie.decreases-loop
+abbrev decreases-loop : tie.decreases-loop-k
 decreases-loop flags from k₀ k = 65536 - k
 
-returns : tie.Need-returns invariant-loop decreases-loop
+returns : tie.Need-returns-then-is_flagged invariant-loop decreases-loop
 returns c =
     let t = c.before in
-    record { blank = t.before.before.loop.invariant; here = λ h. sym t.is-flagged.ensures ∙ c.if1.true }
+    record { blank = t.loop-k.invariant; here = λ h. sym t.is_flagged.ensures ∙ c.if-is_flagged.true }
 
-loop-again : tie.Need-loop-preserved invariant-loop decreases-loop
+loop-again : tie.Need-loop-k-preserved invariant-loop decreases-loop
 loop-again c =
     let t = c.before.before in
-    blank-past _ _ _ _ t.before.before.loop.invariant (sym t.is-flagged.ensures ∙ c.before.if1.false) c.skip.ensures
+    blank-past _ _ _ _ t.loop-k.invariant (sym t.is_flagged.ensures ∙ c.if-is_flagged.false) c.skip-k.ensures
 
-returns-2 : tie.Need-returns-2 invariant-loop decreases-loop
-returns-2 c = record { blank = c.before.loop.invariant; here = λ h. absurd (omega (arith, c.loop-test.false)) }
+returns-2 : tie.Need-returns invariant-loop decreases-loop
+returns-2 c = record { blank = c.loop-k.invariant; here = λ h. absurd (omega (arith, c.loop-k-test.false)) }
 
-pub next-type-spec : {M : Type 1} → statement M
-next-type-spec =
+pub next_type_spec : {M : Type 1} → statement M
+next_type_spec =
     tie.close
     (tie.spec
     invariant-loop
@@ -37,6 +37,6 @@ next-type-spec =
     (λ c κs. search rules)
     returns
     (λ c κs. search rules)
-    (λ c. omega (arith, c.skip.ensures.on, c.skip.ensures.few))
+    (λ c. omega (arith, c.skip-k.ensures.on, c.skip-k.ensures.few))
     loop-again
     returns-2)

@@ -15,18 +15,18 @@ use Rattle.index.proofs.Writes.{few-flagged, index-stored}
 use Rattle.index.proofs.write_index.Statement.{statement}
 use Rattle.index.proofs.write_index.Tie as tie
 
-index-length-requires : tie.Need-index-length-requires
-index-length-requires c κs = omega (arith, c.count-types.ensures, few-flagged c.before.before.args.flags.now)
+index-length-requires : tie.Need-index_length-whole-requires
+index-length-requires c κs = omega (arith, c.count_types.ensures, few-flagged c.args.flags.now)
 
-write-opening-requires : tie.Need-write-opening-requires
+write-opening-requires : tie.Need-write_opening-requires
 write-opening-requires c κs =
     let s = c.before.before.before.before in
-    let n = c.before.before.count-types.ensures in
-    let w = c.before.index-length.ensures in
+    let n = c.count_types.ensures in
+    let w = c.index_length-whole.ensures in
     let ks = flagged_types s.args.flags.now in
     (omega (arith, s.requires, length_data s.args.msb ks), (omega (arith, w), omega (arith, w, n, few-flagged s.args.flags.now)))
 
-write-spaced-requires : tie.Need-write-spaced-requires
+write-spaced-requires : tie.Need-write_spaced-end-requires
 write-spaced-requires c κs =
     let opened = c.before.before.before in
     let measured = opened.before.before in
@@ -38,11 +38,11 @@ write-spaced-requires c κs =
       s.requires,
       length_data a.msb ks,
       length-spaced ks,
-      ap length opened.write-opening.ensures,
-      length-sets a.out.now a.to (opening_of a.msb measured.index-length.result),
+      ap length opened.write_opening.ensures,
+      length-sets a.out-1.now a.to (opening_of a.msb measured.index_length-whole.result),
     )
 
-close-frame-requires : tie.Need-close-frame-requires
+close-frame-requires : tie.Need-close_frame-requires
 close-frame-requires c κs =
     let listed = c.before.before.before in
     let opened = listed.before.before.before.before in
@@ -50,19 +50,19 @@ close-frame-requires c κs =
     let s = measured.before.before.before in
     let a = s.args in
     let ks = flagged_types a.flags.now in
-    let t = listed.write-spaced.ensures in (
+    let t = listed.write_spaced-end.ensures in (
       omega (
         arith,
         t.0,
         s.requires,
         length_data a.msb ks,
         length-spaced ks,
-        ap length opened.write-opening.ensures,
-        length-sets a.out.now a.to (opening_of a.msb measured.index-length.result),
+        ap length opened.write_opening.ensures,
+        length-sets a.out-1.now a.to (opening_of a.msb measured.index_length-whole.result),
         ap length t.1,
-        length-sets opened.write-opening.new.0 (a.to + 12) (unwords 2 a.msb (spaced ks)),
+        length-sets opened.write_opening.new.0 (a.to + 12) (unwords 2 a.msb (spaced ks)),
       ),
-      omega (arith, measured.index-length.ensures, measured.before.count-types.ensures, few-flagged a.flags.now),
+      omega (arith, measured.index_length-whole.ensures, measured.count_types.ensures, few-flagged a.flags.now),
     )
 
 returns : tie.Need-returns
@@ -71,20 +71,20 @@ returns c =
     let listed = closed.before.before.before.before in
     let opened = listed.before.before.before.before in
     let measured = opened.before.before in
-    let a = measured.before.before.before.args in
+    let a = measured.args in
     let o = a.msb in
     let ks = flagged_types a.flags.now in
-    let n = measured.index-length.result in
-    let t = listed.write-spaced in
+    let n = measured.index_length-whole.result in
+    let t = listed.write_spaced-end in
     let w : n ≡ 20 + 2 * (length ks + length ks % 2) =
-    measured.index-length.ensures ∙ ap (λ (n : ℕ). 20 + 2 * (n + n % 2)) measured.before.count-types.ensures in
-    closed.close-frame.ensures
+    measured.index_length-whole.ensures ∙ ap (λ (n : ℕ). 20 + 2 * (n + n % 2)) measured.count_types.ensures in
+    closed.close_frame.ensures
     ∙ ap (λ (l : List ℕ). sets l t.result (close_bytes o n 0))
-    (t.ensures.1 ∙ ap (λ (l : List ℕ). sets l (a.to + 12) (unwords 2 o (spaced ks))) opened.write-opening.ensures)
-    ∙ index-stored ks o a.out.now a.to n w t.result t.ensures.0
+    (t.ensures.1 ∙ ap (λ (l : List ℕ). sets l (a.to + 12) (unwords 2 o (spaced ks))) opened.write_opening.ensures)
+    ∙ index-stored ks o a.out-1.now a.to n w t.result t.ensures.0
 
-pub write-index-spec : {M : Type 1} → statement M
-write-index-spec =
+pub write_index_spec : {M : Type 1} → statement M
+write_index_spec =
     tie.close
     (tie.spec
     (λ c κs. search rules)

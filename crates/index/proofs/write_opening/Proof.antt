@@ -14,14 +14,14 @@ returns c =
     let time = c.before.before in
     let fraction = time.before.before.before.before in
     let opened = fraction.before.before.before.before in
-    let a = opened.before.before.before.args in
+    let a = opened.args in
     time.store4.ensures
     ∙ ap (λ (l : List ℕ). sets l (a.to + 6 + 2) (bytes_of a.msb 4 0))
-    (fraction.store2.ensures ∙ ap (λ (l : List ℕ). sets l (a.to + 6) (bytes_of a.msb 2 0)) opened.open-frame.ensures)
-    ∙ opening-stored a.msb a.whole a.out.now a.to
+    (fraction.store2.ensures ∙ ap (λ (l : List ℕ). sets l (a.to + 6) (bytes_of a.msb 2 0)) opened.open_frame.ensures)
+    ∙ opening-stored a.msb a.whole a.out-1.now a.to
 
-pub write-opening-spec : {M : Type 1} → statement M
-write-opening-spec =
+pub write_opening_spec : {M : Type 1} → statement M
+write_opening_spec =
     tie.close
     (tie.spec
     (λ c κs. search rules)

@@ -6,16 +6,16 @@ use Rattle.intake.specs.Asking.{ask_checked, ask_at}
 use Rattle.intake.proofs.ask.Statement.{statement}
 use Rattle.intake.proofs.ask.Tie as tie
 
-pub ask-spec : {M : Type 1} → statement M
+pub ask_spec : {M : Type 1} → statement M
 unfolding ask_at
-ask-spec =
+ask_spec =
     tie.close
     (tie.spec
     (λ c κs. search rules)
     (λ c. search rules)
     (λ c. search rules)
-    (λ c κs. sym c.before.before.before.check.ensures.is ∙ c.before.counts.given.1)
-    (λ c. tells (sym (ap (ask_checked _ _) (sym c.before.before.before.check.ensures.is ∙ c.before.code.given.1))))
+    (λ c κs. sym c.check.ensures.is ∙ c.in-Accepted.is)
+    (λ c. tells (sym (ap (ask_checked _ _) (sym c.check.ensures.is ∙ c.in-Refused.is))))
     (λ c.
-    tells (c.ask-accepted.ensures
-    ∙ sym (ap (ask_checked _ _) (sym c.before.before.before.before.check.ensures.is ∙ c.before.before.counts.given.1)))))
+    tells (c.ask_accepted.ensures
+    ∙ sym (ap (ask_checked _ _) (sym c.before.before.before.before.check.ensures.is ∙ c.before.before.counts-1.given.1)))))

@@ -8,44 +8,44 @@ use Rattle.intake.proofs.ask_accepted.Statement.{statement}
 use Rattle.intake.proofs.ask_accepted.Tie as tie
 
 -- the byte order is known, before the tables are made
-abbrev ordered : tie.After-notes → tie.After-is-msb
+abbrev ordered : tie.After-notes-1 → tie.After-is_msb-msb
 ordered c = c.before.before.before
 
 run-requires : tie.Need-run-requires
 run-requires c κs =
-    let t = taken _ _ (ordered c).before.before.requires in
+    let t = taken _ _ (ordered c).requires in
     (marked_4 _ t.mark, (t.small, sized-zeros))
 
-ask-here-requires : tie.Need-ask-here-requires
+ask-here-requires : tie.Need-ask_here-requires
 ask-here-requires c κs =
-    let w = c.before.before.before in
-    let r = w.before.before in
+    let w = c.before.before in
+    let r = w.before in
     let o = ordered r.before in
-    seeking_in _ _ _ _ o.before.before.pre o.is-msb.ensures _ _ (ran_to _ _ _ _ _ _ r.run.ensures w.w.given.1)
+    seeking_in _ _ _ _ o.requires o.is_msb-msb.ensures _ _ (ran_to _ _ _ _ _ _ r.run.ensures w.in-On.is)
 
-returns : tie.Need-returns
+returns : tie.Need-returns-in-On
 returns c =
-    let w = c.before.before.before.before in
-    let r = w.before.before in
+    let w = c.before.before.before in
+    let r = w.before in
     let o = ordered r.before in
-    c.ask-here.ensures
-    ∙ seeking_here _ _ _ _ o.before.before.pre o.is-msb.ensures _ _ (ran_to _ _ _ _ _ _ r.run.ensures w.w.given.1)
+    c.ask_here.ensures
+    ∙ seeking_here _ _ _ _ o.requires o.is_msb-msb.ensures _ _ (ran_to _ _ _ _ _ _ r.run.ensures w.in-On.is)
 
-returns-2 : tie.Need-returns-2
+returns-2 : tie.Need-returns-in-Done
 returns-2 c =
-    let r = c.before.before in
+    let r = c.before in
     let o = ordered r.before in
-    seeking_missed _ _ _ _ o.before.before.pre o.is-msb.ensures _ (ran_to _ _ _ _ _ _ r.run.ensures c.enum_told.given.1)
+    seeking_missed _ _ _ _ o.requires o.is_msb-msb.ensures _ (ran_to _ _ _ _ _ _ r.run.ensures c.in-Done.is)
 
-pub ask-accepted-spec : {M : Type 1} → statement M
-ask-accepted-spec =
+pub ask_accepted_spec : {M : Type 1} → statement M
+ask_accepted_spec =
     tie.close
     (tie.spec
-    (λ c κs. marked_4 _ (taken _ _ c.before.requires).mark)
+    (λ c κs. marked_4 _ (taken _ _ c.requires).mark)
     run-requires
     (λ c. search rules)
-    (λ c. let w = c.before.before in sym (ran_to _ _ _ _ _ _ w.before.before.run.ensures w.w.given.1).sized.sounders)
-    (λ c. let w = c.before.before.before in sym (ran_to _ _ _ _ _ _ w.before.before.run.ensures w.w.given.1).sized.channels)
+    (λ c. let w = c.before in sym (ran_to _ _ _ _ _ _ w.run.ensures w.in-On.is).sized.sounders-1)
+    (λ c. let w = c.before.before in sym (ran_to _ _ _ _ _ _ w.run.ensures w.in-On.is).sized.channels-1)
     ask-here-requires
     (λ c. search rules)
     returns

@@ -12,49 +12,49 @@ use Rattle.intake.proofs.ask_here.Statement.{statement}
 use Rattle.intake.proofs.ask_here.Tie as tie
 
 -- places, named by what has been done there
-abbrev start : tie.After-find-channel → tie.Start
+abbrev start : tie.After-find_channel-found → tie.Start
 start c = c.before.before.before.before.before.before
 
 abbrev held : tie.Start → Tables
 held s = tables s.args.sounders.now s.args.channels.now
 
 -- what was read and tested is whether a listed ping stands there
-tested : (c : tie.After-is-ping) → let a = c.before.before.before.args in c.is-ping.result ≡ ping_at a.msb a.file.now a.w.at
-tested c = c.is-ping.ensures ∙ ap is_ping c.before.kind_at.ensures
+tested : (c : tie.After-is_ping) → let a = c.args in c.is_ping.result ≡ ping_at a.msb a.file.now a.w.at
+tested c = c.is_ping.ensures ∙ ap is_ping c.kind_at.ensures
 
-returns : tie.Need-returns
+returns : tie.Need-returns-then-not-is_ping
 returns c = let s = c.before.before.before.before in
-    ask-other _ _ s.args.w _ (held s) (sym (tested c.before) ∙ not-true _ c.if1.true)
+    ask-other _ _ s.args.w _ (held s) (sym (tested c.before) ∙ not-true _ c.if-not-is_ping.true)
 
-pings : (c : tie.Else1) → let a = c.before.before.before.before.args in ping_at a.msb a.file.now a.w.at ≡ true
-pings c = sym (tested c.before) ∙ not-false _ c.if1.false
+pings : (c : tie.Else-not-is_ping) → let a = c.args in ping_at a.msb a.file.now a.w.at ≡ true
+pings c = sym (tested c.before) ∙ not-false _ c.if-not-is_ping.false
 
 -- the lookups' rows are declared
-below-channel : (c : tie.After-find-channel)
-    → c.find-channel.result < length (start c).args.channels.now
+below-channel : (c : tie.After-find_channel-found)
+    → c.find_channel-found.result < length (start c).args.channels.now
 below-channel c = let s = start c in
-    channel-below _ _ _ s.args.counts (held s) s.pre (pings c.before.before) _ _ c.before.named-at.ensures
-    c.find-channel.ensures
+    channel-below _ _ _ s.args.counts (held s) s.requires (pings c.before.before) _ _ c.named_at-channel.ensures
+    c.find_channel-found.ensures
 
-below-sounder : (c : tie.After-find-sounder)
-    → c.find-sounder.result < length (start c.before.before).args.sounders.now
+below-sounder : (c : tie.After-find_sounder-over)
+    → c.find_sounder-over.result < length (start c.before.before).args.sounders.now
 below-sounder c =
     let f = c.before.before in
     let s = start f in
-    sounder-below _ _ _ s.args.counts (held s) s.pre (pings f.before.before) _ _ f.before.named-at.ensures
-    f.find-channel.ensures _ c.find-sounder.ensures
+    sounder-below _ _ _ s.args.counts (held s) s.requires (pings f.before.before) _ _ f.named_at-channel.ensures
+    f.find_channel-found.ensures _ c.find_sounder-over.ensures
 
-returns-2 : tie.Need-returns-2
+returns-2 : tie.Need-returns
 returns-2 c =
     let k = c.before.before in
     let g = k.before.before in
     let f = g.before.before in
     let s = start f in
-    ask-ping _ _ s.args.w _ (held s) s.pre (pings f.before.before) _ _ f.before.named-at.ensures f.find-channel.ensures
-    _ g.find-sounder.ensures _ _ _ k.before.wide.ensures k.narrow.ensures c.wide2.ensures
+    ask-ping _ _ s.args.w _ (held s) s.requires (pings f.before.before) _ _ f.named_at-channel.ensures f.find_channel-found.ensures
+    _ g.find_sounder-over.ensures _ _ _ k.wide.ensures k.narrow.ensures c.wide-2.ensures
 
-pub ask-here-spec : {M : Type 1} → statement M
-ask-here-spec =
+pub ask_here_spec : {M : Type 1} → statement M
+ask_here_spec =
     tie.close
     (tie.spec
     (λ c κs. search rules)

@@ -6,10 +6,10 @@ use Rattle.intake.proofs.channel_at.Tie as tie
 returns : tie.Need-returns
 returns c =
     let r = c.before.before in
-    rw (r.before.read2.ensures, r.read4.ensures, c.before.read42.ensures, c.read22.ensures)
+    rw (r.read2.ensures, r.read4.ensures, c.read4-2.ensures, c.read2-2.ensures)
 
-pub channel-at-spec : {M : Type 1} → statement M
-channel-at-spec =
+pub channel_at_spec : {M : Type 1} → statement M
+channel_at_spec =
     tie.close
     (tie.spec
     (λ c. search rules)

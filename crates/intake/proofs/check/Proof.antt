@@ -14,46 +14,46 @@ use Rattle.intake.proofs.check.Statement.{statement}
 use Rattle.intake.proofs.check.Tie as tie
 
 -- the file is marked
-marks : (c : tie.Else2) → marked c.before.before.before.before.args.file.now ≡ true
-marks c = sym c.before.is-marked.ensures ∙ not-false _ c.if2.false
+marks : (c : tie.Else-not-is_marked) → marked c.args.file.now ≡ true
+marks c = sym c.is_marked.ensures ∙ not-false _ c.if-not-is_marked.false
 
-returns : tie.Need-returns
-returns c = tells (c.refuse.ensures ∙ over-limit _ c.before.if1.true)
+returns : tie.Need-returns-then-file-gt-LIMIT
+returns c = tells (c.refuse.ensures ∙ over-limit _ c.if-file-gt-LIMIT.true)
 
-returns-2 : tie.Need-returns-2
+returns-2 : tie.Need-returns-then-not-is_marked
 returns-2 c =
-    tells (c.refuse2.ensures
-    ∙ no_mark _ c.before.before.before.if1.false (sym c.before.before.is-marked.ensures ∙ not-true _ c.before.if2.true))
+    tells (c.refuse-then-not-is_marked.ensures
+    ∙ no_mark _ c.if-file-gt-LIMIT.false (sym c.is_marked.ensures ∙ not-true _ c.if-not-is_marked.true))
 
-is-msb-requires : tie.Need-is-msb-requires
-is-msb-requires c κs = marked_4 c.before.before.before.before.args.file.now (marks c)
+is-msb-requires : tie.Need-is_msb-msb-requires
+is-msb-requires c κs = marked_4 c.args.file.now (marks c)
 
 -- the byte order is known, before the tables are made
-abbrev ordered : tie.After-notes → tie.After-is-msb
+abbrev ordered : tie.After-notes-1 → tie.After-is_msb-msb
 ordered c = c.before.before.before
 
 run-requires : tie.Need-run-requires
-run-requires c κs = let e = (ordered c).before in (marked_4 _ (marks e), (e.before.before.if1.left, sized-zeros))
+run-requires c κs = let e = (ordered c).before in (marked_4 _ (marks e), (e.if-file-gt-LIMIT.false, sized-zeros))
 
 -- tuple by tuple, it is the whole check
-whole : (c : tie.After-is-msb) → let f = c.before.before.before.before.before.args.file.now in
-    check_from (length f) c.is-msb.result f begin ≡ check_file f
-whole c = whole-check _ _ c.before.before.before.if1.false (marks c.before) c.is-msb.ensures
+whole : (c : tie.After-is_msb-msb) → let f = c.args.file.now in
+    check_from (length f) c.is_msb-msb.result f begin ≡ check_file f
+whole c = whole-check _ _ c.if-file-gt-LIMIT.false (marks c.before) c.is_msb-msb.ensures
 
-returns-3 : tie.Need-returns-3
+returns-3 : tie.Need-returns-in-On
 returns-3 c =
-    let r = c.before.before.before in
-    tells (c.refuse3.ensures
-    ∙ no_end _ _ _ _ (ran_to _ _ _ _ _ _ r.run.ensures c.before.enum_told.given.1)
+    let r = c.before.before in
+    tells (c.refuse-in-On.ensures
+    ∙ no_end _ _ _ _ (ran_to _ _ _ _ _ _ r.run.ensures c.in-On.is)
     ∙ whole (ordered r.before))
 
-returns-4 : tie.Need-returns-4
+returns-4 : tie.Need-returns-in-Done
 returns-4 c =
-    let r = c.before.before.before in
-    tells ((ran_to _ _ _ _ _ _ r.run.ensures c.before.answer.given.1).answer ∙ whole (ordered r.before))
+    let r = c.before in
+    tells ((ran_to _ _ _ _ _ _ r.run.ensures c.in-Done.is).answer-1 ∙ whole (ordered r.before))
 
-pub check-spec : {M : Type 1} → statement M
-check-spec =
+pub check_spec : {M : Type 1} → statement M
+check_spec =
     tie.close
     (tie.spec
     (λ c κs. search rules)

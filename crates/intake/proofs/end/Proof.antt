@@ -26,43 +26,43 @@ course s = course_of s.args.w (tables s.args.sounders.now s.args.channels.now)
 abbrev Past : ℕ → tie.Start → Type 0
 Past k s = Passed k (end_rules s.args.total (course s)) (Accepted (counts_of (course s)))
 
-returns : tie.Need-returns
-returns c = c.refuse.ensures ∙ ends _ _ (here (lt-ltb _ _ c.before.if1.true))
+returns : tie.Need-returns-then-at-total
+returns c = c.refuse.ensures ∙ ends _ _ (here (lt-ltb _ _ c.if-at-total.true))
 
-past1 : (c : tie.Else1) → Past 1 c.before
-past1 c x p = pass (le-ltb _ _ c.if1.false) p
+past1 : (c : tie.Else-at-total) → Past 1 c.before
+past1 c x p = pass (le-ltb _ _ c.if-at-total.false) p
 
-returns-2 : tie.Need-returns-2
+returns-2 : tie.Need-returns-then-not-complete
 returns-2 c =
     let d = c.before.before in
-    c.refuse2.ensures ∙ ends _ _ (past1 d.before _ (here (ap not (sym d.complete.ensures) ∙ c.before.if2.true)))
+    c.refuse-then-not-complete.ensures ∙ ends _ _ (past1 d.before _ (here (ap not (sym d.complete.ensures) ∙ c.if-not-complete.true)))
 
-past2 : (c : tie.Else2) → Past 2 c.before.before.before
-past2 c x p = past1 c.before.before _ (pass (ap not (sym c.before.complete.ensures) ∙ c.if2.false) p)
+past2 : (c : tie.Else-not-complete) → Past 2 c.before.before.before
+past2 c x p = past1 c.before.before _ (pass (ap not (sym c.complete.ensures) ∙ c.if-not-complete.false) p)
 
 -- the test of the counts, as the code made it
-tested : (c : tie.After-first-wrong) → let s = c.before.before.before.before in
-    counted (course s).links ≡ leb s.args.w.sounders c.first-wrong.result
+tested : (c : tie.After-first_wrong-wrong) → let s = c.before.before.before.before in
+    counted (course s).links ≡ leb s.args.w.sounders c.first_wrong-wrong.result
 tested c =
     let s = c.before.before.before.before in
-    rw (c.first-wrong.ensures, rows-length sounder_of s.args.sounders.now s.args.w.sounders s.requires.0)
+    rw (c.first_wrong-wrong.ensures, rows-length sounder_of s.args.sounders.now s.args.w.sounders s.requires.0)
 
-returns-3 : tie.Need-returns-3
+returns-3 : tie.Need-returns-then-wrong-w
 returns-3 c =
     let t = c.before.before.before in
     let f = t.before.before in
     let s = f.before.before.before.before in
-    let p = c.before.wide.ensures
-    ∙ sym (rows_at tuple_of s.args.sounders.now s.args.w.sounders _ [] t.if3.true)
-    ∙ ap (λ (y : ℕ). get_or (course s).sounders y 0) f.first-wrong.ensures in
-    c.refuse3.ensures ∙ ap (Refused 17) p ∙ ends _ _ (past2 f.before _ (here (ap not (tested f ∙ lt-leb _ _ t.if3.true))))
+    let p = c.wide-place.ensures
+    ∙ sym (rows_at tuple_of s.args.sounders.now s.args.w.sounders _ [] t.if-wrong-w.true)
+    ∙ ap (λ (y : ℕ). get_or (course s).sounders y 0) f.first_wrong-wrong.ensures in
+    c.refuse-then-wrong-w.ensures ∙ ap (Refused 17) p ∙ ends _ _ (past2 f.before _ (here (ap not (tested f ∙ lt-leb _ _ t.if-wrong-w.true))))
 
-returns-4 : tie.Need-returns-4
+returns-4 : tie.Need-returns
 returns-4 c =
-    ends _ _ (past2 c.before.before.before _ (pass (ap not (tested c.before.before ∙ le-leb _ _ c.if3.false)) none))
+    ends _ _ (past2 c.before.before.before _ (pass (ap not (tested c.before.before ∙ le-leb _ _ c.if-wrong-w.false)) none))
 
-pub end-spec : {M : Type 1} → statement M
-end-spec =
+pub end_spec : {M : Type 1} → statement M
+end_spec =
     tie.close
     (tie.spec
     (λ c κs. search rules)

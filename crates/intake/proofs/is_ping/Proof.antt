@@ -11,16 +11,16 @@ use Rattle.intake.proofs.is_ping.Tie as tie
 arm : {k n : ℕ} → k ≡ n → is_ping n ≡ true → true ≡ is_ping k
 arm e h = sym h ∙ sym (ap is_ping e)
 
-pub is-ping-spec : {M : Type 1} → statement M
+pub is_ping_spec : {M : Type 1} → statement M
 unfolding is_ping listing_of among listings
-is-ping-spec =
+is_ping_spec =
     tie.close
     (tie.spec
-    (λ c. arm c.match.keys1 refl)
-    (λ c. arm c.match.keys2 refl)
-    (λ c. arm c.match.keys3 refl)
-    (λ c. arm c.match.keys4 refl)
-    (λ c. arm c.match.keys5 refl)
-    (λ c. arm c.match.keys6 refl)
-    (λ c. arm c.match.keys7 refl)
-    (λ c. sym (no_ping c.before.args.code c.match.rest)))
+    (λ c. arm c.in-10000.is refl)
+    (λ c. arm c.in-10010.is refl)
+    (λ c. arm c.in-10001.is refl)
+    (λ c. arm c.in-10030.is refl)
+    (λ c. arm c.in-10031.is refl)
+    (λ c. arm c.in-10040.is refl)
+    (λ c. arm c.in-10050.is refl)
+    (λ c. sym (no_ping c.args.code c.in_default.in_default-own.rest)))

@@ -20,8 +20,8 @@ use Rattle.intake.proofs.judge.Statement.{statement}
 use Rattle.intake.proofs.judge.Tie as tie
 
 -- places, named by what has been done there
-abbrev begun : tie.After-enum-told → tie.Start
-begun c = c.before.before.before.before.before.before
+abbrev begun : tie.In-Fine → tie.Start
+begun c = c.before.before.before.before.before
 
 abbrev held : tie.Start → Tables
 held s = tables s.args.sounders.now s.args.channels.now
@@ -32,101 +32,101 @@ said s by =
     let a = s.args in
     by a.msb (eqb a.w.count 0) (sounders_by a.w (held s)) (channels_by a.w (held s)) (drop a.from a.part.now)
 
-returns : tie.Need-returns
+returns : tie.Need-returns-then-part-from
 returns c =
     let t = c.before.before in
     let s = t.before.before.before in
     c.comparing.ensures
-    ∙ told-stop _ _ _ (held s) _ (said s from_frame) c.before.fault.ensures
-    (ap (λ (v : Verdict). both v (said s from_frame)) c.before.fault.ensures ∙ none_left _ _ _ _ _ _ t.if1.true)
+    ∙ told-stop _ _ _ (held s) _ (said s from_frame) c.fault.ensures
+    (ap (λ (v : Verdict). both v (said s from_frame)) c.fault.ensures ∙ none_left _ _ _ _ _ _ t.if-part-from.true)
 
 -- bytes are left: the frame decides first
-past_end : (c : tie.Else1) → let s = c.before.before.before in said s from_frame ≡ said s turn_verdict
-past_end c = some_left _ _ _ _ _ _ c.before.before.before.requires.0 c.if1.false
+past_end : (c : tie.Else-part-from) → let s = c.before.before.before in said s from_frame ≡ said s turn_verdict
+past_end c = some_left _ _ _ _ _ _ c.requires.0 c.if-part-from.false
 
-returns-2 : tie.Need-returns-2
+returns-2 : tie.Need-returns-in_default
 returns-2 c =
-    let j = c.before.before.before in
-    let s = j.before.before.before.before in
-    c.comparing2.ensures
-    ∙ told-stop _ _ _ (held s) _ (said s from_head) c.before.enum-told2.given.1
-    (ap (λ (v : Verdict). both v (said s from_head)) j.judge-frame.ensures ∙ past_end j.before)
-
--- a tuple is found, and what is said from its head on is said of all
-found : (c : tie.After-enum-told) → let a = (begun c).args in
-    let r = drop a.from a.part.now in Here a.msb a.part.now a.from (len_at a.msb r) (kind_at a.msb r)
-found c = record { framed = sym c.before.before.judge-frame.ensures ∙ c.enum_told.given.1; size = refl; kind = refl }
-
-past-frame : (c : tie.After-enum-told) →
     let j = c.before.before in
     let s = j.before.before.before.before in
+    c.comparing-in_default.ensures
+    ∙ told-stop _ _ _ (held s) _ (said s from_head) c.in_default.is
+    (ap (λ (v : Verdict). both v (said s from_head)) j.judge_frame-framed.ensures ∙ past_end j.before)
+
+-- a tuple is found, and what is said from its head on is said of all
+found : (c : tie.In-Fine) → let a = (begun c).args in
+    let r = drop a.from a.part.now in Here a.msb a.part.now a.from (len_at a.msb r) (kind_at a.msb r)
+found c = record { framed = sym c.judge_frame-framed.ensures ∙ c.in-Fine.is; size = refl; kind = refl }
+
+past-frame : (c : tie.In-Fine) →
+    let j = c.before in
+    let s = j.before.before.before.before in
     said s from_head ≡ said s turn_verdict
-past-frame c = let j = c.before.before in rw (← past_end j.before, ← j.judge-frame.ensures, c.enum_told.given.1)
+past-frame c = let j = c.before in rw (← past_end j.before, ← j.judge_frame-framed.ensures, c.in-Fine.is)
 
 -- its length and its type code are read
-here : (c : tie.After-kind-at) → let a = (begun c.before.before).args in
-    Here a.msb a.part.now a.from c.before.length_at.result c.kind_at.result
-here c = record { framed = (found c.before.before).framed; size = sym c.before.length_at.ensures; kind = sym c.kind_at.ensures }
+here : (c : tie.After-kind_at-code) → let a = (begun c.before.before).args in
+    Here a.msb a.part.now a.from c.length_at-whole.result c.kind_at-code.result
+here c = record { framed = (found c.before.before).framed; size = sym c.length_at-whole.ensures; kind = sym c.kind_at-code.ensures }
 
-abbrev start : tie.After-judge-head → tie.Start
-start d = d.before.before.before.before.before.before.before.before.before.before
+abbrev start : tie.After-judge_head-headed → tie.Start
+start d = d.before.before.before.before.before.before.before.before.before
 
-returns-3 : tie.Need-returns-3
+returns-3 : tie.Need-returns-in_default-headed
 returns-3 c =
-    let d = c.before.before.before in
+    let d = c.before.before in
     let s = start d in
-    c.comparing3.ensures
-    ∙ told-stop _ _ _ (held s) _ (said s from_links) c.before.enum-told4.given.1
-    (ap (λ (v : Verdict). both v (said s from_links)) d.judge-head.ensures ∙ past-frame d.before.before.before.before)
+    c.comparing-in_default-headed.ensures
+    ∙ told-stop _ _ _ (held s) _ (said s from_links) c.in_default-headed.is
+    (ap (λ (v : Verdict). both v (said s from_links)) d.judge_head-headed.ensures ∙ past-frame d.before.before.before.before)
 
 -- its length fits, and what is said from its links on is said of all
-fits : (c : tie.After-enum-told3) → let k = c.before.before.before.before in Fits k.before.length_at.result k.kind_at.result
-fits c = let d = c.before.before in head-fits (here d.before.before) _ d.judge-head.ensures c.enum-told3.given.1
+fits : (c : tie.In-Fine-headed) → let k = c.before.before.before in Fits k.length_at-whole.result k.kind_at-code.result
+fits c = let d = c.before in head-fits (here d.before.before) _ d.judge_head-headed.ensures c.in-Fine-headed.is
 
-past_head : (c : tie.After-enum-told3) → let s = start c.before.before in said s from_links ≡ said s turn_verdict
+past_head : (c : tie.In-Fine-headed) → let s = start c.before in said s from_links ≡ said s turn_verdict
 past_head c =
-    let d = c.before.before in
-    ap (λ (v : Verdict). both v (said (start d) from_links)) (sym (sym d.judge-head.ensures ∙ c.enum-told3.given.1))
+    let d = c.before in
+    ap (λ (v : Verdict). both v (said (start d) from_links)) (sym (sym d.judge_head-headed.ensures ∙ c.in-Fine-headed.is))
     ∙ past-frame d.before.before.before.before
 
-judge-links-requires : tie.Need-judge-links-requires
-judge-links-requires c κs = let d = c.before.before in (here d.before.before, (fits c, (start d).requires.1))
+judge-links-requires : tie.Need-judge_links-linked-requires
+judge-links-requires c κs = let d = c.before in (here d.before.before, (fits c, (start d).requires.1))
 
-returns-4 : tie.Need-returns-4
+returns-4 : tie.Need-returns-in_default-linked
 returns-4 c =
-    let l = c.before.before in
-    told_unlinked _ _ _ (held (start l.before.before.before)) l.judge-links.ensures (past_head l.before)
-    c.enum-told5.given.1
+    let l = c.before in
+    told_unlinked _ _ _ (held (start l.before.before)) l.judge_links-linked.ensures (past_head l.before)
+    c.in_default-linked.is
 
 -- the tuple, once it is linked
-abbrev linked : tie.After-is-ping → tie.After-linked
-linked c = c.before.before
+abbrev linked : tie.After-is_ping → tie.In-Linked-2
+linked c = c.before
 
 -- no ping: nothing is said of its samples;
-returns-5 : tie.Need-returns-5
+returns-5 : tie.Need-returns-then-not-is_ping
 returns-5 c =
     let m = linked c.before in
     let l = m.before.before in
-    let other = sym c.before.is-ping.ensures ∙ not-true _ c.if2.true in
-    let none = no_inner (here l.before.before.before.before.before) other in
-    told-alone _ _ _ (held (start l.before.before.before)) l.judge-links.ensures (past_head l.before) m.linked.given.1 none
+    let other = sym c.is_ping.ensures ∙ not-true _ c.if-not-is_ping.true in
+    let none = no_inner (here l.before.before.before.before) other in
+    told-alone _ _ _ (held (start l.before.before)) l.judge_links-linked.ensures (past_head l.before) m.linked-1.given.1 none
 
 -- or a ping
-judge-inner-requires : tie.Need-judge-inner-requires
+judge-inner-requires : tie.Need-judge_inner-requires
 judge-inner-requires c κs =
     let g = (linked c.before).before.before.before in
-    (here g.before.before.before.before, fits g)
+    (here g.before.before.before, fits g)
 
-returns-6 : tie.Need-returns-6
+returns-6 : tie.Need-returns
 returns-6 c =
     let m = linked c.before.before.before in
     let l = m.before.before in
-    rw (c.comparing4.ensures, c.before.judge-inner.ensures)
-    (told-linked _ _ _ (held (start l.before.before.before)) l.judge-links.ensures (past_head l.before)
-    m.linked.given.1)
+    rw (c.comparing-2.ensures, c.judge_inner.ensures)
+    (told-linked _ _ _ (held (start l.before.before)) l.judge_links-linked.ensures (past_head l.before)
+    m.linked-1.given.1)
 
-pub judge-spec : {M : Type 1} → statement M
-judge-spec =
+pub judge_spec : {M : Type 1} → statement M
+judge_spec =
     tie.close
     (tie.spec
     (λ c κs. search rules)

@@ -11,23 +11,23 @@ use Rattle.intake.proofs.judge_alone.Statement.{statement}
 use Rattle.intake.proofs.judge_alone.Tie as tie
 
 -- the frame's rules hold
-fine : (c : tie.After-enum-told) → let a = c.before.before.before.before.args in framing a.msb (drop a.at a.file.now) ≡ Fine
-fine c = sym c.before.before.judge-frame.ensures ∙ c.enum_told.given.1
+fine : (c : tie.In-Fine) → let a = c.args in framing a.msb (drop a.at a.file.now) ≡ Fine
+fine c = sym c.judge_frame-framed.ensures ∙ c.in-Fine.is
 
-there : (c : tie.After-enum-told) → let a = c.before.before.before.before.args in
+there : (c : tie.In-Fine) → let a = c.args in
     Whole a.msb a.file.now a.at (len_at a.msb (drop a.at a.file.now))
 there c = framing-whole _ _ _ (fine c)
 
-returns : tie.Need-returns
+returns : tie.Need-returns-in_default
 returns c =
-    let j = c.before.before in
-    rw (alone-parts, ← j.judge-frame.ensures, c.enum-told2.given.1)
+    let j = c.before in
+    rw (alone-parts, ← j.judge_frame-framed.ensures, c.in_default.is)
 
-returns-2 : tie.Need-returns-2
-returns-2 c = rw (alone-parts, fine c.before.before.before) c.judge-own.ensures
+returns-2 : tie.Need-returns
+returns-2 c = rw (alone-parts, fine c.before.before.before) c.judge_own.ensures
 
-pub judge-alone-spec : {M : Type 1} → statement M
-judge-alone-spec =
+pub judge_alone_spec : {M : Type 1} → statement M
+judge_alone_spec =
     tie.close
     (tie.spec
     (λ c κs. search rules)
@@ -36,5 +36,5 @@ judge-alone-spec =
     returns
     (λ c κs. omega (arith, (there c).long, (there c).ranges))
     (λ c κs. omega (arith, (there c.before).long, (there c.before).fits))
-    (λ c κs. record { framed = fine c.before.before; size = sym c.before.length_at.ensures; kind = sym c.kind_at.ensures })
+    (λ c κs. record { framed = fine c.before.before; size = sym c.length_at-whole.ensures; kind = sym c.kind_at-code.ensures })
     returns-2)

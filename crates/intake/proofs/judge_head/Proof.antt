@@ -16,63 +16,63 @@ use Rattle.intake.proofs.judge_head.Statement.{statement}
 use Rattle.intake.proofs.judge_head.Tie as tie
 
 -- places, named by what has been done there
-abbrev start : tie.Else2 → tie.Start
+abbrev start : tie.Else-not-fits → tie.Start
 start c = c.before.before.before.before
 
-returns : tie.Need-returns
+returns : tie.Need-returns-then-signs-first
 returns c =
     let s = c.before.before.before in
-    rw (c.fault.ensures, head-place s.requires s.args.first, c.before.if1.true)
+    rw (c.fault.ensures, head-place s.requires s.args.first, c.if-signs-first.true)
 
 -- it is where it may be
-placed : (c : tie.Else1) → let a = c.before.before.args in not (beq (eqb a.code 65535) a.first) ≡ false
-placed c = c.if1.false
+placed : (c : tie.Else-signs-first) → let a = c.args in not (beq (eqb a.code 65535) a.first) ≡ false
+placed c = c.if-signs-first.false
 
 -- the test of the length, as the code made it
 tested : (c : tie.After-fits2) → let a = c.before.before.before.args in fitting (lengths_of a.code) a.whole ≡ c.fits2.result
 tested c = sym c.fits2.ensures
 
-returns-2 : tie.Need-returns-2
+returns-2 : tie.Need-returns-then-not-fits
 returns-2 c =
     let d = c.before.before in
     let s = d.before.before.before in
-    rw (c.fault2.ensures, head-place s.requires s.args.first, placed d.before, tested d, c.before.if2.true)
+    rw (c.fault-then-not-fits.ensures, head-place s.requires s.args.first, placed d.before, tested d, c.if-not-fits.true)
 
 -- its length fits: the identifier is left
-fits : (c : tie.Else2) → let a = (start c).args in Fits a.whole a.code
-fits c = tested c.before ∙ not-false _ c.if2.false
+fits : (c : tie.Else-not-fits) → let a = (start c).args in Fits a.whole a.code
+fits c = tested c.before ∙ not-false _ c.if-not-fits.false
 
-past2 : (c : tie.Else2) → let a = (start c).args in
+past2 : (c : tie.Else-not-fits) → let a = (start c).args in
     head_verdict a.msb a.first (tup_in a.msb a.file.now a.at)
     ≡ judged ((not (identified_in a.msb a.file.now a.at) ⇒ 8 byte 0) ∷ [])
 past2 c =
     let s = start c in
-    rw (head-place s.pre s.args.first, placed c.before.before, fits c)
+    rw (head-place s.requires s.args.first, placed c.before.before, fits c)
 
-returns-3 : tie.Need-returns-3
-returns-3 c = rw (past2 c.before, no_identifier (start c.before).requires c.if3.true)
+returns-3 : tie.Need-returns-then-code-ne-SIGNATURE
+returns-3 c = rw (past2 c.before, no_identifier (start c.before).requires c.if-code-ne-SIGNATURE.true)
 
 -- the identifier that was read
 read : (c : tie.After-read2) → let a = (start c.before.before).args in
     identified_in a.msb a.file.now a.at ≡ known c.read2.result
 read c =
     let d = c.before.before in
-    identifier-read (start d).requires (fits d) c.before.if3.false ∙ ap known (sym c.read2.ensures)
+    identifier-read (start d).requires (fits d) c.if-code-ne-SIGNATURE.false ∙ ap known (sym c.read2.ensures)
 
-returns-4 : tie.Need-returns-4
+returns-4 : tie.Need-returns-then-not-is_known
 returns-4 c =
     let k = c.before.before in
     let r = k.before in
-    rw (c.fault3.ensures, past2 r.before.before, read r, ← k.is_Known.ensures, c.before.if4.true)
+    rw (c.fault-then-not-is_known.ensures, past2 r.before.before, read r, ← k.is_known.ensures, c.if-not-is_known.true)
 
-returns-5 : tie.Need-returns-5
+returns-5 : tie.Need-returns
 returns-5 c =
     let k = c.before in
     let r = k.before in
-    rw (past2 r.before.before, read r, ← k.is_Known.ensures, c.if4.false)
+    rw (past2 r.before.before, read r, ← k.is_known.ensures, c.if-not-is_known.false)
 
-pub judge-head-spec : {M : Type 1} → statement M
-judge-head-spec =
+pub judge_head_spec : {M : Type 1} → statement M
+judge_head_spec =
     tie.close
     (tie.spec
     (λ c κs. search rules)

@@ -11,81 +11,81 @@ use Rattle.intake.proofs.judge_links.Statement.{statement}
 use Rattle.intake.proofs.judge_links.Tie as tie
 
 -- places, named by what has been done there
-abbrev start : tie.After-says-of → tie.Start
+abbrev start : tie.After-says_of → tie.Start
 start c = c.before.before.before
 
 -- what the type says, in an arm of the match
-said : (c : tie.After-says-of) {a : Says} → c.says_of.result ≡ a → says_of (start c).args.code ≡ a
+said : (c : tie.After-says_of) {a : Says} → c.says_of.result ≡ a → says_of (start c).args.code ≡ a
 said c e = sym c.says_of.ensures ∙ e
 
 -- the channel that an attitude names
-named : (c : tie.After-named-at) → let a = (start c.before.before.before).args in
-    c.named-at.result.0 ≡ (named_at a.msb a.part.now a.from).0
-named c = ap (λ (x : SoftwareChannel). x.0) c.named-at.ensures
+named : (c : tie.After-named_at-id) → let a = (start c.before.before).args in
+    c.named_at-id.result.0 ≡ (named_at a.msb a.part.now a.from).0
+named c = ap (λ (x : SoftwareChannel). x.0) c.named_at-id.ensures
 
-returns : tie.Need-returns
+returns : tie.Need-returns-then-id
 returns c =
     let r = c.before.before in
-    let m = r.before.before.before in
+    let m = r.before.before in
     let s = start m in
-    attitude-all _ _ s.pre.0 s.pre.1.0 (said m r.before.enum-told2.given.1) (sym (named r) ∙ c.if1.true)
+    attitude-all _ _ s.requires.0 s.requires.1.0 (said m r.in-NamesOrAll.is) (sym (named r) ∙ c.if-id.true)
 
-returns-2 : tie.Need-returns-2
-returns-2 c = let m = c.before.before in let s = start m in no_link _ _ s.pre.0 s.pre.1.0 (said m c.enum_told.given.1)
+returns-2 : tie.Need-returns-in-Nothing
+returns-2 c = let m = c.before in let s = start m in no_link _ _ s.requires.0 s.requires.1.0 (said m c.in-Nothing.is)
 
-returns-3 : tie.Need-returns-3
+returns-3 : tie.Need-returns-in-Sounder
 returns-3 c =
-    let e = c.before.before.before in
-    let m = e.before.before in
+    let e = c.before.before in
+    let m = e.before in
     let s = start m in
-    rw (c.judge-sounder.ensures, c.before.sounder-at.ensures)
-    (sounder-told _ _ s.pre.0 s.pre.1.0 (said m e.maker.given.1))
+    rw (c.judge_sounder.ensures, c.sounder_at-it.ensures)
+    (sounder-told _ _ s.requires.0 s.requires.1.0 (said m e.in-Sounder.is))
 
-returns-4 : tie.Need-returns-4
+returns-4 : tie.Need-returns-in-Channel
 returns-4 c =
-    let e = c.before.before.before in
-    let m = e.before.before in
+    let e = c.before.before in
+    let m = e.before in
     let s = start m in
-    rw (c.judge-channel.ensures, c.before.channel-at.ensures)
-    (channel-told _ _ s.pre.0 s.pre.1.0 (said m e.maker2.given.1))
+    rw (c.judge_channel.ensures, c.channel_at-it.ensures)
+    (channel-told _ _ s.requires.0 s.requires.1.0 (said m e.in-Channel.is))
 
-returns-5 : tie.Need-returns-5
+returns-5 : tie.Need-returns-else-id
 returns-5 c =
     let r = c.before.before.before in
-    let m = r.before.before.before in
+    let m = r.before.before in
     let s = start m in
-    rw (c.judge-name.ensures, r.named-at.ensures)
-    (attitude-one _ _ s.pre.0 s.pre.1.0 (said m r.before.enum-told2.given.1) (λ e. c.before.if1.false (named r ∙ e)))
+    rw (c.judge_name.ensures, r.named_at-id.ensures)
+    (attitude-one _ _ s.requires.0 s.requires.1.0 (said m r.in-NamesOrAll.is) (λ e. c.if-id.false (named r ∙ e)))
 
-returns-6 : tie.Need-returns-6
+returns-6 : tie.Need-returns-in-Names
 returns-6 c =
     let e = c.before.before in
-    let m = e.before.before in
+    let m = e.before in
     let s = start m in
-    rw (c.judge-name2.ensures, c.before.named-at2.ensures)
-    (names-told _ _ s.pre.0 s.pre.1.0 (said m e.enum-told3.given.1))
+    rw (c.judge_name-in-Names.ensures, c.named_at.ensures)
+    (names-told _ _ s.requires.0 s.requires.1.0 (said m e.in-Names.is))
 
-pub judge-links-spec : {M : Type 1} → statement M
-judge-links-spec =
+pub judge_links_spec : {M : Type 1} → statement M
+judge_links_spec =
     tie.close
     (tie.spec
     (λ c κs. search rules)
     (λ c. search rules)
     (λ c. search rules)
-    (λ c κs. room (start c.before.before.before).requires.0)
+    (λ c κs. room (start c.before).requires.0)
     (λ c κs. search rules)
     (λ c. search rules)
-    (λ c κs. let e = c.before in
-    let m = e.before.before in
+    (λ c κs. let e = c in
+    let m = e.before in
     let p = (start m).requires in
-    channel-whole p.0 p.1.0 (said m e.maker2.given.1))
+    channel-whole p.0 p.1.0 (said m e.in-Channel.is))
     (λ c κs. search rules)
     (λ c. search rules)
-    (λ c κs. room (start c.before.before).requires.0)
+    (λ c κs. room (start c.before).requires.0)
     returns
     (λ c κs. search rules)
     (λ c. search rules)
-    (λ c κs. room (start c.before.before).requires.0)
+    (λ c κs. room (start c.before).requires.0)
     (λ c κs. search rules)
     returns-2
     returns-3

@@ -4,19 +4,25 @@ use Rattle.intake.proofs.Judges.{head-fits, own-parts}
 use Rattle.intake.proofs.judge_own.Statement.{statement}
 use Rattle.intake.proofs.judge_own.Tie as tie
 
-judge-inner-requires : tie.Need-judge-inner-requires
-judge-inner-requires c κs = let d = c.before.before in
-    (d.before.before.requires, head-fits d.before.before.requires _ d.judge-head.ensures c.enum_told.given.1)
+judge-inner-requires : tie.Need-judge_inner-requires
+judge-inner-requires c κs = let d = c.before in
+    (d.requires, head-fits d.requires _ d.judge_head.ensures c.in-Fine.is)
 
-returns : tie.Need-returns
-returns c = let d = c.before.before.before in
-    rw (← own-parts d.before.before.requires, ← d.judge-head.ensures, c.before.code.given.1)
+returns : tie.Need-returns-in-Fault
+returns c = let d = c.before in
+    rw (← own-parts d.requires, ← d.judge_head.ensures, c.in-Fault.is)
 
-returns-2 : tie.Need-returns-2
-returns-2 c = let d = c.before.before.before in
-    rw (← own-parts d.before.before.requires, ← d.judge-head.ensures, c.before.enum_told.given.1) c.judge-inner.ensures
+returns-2 : tie.Need-returns-in-Fine
+returns-2 c = let d = c.before.before in
+    rw (← own-parts d.requires, ← d.judge_head.ensures, c.in-Fine.is) c.judge_inner.ensures
 
-pub judge-own-spec : {M : Type 1} → statement M
-judge-own-spec =
+pub judge_own_spec : {M : Type 1} → statement M
+judge_own_spec =
     tie.close
-    (tie.spec (λ c κs. search rules) (λ c. search rules) (λ c. search rules) judge-inner-requires returns returns-2)
+    (tie.spec
+    (λ c κs. search rules)
+    (λ c. search rules)
+    (λ c. search rules)
+    judge-inner-requires
+    returns
+    returns-2)

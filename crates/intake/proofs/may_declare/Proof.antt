@@ -8,7 +8,11 @@ use Rattle.intake.proofs.may_declare.Tie as tie
 returns : tie.Need-returns
 returns c =
     let b = c.before in
-    c.either.ensures ∙ ap₂ (λ (x y : Bool). x || y) b.before.in-class.ensures b.in-class2.ensures
+    c.either.ensures ∙ ap₂ (λ (x y : Bool). x || y) b.in_class.ensures b.in_class-2.ensures
 
-pub may-declare-spec : {M : Type 1} → statement M
-may-declare-spec = tie.close (tie.spec (λ c κs. search rules) (λ c κs. search rules) (λ c κs. search rules) returns)
+pub may_declare_spec : {M : Type 1} → statement M
+may_declare_spec = tie.close (tie.spec
+    (λ c κs. search rules)
+    (λ c κs. search rules)
+    (λ c κs. search rules)
+    returns)

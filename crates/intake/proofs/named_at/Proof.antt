@@ -6,5 +6,8 @@ use Rattle.intake.proofs.named_at.Tie as tie
 returns : tie.Need-returns
 returns c = rw c.read2.ensures
 
-pub named-at-spec : {M : Type 1} → statement M
-named-at-spec = tie.close (tie.spec (λ c. search rules) (λ c κs. search rules) returns)
+pub named_at_spec : {M : Type 1} → statement M
+named_at_spec = tie.close (tie.spec
+    (λ c. search rules)
+    (λ c κs. search rules)
+    returns)

@@ -10,65 +10,65 @@ use Rattle.intake.proofs.Runs.{Running, running_begin, running_there, running_pa
 use Rattle.intake.proofs.run_on.Statement.{statement}
 use Rattle.intake.proofs.run_on.Tie as tie
 
-abbrev invariant-loop : tie.invariant-loop
+abbrev invariant-loop : tie.invariant-loop-w
 invariant-loop part from total msb until sounders₀ channels₀ notes₀ w₀ at₀ sounders channels notes w at =
     Running msb total until part from w₀ (tables sounders₀ channels₀) at w (tables sounders channels)
 
-abbrev decreases-loop : tie.decreases-loop
+abbrev decreases-loop : tie.decreases-loop-w
 decreases-loop part from total msb until sounders₀ channels₀ notes₀ w₀ at₀ sounders channels notes w at = length part - at
 
 -- places, named by what has been done there
-abbrev stands : tie.Then1 invariant-loop decreases-loop → tie.At-loop invariant-loop decreases-loop
+abbrev stands : tie.In-loop-w invariant-loop decreases-loop → tie.At-loop-w invariant-loop decreases-loop
 stands c = c.before.before
 
-abbrev elsewhere : tie.After-turn invariant-loop decreases-loop → tie.Then1 invariant-loop decreases-loop
+abbrev elsewhere : tie.After-turn invariant-loop decreases-loop → tie.In-loop-w invariant-loop decreases-loop
 elsewhere t = t.before.before.before.before
 
-abbrev next : tie.After-struct-known3 invariant-loop decreases-loop → tie.After-next invariant-loop decreases-loop
-next c = c.before.before.before
+abbrev next : tie.After-struct_known-in-On-2-1 invariant-loop decreases-loop → tie.In-On-2 invariant-loop decreases-loop
+next c = c.before.before
 
-abbrev turned : tie.After-next invariant-loop decreases-loop → tie.After-turn invariant-loop decreases-loop
+abbrev turned : tie.In-On-2 invariant-loop decreases-loop → tie.After-turn invariant-loop decreases-loop
 turned c = c.before.before
 
-loop-holds : tie.Need-loop-init invariant-loop decreases-loop
+loop-holds : tie.Need-loop-w-init invariant-loop decreases-loop
 loop-holds c =
-    let p = c.before.requires in
+    let p = c.requires in
     running_begin _ _ _ _ _ _ _ p.1.1.0 p.0 p.1.1.1.1 p.1.0
 
 turn-requires : tie.Need-turn-requires invariant-loop decreases-loop
 turn-requires c κs =
     let l = stands c.before.before.before in
-    let g = l.loop.inv in
-    (g.standing, (g.steady, (omega (arith, g.place, l.before.before.pre.1.1.1.0), (g.within, g.sized))))
+    let g = l.loop-w.invariant in
+    (g.standing, (g.steady, (omega (arith, g.place, l.requires.1.1.1.0), (g.within, g.sized))))
 
 -- the tuple passed: where the tally stands then, that it has bytes, and that it is within the part
-past : (c : tie.After-struct-known3 invariant-loop decreases-loop) → let l = stands (elsewhere (turned (next c))) in let a = l.before.before.args in
-    ((next c).next.given.0.0.at ≡ l.loop.w.at + len_at a.msb (drop l.loop.at a.part.now))
-    × (16 ≤ len_at a.msb (drop l.loop.at a.part.now))
-    × (l.loop.at + len_at a.msb (drop l.loop.at a.part.now) ≤ length a.part.now)
+past : (c : tie.After-struct_known-in-On-2-1 invariant-loop decreases-loop) → let l = stands (elsewhere (turned (next c))) in let a = l.args in
+    ((next c).next-1.given.0.0.at ≡ l.loop-w.w.at + len_at a.msb (drop l.loop-w.at a.part.now))
+    × (16 ≤ len_at a.msb (drop l.loop-w.at a.part.now))
+    × (l.loop-w.at + len_at a.msb (drop l.loop-w.at a.part.now) ≤ length a.part.now)
 past c =
     let n = next c in
     let t = turned n in
-    running_past (stands (elsewhere t)).loop.inv _ _ t.turn.ensures _ n.next.given.1
+    running_past (stands (elsewhere t)).loop-w.invariant _ _ t.turn.ensures _ n.next-1.given.1
 
-loop-again : tie.Need-loop-preserved invariant-loop decreases-loop
+loop-again : tie.Need-loop-w-preserved invariant-loop decreases-loop
 loop-again c =
     let n = next c in
     let t = turned n in
     let e = elsewhere t in
     let l = stands e in
-    running_again l.loop.inv _ _ t.turn.ensures e.if1.taken _ n.next.given.1 (n.next.given.0.0.at - l.loop.w.at)
+    running_again l.loop-w.invariant _ _ t.turn.ensures e.loop-w-test.true _ n.next-1.given.1 (n.next-1.given.0.0.at - l.loop-w.w.at)
     (omega (arith, (past c).0))
 
-returns : tie.Need-returns invariant-loop decreases-loop
+returns : tie.Need-returns-in-Done invariant-loop decreases-loop
 returns c =
-    let n = c.before in
-    let t = n.before.before in
+    let n = c in
+    let t = n.before in
     let e = elsewhere t in
-    running_done (stands e).loop.inv _ _ t.turn.ensures e.if1.taken _ n.answer.given.1
+    running_done (stands e).loop-w.invariant _ _ t.turn.ensures e.loop-w-test.true _ n.in-Done.is
 
-pub run-on-spec : {M : Type 1} → statement M
-run-on-spec =
+pub run_on_spec : {M : Type 1} → statement M
+run_on_spec =
     tie.close
     (tie.spec
     invariant-loop
@@ -77,9 +77,9 @@ run-on-spec =
     turn-requires
     (λ c. search rules)
     (λ c. omega (arith, (past c).0))
-    (λ c. omega (arith, (past c).0, (past c).2, (stands (elsewhere (turned (next c)))).before.before.good))
+    (λ c. omega (arith, (past c).0, (past c).2, (stands (elsewhere (turned (next c)))).good))
     (λ c. omega (arith, (past c).0, (past c).1, (past c).2))
     loop-again
     (λ c. search rules)
     returns
-    (λ c. running_there c.before.before.loop.invariant c.if1.false))
+    (λ c. running_there c.loop-w.invariant c.loop-w-test.false))

@@ -4,9 +4,14 @@ use Rattle.intake.proofs.sounder_at.Statement.{statement}
 use Rattle.intake.proofs.sounder_at.Tie as tie
 
 returns : tie.Need-returns
-returns c = rw (c.before.read4.ensures, c.read2.ensures)
+returns c = rw (c.read4.ensures, c.read2.ensures)
 
-pub sounder-at-spec : {M : Type 1} → statement M
-sounder-at-spec =
+pub sounder_at_spec : {M : Type 1} → statement M
+sounder_at_spec =
     tie.close
-    (tie.spec (λ c. search rules) (λ c κs. search rules) (λ c. search rules) (λ c κs. search rules) returns)
+    (tie.spec
+    (λ c. search rules)
+    (λ c κs. search rules)
+    (λ c. search rules)
+    (λ c κs. search rules)
+    returns)

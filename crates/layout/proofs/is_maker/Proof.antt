@@ -19,9 +19,13 @@ same Simrad Simrad = refl
 returns : tie.Need-returns
 returns c =
     let n = c.before in
-    let a = n.before.before.args in
-    ap₂ eqb (n.number_of_lem.ensures.0 ∙ ap maker_number n.before.maker-of.ensures) c.number-of2.ensures.0
+    let a = n.args in
+    ap₂ eqb (n.number_of.ensures.0 ∙ ap maker_number n.maker_of.ensures) c.number_of-2.ensures.0
     ∙ same (maker_of a.number) a.maker
 
-pub is-maker-spec : {M : Type 1} → statement M
-is-maker-spec = tie.close (tie.spec (λ c κs. search rules) (λ c κs. search rules) (λ c κs. search rules) returns)
+pub is_maker_spec : {M : Type 1} → statement M
+is_maker_spec = tie.close (tie.spec
+    (λ c κs. search rules)
+    (λ c κs. search rules)
+    (λ c κs. search rules)
+    returns)

@@ -11,29 +11,29 @@ use Rattle.layout.proofs.listing_of.Tie as tie
 arm : {k n p : ℕ} → k ≡ n → place_in n ≡ p → p ≡ place_in k
 arm e h = sym h ∙ sym (ap place_in e)
 
-pub listing-of-spec : {M : Type 1} → statement M
+pub listing_of_spec : {M : Type 1} → statement M
 unfolding place_among listings
-listing-of-spec =
+listing_of_spec =
     tie.close
     (tie.spec
-    (λ c. arm c.match.keys1 refl)
-    (λ c. arm c.match.keys2 refl)
-    (λ c. arm c.match.keys3 refl)
-    (λ c. arm c.match.keys4 refl)
-    (λ c. arm c.match.keys5 refl)
-    (λ c. arm c.match.keys6 refl)
-    (λ c. arm c.match.keys7 refl)
-    (λ c. arm c.match.keys8 refl)
-    (λ c. arm c.match.keys9 refl)
-    (λ c. arm c.match.keys10 refl)
-    (λ c. arm c.match.keys11 refl)
-    (λ c. arm c.match.keys12 refl)
-    (λ c. arm c.match.keys13 refl)
-    (λ c. arm c.match.keys14 refl)
-    (λ c. arm c.match.keys15 refl)
-    (λ c. arm c.match.keys16 refl)
-    (λ c. arm c.match.keys17 refl)
-    (λ c. arm c.match.keys18 refl)
-    (λ c. arm c.match.keys19 refl)
-    (λ c. arm c.match.keys20 refl)
-    (λ c. sym (missed c.before.args.code c.match.rest)))
+    (λ c. arm c.in-65535.is refl)
+    (λ c. arm c.in-100.is refl)
+    (λ c. arm c.in-200.is refl)
+    (λ c. arm c.in-1000.is refl)
+    (λ c. arm c.in-2000.is refl)
+    (λ c. arm c.in-20.is refl)
+    (λ c. arm c.in-30.is refl)
+    (λ c. arm c.in-40.is refl)
+    (λ c. arm c.in-10100.is refl)
+    (λ c. arm c.in-10110.is refl)
+    (λ c. arm c.in-10000.is refl)
+    (λ c. arm c.in-10010.is refl)
+    (λ c. arm c.in-65516.is refl)
+    (λ c. arm c.in-65517.is refl)
+    (λ c. arm c.in-65534.is refl)
+    (λ c. arm c.in-10001.is refl)
+    (λ c. arm c.in-10030.is refl)
+    (λ c. arm c.in-10031.is refl)
+    (λ c. arm c.in-10040.is refl)
+    (λ c. arm c.in-10050.is refl)
+    (λ c. sym (missed c.args.code c.in_default.in_default-own.rest)))

@@ -10,11 +10,13 @@ other : (n : ℕ) → (n ≡ 0 → ⊥) → Simrad ≡ maker_of n
 other zero h = absurd (h refl)
 other (suc n) h = refl
 
-returns : tie.Need-returns
-returns c = rw c.if1.true
+returns : tie.Need-returns-then-number-eq-BIOSONICS
+returns c = rw c.if-number-eq-BIOSONICS.true
 
-returns-2 : tie.Need-returns-2
-returns-2 c = other c.before.args.number c.if1.false
+returns-2 : tie.Need-returns
+returns-2 c = other c.args.number c.if-number-eq-BIOSONICS.false
 
-pub maker-of-spec : {M : Type 1} → statement M
-maker-of-spec = tie.close (tie.spec returns returns-2)
+pub maker_of_spec : {M : Type 1} → statement M
+maker_of_spec = tie.close (tie.spec
+    returns
+    returns-2)

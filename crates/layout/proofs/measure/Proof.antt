@@ -10,16 +10,16 @@ use Rattle.layout.proofs.measure.Statement.{statement}
 use Rattle.layout.proofs.measure.Tie as tie
 
 -- behind the nineteen arms one listing is left
-returns-20 : tie.Need-returns-20
+returns-20 : tie.Need-returns-in_default
 unfolding measures listings
 returns-20 c =
     let s = c.before.before in
-    let e : s.args.listing ≡ 19 = omega (arith, s.requires, at_least 19 s.args.listing c.before.match.rest) in
+    let e : s.args.listing ≡ 19 = omega (arith, s.requires, at_least 19 s.args.listing c.in_default.in_default-own.rest) in
     arm measures [] e refl
 
-pub measure-spec : {M : Type 1} → statement M
+pub measure_spec : {M : Type 1} → statement M
 unfolding measures listings
-measure-spec =
+measure_spec =
     tie.close
     (tie.spec
     (λ c. search rules)
@@ -42,23 +42,23 @@ measure-spec =
     (λ c. search rules)
     (λ c. search rules)
     (λ c. search rules)
-    (λ c. arm measures [] c.before.match.keys1 refl)
-    (λ c. arm measures [] c.before.match.keys2 refl)
-    (λ c. arm measures [] c.before.match.keys3 refl)
-    (λ c. arm measures [] c.before.match.keys4 refl)
-    (λ c. arm measures [] c.before.match.keys5 refl)
-    (λ c. arm measures [] c.before.match.keys6 refl)
-    (λ c. arm measures [] c.before.match.keys7 refl)
-    (λ c. arm measures [] c.before.match.keys8 refl)
-    (λ c. arm measures [] c.before.match.keys9 refl)
-    (λ c. arm measures [] c.before.match.keys10 refl)
-    (λ c. arm measures [] c.before.match.keys11 refl)
-    (λ c. arm measures [] c.before.match.keys12 refl)
-    (λ c. arm measures [] c.before.match.keys13 refl)
-    (λ c. arm measures [] c.before.match.keys14 refl)
-    (λ c. arm measures [] c.before.match.keys15 refl)
-    (λ c. arm measures [] c.before.match.keys16 refl)
-    (λ c. arm measures [] c.before.match.keys17 refl)
-    (λ c. arm measures [] c.before.match.keys18 refl)
-    (λ c. arm measures [] c.before.match.keys19 refl)
+    (λ c. arm measures [] c.in-0.is refl)
+    (λ c. arm measures [] c.in-1.is refl)
+    (λ c. arm measures [] c.in-2.is refl)
+    (λ c. arm measures [] c.in-3.is refl)
+    (λ c. arm measures [] c.in-4.is refl)
+    (λ c. arm measures [] c.in-5.is refl)
+    (λ c. arm measures [] c.in-6.is refl)
+    (λ c. arm measures [] c.in-7.is refl)
+    (λ c. arm measures [] c.in-8.is refl)
+    (λ c. arm measures [] c.in-9.is refl)
+    (λ c. arm measures [] c.in-10.is refl)
+    (λ c. arm measures [] c.in-11.is refl)
+    (λ c. arm measures [] c.in-12.is refl)
+    (λ c. arm measures [] c.in-13.is refl)
+    (λ c. arm measures [] c.in-14.is refl)
+    (λ c. arm measures [] c.in-15.is refl)
+    (λ c. arm measures [] c.in-16.is refl)
+    (λ c. arm measures [] c.in-17.is refl)
+    (λ c. arm measures [] c.in-18.is refl)
     returns-20)

@@ -11,22 +11,22 @@ use Rattle.layout.proofs.says_of.Tie as tie
 arm : {k n : ℕ} {a : Says} → k ≡ n → says_of n ≡ a → a ≡ says_of k
 arm e h = sym h ∙ sym (ap says_of e)
 
-pub says-of-spec : {M : Type 1} → statement M
+pub says_of_spec : {M : Type 1} → statement M
 unfolding listing_of among listings
-says-of-spec =
+says_of_spec =
     tie.close
     (tie.spec
-    (λ c. arm c.match.keys1 refl)
-    (λ c. arm c.match.keys2 refl)
-    (λ c. arm c.match.keys3 refl)
-    (λ c. arm c.match.keys4 refl)
-    (λ c. arm c.match.keys5 refl)
-    (λ c. arm c.match.keys6 refl)
-    (λ c. arm c.match.keys7 refl)
-    (λ c. arm c.match.keys8 refl)
-    (λ c. arm c.match.keys9 refl)
-    (λ c. arm c.match.keys10 refl)
-    (λ c. arm c.match.keys11 refl)
-    (λ c. arm c.match.keys12 refl)
-    (λ c. arm c.match.keys13 refl)
-    (λ c. sym (quiet c.before.args.code c.match.rest)))
+    (λ c. arm c.in-100.is refl)
+    (λ c. arm c.in-200.is refl)
+    (λ c. arm c.in-1000.is refl)
+    (λ c. arm c.in-2000.is refl)
+    (λ c. arm c.in-40.is refl)
+    (λ c. arm c.in-10100.is refl)
+    (λ c. arm c.in-10000.is refl)
+    (λ c. arm c.in-10010.is refl)
+    (λ c. arm c.in-10001.is refl)
+    (λ c. arm c.in-10030.is refl)
+    (λ c. arm c.in-10031.is refl)
+    (λ c. arm c.in-10040.is refl)
+    (λ c. arm c.in-10050.is refl)
+    (λ c. sym (quiet c.args.code c.in_default.in_default-own.rest)))

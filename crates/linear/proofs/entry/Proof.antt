@@ -17,4 +17,8 @@ returns c =
     (e, rw e (entry-small k start.requires.1))
 
 pub entry_spec : {M : Type 1} → statement M
-entry_spec = tie.close (tie.spec (λ c. search rules) (λ c. search rules) (λ c κs. search rules) returns)
+entry_spec = tie.close (tie.spec
+    (λ c. search rules)
+    (λ c. search rules)
+    (λ c κs. search rules)
+    returns)

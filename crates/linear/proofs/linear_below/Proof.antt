@@ -5,8 +5,13 @@ use Rattle.linear.proofs.linear_below.Statement.{statement}
 use Rattle.linear.proofs.linear_below.Tie as tie
 
 returns : tie.Need-returns
-returns c = looked-up c.before.args.depth c.before.requires.0 c.before.requires.1
+returns c = looked-up c.args.depth c.requires.0 c.requires.1
 
-pub linear-below-spec : {M : Type 1} → statement M
-linear-below-spec =
-    tie.close (tie.spec (λ c. search rules) (λ c. search rules) (λ c. search rules) (λ c. search rules) returns)
+pub linear_below_spec : {M : Type 1} → statement M
+linear_below_spec =
+    tie.close (tie.spec
+    (λ c. search rules)
+    (λ c. search rules)
+    (λ c. search rules)
+    (λ c. search rules)
+    returns)

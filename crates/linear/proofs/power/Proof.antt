@@ -6,22 +6,22 @@ use Rattle.linear.proofs.Powers.{at_least}
 use Rattle.linear.proofs.power.Statement.{statement}
 use Rattle.linear.proofs.power.Tie as tie
 
-returns-9 : tie.Need-returns-9
+returns-9 : tie.Need-returns-in_default
 returns-9 c =
-    let n = c.before.args.n in
-    let e : n ≡ 8 = le_antisymm c.before.requires (at_least 8 n c.match.rest) in
+    let n = c.args.n in
+    let e : n ≡ 8 = le_antisymm c.requires (at_least 8 n c.in_default.in_default-own.rest) in
     (rw e, lit≤ tt)
 
-pub power-spec : {M : Type 1} → statement M
-power-spec =
+pub power_spec : {M : Type 1} → statement M
+power_spec =
     tie.close
     (tie.spec
-    (λ c. (rw c.match.keys1, lit≤ tt))
-    (λ c. (rw c.match.keys2, lit≤ tt))
-    (λ c. (rw c.match.keys3, lit≤ tt))
-    (λ c. (rw c.match.keys4, lit≤ tt))
-    (λ c. (rw c.match.keys5, lit≤ tt))
-    (λ c. (rw c.match.keys6, lit≤ tt))
-    (λ c. (rw c.match.keys7, lit≤ tt))
-    (λ c. (rw c.match.keys8, lit≤ tt))
+    (λ c. (rw c.in-0.is, lit≤ tt))
+    (λ c. (rw c.in-1.is, lit≤ tt))
+    (λ c. (rw c.in-2.is, lit≤ tt))
+    (λ c. (rw c.in-3.is, lit≤ tt))
+    (λ c. (rw c.in-4.is, lit≤ tt))
+    (λ c. (rw c.in-5.is, lit≤ tt))
+    (λ c. (rw c.in-6.is, lit≤ tt))
+    (λ c. (rw c.in-7.is, lit≤ tt))
     returns-9)

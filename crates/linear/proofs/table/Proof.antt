@@ -4,6 +4,7 @@ use Rattle.linear.specs.Roots.{roots}
 use Rattle.linear.proofs.table.Statement.{statement}
 use Rattle.linear.proofs.table.Tie as tie
 
-pub table-spec : {M : Type 1} → statement M
+pub table_spec : {M : Type 1} → statement M
 unfolding roots
-table-spec = tie.close (tie.spec (λ c. refl))
+table_spec = tie.close (tie.spec
+    (λ c. refl))

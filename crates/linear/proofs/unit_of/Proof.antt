@@ -7,14 +7,14 @@ use Rattle.linear.specs.Linear.{millionths}
 use Rattle.linear.proofs.unit_of.Statement.{statement}
 use Rattle.linear.proofs.unit_of.Tie as tie
 
-pub unit-of-spec : {M : Type 1} → statement M
+pub unit_of_spec : {M : Type 1} → statement M
 unfolding listing_of among listings
-unit-of-spec =
+unit_of_spec =
     tie.close
     (tie.spec
-    (λ c. (arm millionths c.match.keys1 refl, lit≤ tt))
-    (λ c. (arm millionths c.match.keys2 refl, lit≤ tt))
-    (λ c. (arm millionths c.match.keys3 refl, lit≤ tt))
-    (λ c. (arm millionths c.match.keys4 refl, lit≤ tt))
-    (λ c. (arm millionths c.match.keys5 refl, lit≤ tt))
-    (λ c. (sym (ap millionths (left-wide c.before.args.code c.match.rest)), lit≤ tt)))
+    (λ c. (arm millionths c.in-10030.is refl, lit≤ tt))
+    (λ c. (arm millionths c.in-10040.is refl, lit≤ tt))
+    (λ c. (arm millionths c.in-10050.is refl, lit≤ tt))
+    (λ c. (arm millionths c.in-10001.is refl, lit≤ tt))
+    (λ c. (arm millionths c.in-10031.is refl, lit≤ tt))
+    (λ c. (sym (ap millionths (left-wide c.args.code c.in_default.in_default-own.rest)), lit≤ tt)))

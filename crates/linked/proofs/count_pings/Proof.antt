@@ -13,59 +13,59 @@ use Rattle.linked.proofs.Finding.{Counting, counting-begin, counting-done, count
 use Rattle.linked.proofs.count_pings.Statement.{statement}
 use Rattle.linked.proofs.count_pings.Tie as tie
 
-abbrev invariant-loop : tie.invariant-loop
+abbrev invariant-loop : tie.invariant-loop-at
 invariant-loop file msb n₀ at₀ n at = Counting file msb at n
 
-abbrev decreases-loop : tie.decreases-loop
+abbrev decreases-loop : tie.decreases-loop-at
 decreases-loop file msb n₀ at₀ n at = length file - at
 
 -- places, named by what has been done there
-abbrev start : tie.In-loop invariant-loop decreases-loop → tie.Start invariant-loop decreases-loop
+abbrev start : tie.In-loop-at invariant-loop decreases-loop → tie.Start invariant-loop decreases-loop
 start c = c.before.before.before.before
 
-abbrev inside : tie.After-is-ping invariant-loop decreases-loop → tie.In-loop invariant-loop decreases-loop
+abbrev inside : tie.After-is_ping invariant-loop decreases-loop → tie.In-loop-at invariant-loop decreases-loop
 inside c = c.before.before
 
 -- the tuple where the loop stands
-there : (c : tie.In-loop invariant-loop decreases-loop) → let o = c.before.before.is-msb.result in
+there : (c : tie.In-loop-at invariant-loop decreases-loop) → let o = c.is_msb-msb.result in
     let f = (start c).args.file.now in
-    Whole o f c.before.loop.at (len_at o (drop c.before.loop.at f))
-there c = telling-whole c.before.loop.invariant.telling c.loop-test.true
+    Whole o f c.loop-at.at (len_at o (drop c.loop-at.at f))
+there c = telling-whole c.loop-at.invariant.telling c.loop-at-test.true
 
-add-n : tie.Need-overflow-add-n invariant-loop decreases-loop
-add-n c = let inv = (inside c.before).before.loop.inv in let w = telling-within inv.telling in omega (arith, inv.few, w.0, w.1)
+add-n : tie.Need-overflow_add-n invariant-loop decreases-loop
+add-n c = let inv = (inside c.before).loop-at.invariant in let w = telling-within inv.telling in omega (arith, inv.few, w.0, w.1)
 
-add_at : tie.Need-overflow-add-at invariant-loop decreases-loop
+add_at : tie.Need-overflow_add-at invariant-loop decreases-loop
 add_at c =
     let l = inside c.before.before in
-    omega (arith, (there l).fits, c.length_at.ensures, (telling-within l.before.loop.inv.telling).1)
+    omega (arith, (there l).fits, c.length_at-at.ensures, (telling-within l.loop-at.invariant.telling).1)
 
-loop-less : tie.Need-loop-smaller invariant-loop decreases-loop
+loop-less : tie.Need-loop-at-smaller invariant-loop decreases-loop
 loop-less c =
     let l = inside c.before.before in
-    telling-less l.before.loop.inv.telling l.loop-test.taken _ c.length_at.ensures
+    telling-less l.loop-at.invariant.telling l.loop-at-test.true _ c.length_at-at.ensures
 
-loop-again : tie.Need-loop-preserved invariant-loop decreases-loop
+loop-again : tie.Need-loop-at-preserved invariant-loop decreases-loop
 loop-again c =
     let p = c.before.before in
     let l = inside p in
-    let g = l.before.loop.inv in
-    let h = l.loop-test.taken in
+    let g = l.loop-at.invariant in
+    let h = l.loop-at-test.true in
     ⊎_elim
     (λ w. rw w.1
-    (counting-ping g h _ _ c.length_at.ensures p.before.kind_at.ensures (sym p.is-ping.ensures ∙ w.0.taken)))
+    (counting-ping g h _ _ c.length_at-at.ensures p.kind_at.ensures (sym p.is_ping.ensures ∙ w.0.true)))
     (λ w. rw w.1
-    (counting-other g h _ _ c.length_at.ensures p.before.kind_at.ensures (sym p.is-ping.ensures ∙ w.0.left)))
-    c.before.if1.branch
+    (counting-other g h _ _ c.length_at-at.ensures p.kind_at.ensures (sym p.is_ping.ensures ∙ w.0.false)))
+    c.if-is_ping.branch
 
-pub count-pings-spec : {M : Type 1} → statement M
-count-pings-spec =
+pub count_pings_spec : {M : Type 1} → statement M
+count_pings_spec =
     tie.close
     (tie.spec
     invariant-loop
     decreases-loop
-    (λ c κs. accepted_4 _ c.before.requires)
-    (λ c. counting-begin _ _ c.before.before.requires c.is-msb.ensures)
+    (λ c κs. accepted_4 _ c.requires)
+    (λ c. counting-begin _ _ c.requires c.is_msb-msb.ensures)
     (λ c κs. omega (arith, (there c).long, (there c).ranges))
     (λ c κs. search rules)
     add-n
@@ -73,4 +73,4 @@ count-pings-spec =
     add_at
     loop-less
     loop-again
-    (λ c. counting-done c.before.loop.invariant c.loop-test.false))
+    (λ c. counting-done c.loop-at.invariant c.loop-at-test.false))

@@ -17,44 +17,44 @@ use Rattle.linked.proofs.Finding.{Seeking, seeking_none, seeking_here, seeking_a
 use Rattle.linked.proofs.find_with.Statement.{statement}
 use Rattle.linked.proofs.find_with.Tie as tie
 
-abbrev invariant-loop : tie.invariant-loop
+abbrev invariant-loop : tie.invariant-loop-at
 invariant-loop file place rows₀ notes₀ msb used₀ at₀ rows notes used at = Seeking file msb place at used rows
 
-abbrev decreases-loop : tie.decreases-loop
+abbrev decreases-loop : tie.decreases-loop-at
 decreases-loop file place rows₀ notes₀ msb used₀ at₀ rows notes used at = length file - at
 
 -- places, named by what has been done there
-abbrev start : tie.In-loop invariant-loop decreases-loop → tie.Start invariant-loop decreases-loop
+abbrev start : tie.In-loop-at invariant-loop decreases-loop → tie.Start invariant-loop decreases-loop
 start c = c.before.before.before.before
 
-abbrev inside : tie.After-kind-at invariant-loop decreases-loop → tie.In-loop invariant-loop decreases-loop
+abbrev inside : tie.After-kind_at-code invariant-loop decreases-loop → tie.In-loop-at invariant-loop decreases-loop
 inside c = c.before.before
 
-abbrev pinged : tie.After-quantity-at-arg4 invariant-loop decreases-loop → tie.Then2 invariant-loop decreases-loop
+abbrev pinged : tie.After-quantity_at-arg-then-is_ping-3-1 invariant-loop decreases-loop → tie.Then-is_ping invariant-loop decreases-loop
 pinged c = c.before.before.before.before
 
-abbrev read : tie.Then2 invariant-loop decreases-loop → tie.After-kind-at invariant-loop decreases-loop
+abbrev read : tie.Then-is_ping invariant-loop decreases-loop → tie.After-kind_at-code invariant-loop decreases-loop
 read c = c.before.before.before
 
-abbrev turning : tie.After-keep invariant-loop decreases-loop → tie.After-kind-at invariant-loop decreases-loop
+abbrev turning : tie.After-keep-used invariant-loop decreases-loop → tie.After-kind_at-code invariant-loop decreases-loop
 turning c = c.before.before.before.before
 
 -- the tuple where the loop stands
-there : (c : tie.In-loop invariant-loop decreases-loop) → let o = c.before.before.is-msb.result in
+there : (c : tie.In-loop-at invariant-loop decreases-loop) → let o = c.is_msb-msb.result in
     let f = (start c).args.file.now in
-    Whole o f c.before.loop.at (len_at o (drop c.before.loop.at f))
-there c = telling-whole c.before.loop.invariant.along.telling c.loop-test.true
+    Whole o f c.loop-at.at (len_at o (drop c.loop-at.at f))
+there c = telling-whole c.loop-at.invariant.along.telling c.loop-at-test.true
 
 -- it is a listed ping
-listed : (c : tie.Then2 invariant-loop decreases-loop) → is_ping (read c).kind_at.result ≡ true
-listed c = sym c.before.is-ping.ensures ∙ c.if2.true
+listed : (c : tie.Then-is_ping invariant-loop decreases-loop) → is_ping (read c).kind_at-code.result ≡ true
+listed c = sym c.is_ping.ensures ∙ c.if-is_ping.true
 
-quantity-at-requires : tie.Need-quantity-at-requires invariant-loop decreases-loop
+quantity-at-requires : tie.Need-quantity_at-quantity-requires invariant-loop decreases-loop
 quantity-at-requires c κs =
     let p = pinged c in
     let k = read p in
     let l = inside k in
-    let g = l.before.loop.inv.along in
+    let g = l.loop-at.invariant.along in
     let w = there l in
     let r = along-rows g in (
       omega (arith, w.long, w.fits),
@@ -62,62 +62,62 @@ quantity-at-requires c κs =
         r.0,
         (
           r.1,
-          (along-named g l.loop-test.taken _ _ k.before.length_at.ensures k.kind_at.ensures (listed p), search rules),
+          (along-named g l.loop-at-test.true _ _ k.length_at-whole.ensures k.kind_at-code.ensures (listed p), search rules),
         ),
       ),
     )
 
-returns : tie.Need-returns invariant-loop decreases-loop
+returns : tie.Need-returns-then-is_ping invariant-loop decreases-loop
 returns c =
     let p = pinged c.before in
     let k = read p in
     let l = inside k in
-    seeking_here l.before.loop.inv l.loop-test.taken _ _ k.before.length_at.ensures k.kind_at.ensures (listed p)
-    p.before.before.if1.taken _ c.quantity-at.ensures
+    seeking_here l.loop-at.invariant l.loop-at-test.true _ _ k.length_at-whole.ensures k.kind_at-code.ensures (listed p)
+    p.if-at-place.true _ c.quantity_at-quantity.ensures
 
-keep-requires : tie.Need-keep-requires invariant-loop decreases-loop
+keep-requires : tie.Need-keep-used-requires invariant-loop decreases-loop
 keep-requires c κs =
     let k = c.before.before.before in
     let l = inside k in
-    let g = l.before.loop.inv.along in
-    let h = l.loop-test.taken in (
-      telling-sound g.telling h _ _ k.before.length_at.ensures k.kind_at.ensures,
+    let g = l.loop-at.invariant.along in
+    let h = l.loop-at-test.true in (
+      telling-sound g.telling h _ _ k.length_at-whole.ensures k.kind_at-code.ensures,
       (omega (arith, h, (telling-within g.telling).1), (along-room g h, g.keeping.long)),
     )
 
-add_at : tie.Need-overflow-add-at invariant-loop decreases-loop
+add_at : tie.Need-overflow_add-at invariant-loop decreases-loop
 add_at c =
     let k = turning c in
     let l = inside k in
-    omega (arith, (there l).fits, k.before.length_at.ensures, (telling-within l.before.loop.inv.along.telling).1)
+    omega (arith, (there l).fits, k.length_at-whole.ensures, (telling-within l.loop-at.invariant.along.telling).1)
 
-loop-less : tie.Need-loop-smaller invariant-loop decreases-loop
+loop-less : tie.Need-loop-at-smaller invariant-loop decreases-loop
 loop-less c =
     let k = turning c in
     let l = inside k in
-    telling-less l.before.loop.inv.along.telling l.loop-test.taken _ k.before.length_at.ensures
+    telling-less l.loop-at.invariant.along.telling l.loop-at-test.true _ k.length_at-whole.ensures
 
 -- the tuple is no ping at the place
-other : (c : tie.Joined1 invariant-loop decreases-loop)
-    → (inside c.before).before.loop.at ≡ (start (inside c.before)).args.place → is_ping c.before.kind_at.result ≡ false
-other c e = ⊎_elim (λ w. sym w.1.ensures ∙ w.2.left) (λ w. absurd (w.left e)) c.if1.branch
+other : (c : tie.Joined-at-place invariant-loop decreases-loop)
+    → (inside c.before).loop-at.at ≡ (start (inside c.before)).args.place → is_ping c.kind_at-code.result ≡ false
+other c e = ⊎_elim (λ w. sym w.1.ensures ∙ w.2.false) (λ w. absurd (w.false e)) c.if-at-place.branch
 
-loop-again : tie.Need-loop-preserved invariant-loop decreases-loop
+loop-again : tie.Need-loop-at-preserved invariant-loop decreases-loop
 loop-again c =
     let k = turning c in
     let l = inside k in
-    seeking_again l.before.loop.inv l.loop-test.taken _ _ k.before.length_at.ensures k.kind_at.ensures
-    (other c.before.before.before) _ _ c.keep.ensures
+    seeking_again l.loop-at.invariant l.loop-at-test.true _ _ k.length_at-whole.ensures k.kind_at-code.ensures
+    (other c.before.before.before) _ _ c.keep-used.ensures
 
-pub find-with-spec : {M : Type 1} → statement M
-find-with-spec =
+pub find_with_spec : {M : Type 1} → statement M
+find_with_spec =
     tie.close
     (tie.spec
     invariant-loop
     decreases-loop
-    (λ c κs. accepted_4 _ c.before.requires.0)
+    (λ c κs. accepted_4 _ c.requires.0)
     (λ c. let s = c.before.before in
-    record { along = along-begin (standing s.args.place) _ _ _ s.requires.0 c.is-msb.ensures s.requires.1 })
+    record { along = along-begin (standing s.args.place) _ _ _ s.requires.0 c.is_msb-msb.ensures s.requires.1 })
     (λ c κs. omega (arith, (there c).long, (there c).ranges))
     (λ c κs. omega (arith, (there c.before).long, (there c.before).fits))
     (λ c κs. search rules)
@@ -127,4 +127,4 @@ find-with-spec =
     add_at
     loop-less
     loop-again
-    (λ c. seeking_none c.before.loop.invariant c.loop-test.false))
+    (λ c. seeking_none c.loop-at.invariant c.loop-at-test.false))

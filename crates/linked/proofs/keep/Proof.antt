@@ -15,36 +15,36 @@ use Rattle.linked.proofs.keep.Statement.{statement}
 use Rattle.linked.proofs.keep.Tie as tie
 
 -- places, named by what has been done there
-abbrev start : tie.After-says-of → tie.Start
+abbrev start : tie.After-says_of → tie.Start
 start c = c.before.before
 
-abbrev looked : tie.After-known-told → tie.After-says-of
-looked c = c.before.before.before
+abbrev looked : tie.In-Channel → tie.After-says_of
+looked c = c.before
 
 -- what the type says, in an arm of the match
-said : (c : tie.After-says-of) {a : Says} → c.says_of.result ≡ a → says_of (start c).args.code ≡ a
+said : (c : tie.After-says_of) {a : Says} → c.says_of.result ≡ a → says_of (start c).args.code ≡ a
 said c e = sym c.says_of.ensures ∙ e
 
 -- where none is declared
-none : (c : tie.After-says-of) → let a = (start c).args in new_here a.msb a.file.now a.at ≡ []
+none : (c : tie.After-says_of) → let a = (start c).args in new_here a.msb a.file.now a.at ≡ []
     → Past a.used a.rows.now (new_here a.msb a.file.now a.at) a.used a.rows.now
 none c e = none_more _ _ (start c).requires.1.1.1 e
 
 -- a channel that is declared has room
-room : (c : tie.After-known-told) → (start (looked c)).args.used < most_channels
+room : (c : tie.In-Channel) → (start (looked c)).args.used < most_channels
 room c =
     let s = start (looked c) in
-    let one = ap length (new_channel s.pre.0 (said (looked c) c.before.maker.given.1)) in
-    omega (arith, one, s.pre.1.1.0)
+    let one = ap length (new_channel s.requires.0 (said (looked c) c.in-Channel.is)) in
+    omega (arith, one, s.requires.1.1.0)
 
-returns-5 : tie.Need-returns-5
+returns-5 : tie.Need-returns-in-Channel
 returns-5 c =
     let p = c.before.before in
     let i = p.before.before in
     let l = i.before in
     let s = start (looked l) in
-    one_more _ _ s.pre.1.1.1 i.channel-at.result _ (new_channel s.pre.0 (said (looked l) l.before.maker.given.1))
-    i.channel-at.ensures p.put-channel.ensures.1 (room l) _ p.put-channel.ensures.0
+    one_more _ _ s.requires.1.1.1 i.channel_at-it.result _ (new_channel s.requires.0 (said (looked l) l.in-Channel.is))
+    i.channel_at-it.ensures p.put_channel.ensures.1 (room l) _ p.put_channel.ensures.0
 
 pub keep_spec : {M : Type 1} → statement M
 keep_spec =
@@ -57,12 +57,12 @@ keep_spec =
     (λ c. search rules)
     (λ c. search rules)
     (λ c κs. let s = (start (looked c)).requires.0 in
-    channel-whole s.here (sound-fits s) (said (looked c) c.before.maker.given.1))
+    channel-whole s.here (sound-fits s) (said (looked c) c.in-Channel.is))
     (λ c κs. let l = c.before.before in (room l, (start (looked l)).requires.1.0))
     (λ c κs. room c.before.before.before.before)
     (λ c. search rules)
-    (λ c. let m = c.before.before in none m (new_nothing (start m).requires.0 (said m c.enum_told.given.1)))
-    (λ c. let m = c.before.before in none m (new_sounder (start m).requires.0 (said m c.enum-told2.given.1)))
-    (λ c. let m = c.before.before in none m (new_names (start m).requires.0 (said m c.enum-told3.given.1)))
-    (λ c. let m = c.before.before in none m (new_all (start m).requires.0 (said m c.enum-told4.given.1)))
+    (λ c. let m = c.before in none m (new_nothing (start m).requires.0 (said m c.in-Nothing.is)))
+    (λ c. let m = c.before in none m (new_sounder (start m).requires.0 (said m c.in-Sounder.is)))
+    (λ c. let m = c.before in none m (new_names (start m).requires.0 (said m c.in-Names.is)))
+    (λ c. let m = c.before in none m (new_all (start m).requires.0 (said m c.in-NamesOrAll.is)))
     returns-5)

@@ -14,32 +14,32 @@ use Rattle.linked.proofs.quantity_at.Statement.{statement}
 use Rattle.linked.proofs.quantity_at.Tie as tie
 
 -- the row that is found is the named channel's, and one of those that are used
-found : (c : tie.After-find-near) → let a = c.before.before.before.before.args in
-    c.find-near.result ≡ place_of id_of (named_at a.msb a.file.now a.at).0 (channels_in a.used a.rows.now)
-found c = rw c.before.named-at.ensures at c.find-near.ensures
+found : (c : tie.After-find_near-found) → let a = c.args in
+    c.find_near-found.result ≡ place_of id_of (named_at a.msb a.file.now a.at).0 (channels_in a.used a.rows.now)
+found c = rw c.named_at-named.ensures at c.find_near-found.ensures
 
-below : (c : tie.After-find-near) → c.find-near.result < c.before.before.before.before.args.used
-below c = omega (arith, found c, c.before.before.before.before.requires.1.1.1.0)
+below : (c : tie.After-find_near-found) → c.find_near-found.result < c.args.used
+below c = omega (arith, found c, c.requires.1.1.1.0)
 
-mul-row : tie.Need-overflow-mul-row
+mul-row : tie.Need-offset_bounds-rows-found
 mul-row c =
     let s = c.before.before.before.before in
-    let h : c.find-near.result < length s.args.rows.now = omega (arith, below c, s.requires.1.0) in
+    let h : c.find_near-found.result < length s.args.rows.now = omega (arith, below c, s.requires.1.0) in
     search rules
 
 returns : tie.Need-returns
 returns c =
     let m = c.before.before in
     let k = m.before.before in
-    let a = k.before.before.before.before.args in
-    c.quantity-by.ensures
-    ∙ ap₂ quantity_by m.maker-of.ensures c.before.narrow.ensures
+    let a = k.args in
+    c.quantity_by.ensures
+    ∙ ap₂ quantity_by m.maker_of.ensures c.narrow.ensures
     ∙ ap quantity_of
-    (sym (rows_at channel_of a.rows.now a.used k.find-near.result [] (below k))
+    (sym (rows_at channel_of a.rows.now a.used k.find_near-found.result [] (below k))
     ∙ ap (λ (i : ℕ). get_or (channels_in a.used a.rows.now) i (channel_of [])) (found k))
 
-pub quantity-at-spec : {M : Type 1} → statement M
-quantity-at-spec =
+pub quantity_at_spec : {M : Type 1} → statement M
+quantity_at_spec =
     tie.close
     (tie.spec
     (λ c κs. search rules)

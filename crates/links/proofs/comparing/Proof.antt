@@ -3,11 +3,15 @@ use borrow.Author.Rules.{rules}
 use Rattle.links.proofs.comparing.Statement.{statement}
 use Rattle.links.proofs.comparing.Tie as tie
 
-returns : tie.Need-returns
-returns c = rw c.before.verdict.given.1
+returns : tie.Need-returns-in-Fault
+returns c = rw c.in-Fault.is
 
-returns-2 : tie.Need-returns-2
-returns-2 c = rw c.enum_told.given.1
+returns-2 : tie.Need-returns-in-Fine
+returns-2 c = rw c.in-Fine.is
 
-pub comparing-spec : {M : Type 1} → statement M
-comparing-spec = tie.close (tie.spec (λ c. search rules) (λ c. search rules) returns returns-2)
+pub comparing_spec : {M : Type 1} → statement M
+comparing_spec = tie.close (tie.spec
+    (λ c. search rules)
+    (λ c. search rules)
+    returns
+    returns-2)

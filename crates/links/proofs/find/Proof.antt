@@ -5,17 +5,17 @@ use Rattle.links.proofs.Search.{Looking, look, miss, hit, end}
 use Rattle.links.proofs.find.Statement.{statement}
 use Rattle.links.proofs.find.Tie as tie
 
-abbrev invariant-loop : tie.invariant-loop
+abbrev invariant-loop : tie.invariant-loop-row
 invariant-loop rows used key row₀ row = Looking key rows used row
 
-abbrev decreases-loop : tie.decreases-loop
+abbrev decreases-loop : tie.decreases-loop-row
 decreases-loop rows used key row₀ row = used - row
 
-returns : tie.Need-returns invariant-loop decreases-loop
-returns c = hit c.before.before.before.loop.invariant c.before.before.loop-test.true c.if1.true
+returns : tie.Need-returns-then-rows-row invariant-loop decreases-loop
+returns c = hit c.loop-row.invariant c.loop-row-test.true c.if-rows-row.true
 
-loop-again : tie.Need-loop-preserved invariant-loop decreases-loop
-loop-again c = miss c.before.before.before.loop.invariant c.before.before.loop-test.true c.if1.false
+loop-again : tie.Need-loop-row-preserved invariant-loop decreases-loop
+loop-again c = miss c.loop-row.invariant c.loop-row-test.true c.if-rows-row.false
 
 pub find_spec : {M : Type 1} → statement M
 find_spec =
@@ -31,4 +31,4 @@ find_spec =
     (λ c. search rules)
     (λ c. search rules)
     loop-again
-    (λ c. end c.before.loop.invariant c.loop-test.false))
+    (λ c. end c.loop-row.invariant c.loop-row-test.false))

@@ -6,36 +6,36 @@ use Rattle.links.proofs.Rows.{guessed}
 use Rattle.links.proofs.find_near.Statement.{statement}
 use Rattle.links.proofs.find_near.Tie as tie
 
-abbrev start : tie.Else1 → tie.Start
+abbrev start : tie.Else-is_on → tie.Start
 start c = c.before.before.before.before
 
-returns : tie.Need-returns
+returns : tie.Need-returns-then-is_on
 returns c =
     let g = c.before in
     let s = g.before.before.before in
-    let k = g.is-on.ensures c.if1.true in
+    let k = g.is_on.ensures c.if-is_on.true in
     guessed _ _ _ _ s.requires.0 s.requires.1.0 k.0 k.1
 
-returns-2 : tie.Need-returns-2
+returns-2 : tie.Need-returns-then-is_on-2
 returns-2 c =
     let g = c.before in
     let s = start g.before.before in
-    let k = g.is-on2.ensures c.if3.true in
-    guessed _ _ _ _ s.pre.0 s.pre.1.0 k.0 k.1
+    let k = g.is_on-then-near-gt0.ensures c.if-is_on-2.true in
+    guessed _ _ _ _ s.requires.0 s.requires.1.0 k.0 k.1
 
 -- the slot is one of the notes
-read-noted : tie.Need-shared-slice-read-noted
-read-noted c = let s = start c.before.before.before in omega (arith, c.before.slot_of.ensures, s.pre.1.1)
+read-noted : tie.Need-bounds-notes-slot_of
+read-noted c = let s = start c.before.before.before in omega (arith, c.slot_of.ensures, s.requires.1.1)
 
-returns-3 : tie.Need-returns-3
+returns-3 : tie.Need-returns-then-is_on-3
 returns-3 c =
     let g = c.before in
     let s = start g.before.before.before.before in
-    let k = g.is-on3.ensures c.if4.true in
-    guessed _ _ _ _ s.pre.0 s.pre.1.0 k.0 k.1
+    let k = g.is_on-2.ensures c.if-is_on-3.true in
+    guessed _ _ _ _ s.requires.0 s.requires.1.0 k.0 k.1
 
-pub find-near-spec : {M : Type 1} → statement M
-find-near-spec =
+pub find_near_spec : {M : Type 1} → statement M
+find_near_spec =
     tie.close
     (tie.spec
     (λ c. search rules)
@@ -47,7 +47,7 @@ find-near-spec =
     (λ c κs. search rules)
     (λ c. search rules)
     read-noted
-    (λ c. Fits-widen tt (c.shared-slice-known2.given c.before.slot_of.result))
+    (λ c. Fits-widen tt (c.shared_slice_known-2-1.given c.slot_of.result))
     (λ c κs. search rules)
     returns-3
     (λ c κs. search rules)

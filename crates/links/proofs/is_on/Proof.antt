@@ -6,11 +6,16 @@ use borrow.Author.Tests.{eqb-true}
 use Rattle.links.proofs.is_on.Statement.{statement}
 use Rattle.links.proofs.is_on.Tie as tie
 
-returns : tie.Need-returns
-returns c = λ e. (c.before.if1.true, eqb-true _ _ e)
+returns : tie.Need-returns-then-row-used
+returns c = λ e. (c.if-row-used.true, eqb-true _ _ e)
 
-returns-2 : tie.Need-returns-2
+returns-2 : tie.Need-returns
 returns-2 c = λ e. absurd (true≢false (sym e))
 
-pub is-on-spec : {M : Type 1} → statement M
-is-on-spec = tie.close (tie.spec (λ c. search rules) (λ c. search rules) (λ c. search rules) returns returns-2)
+pub is_on_spec : {M : Type 1} → statement M
+is_on_spec = tie.close (tie.spec
+    (λ c. search rules)
+    (λ c. search rules)
+    (λ c. search rules)
+    returns
+    returns-2)

@@ -11,17 +11,17 @@ use Rattle.links.proofs.put_channel.Tie as tie
 returns : tie.Need-returns
 returns c =
     let n = c.before.before in
-    let a = n.before.before.before.args in
+    let a = n.args in
     let it = a.it in
-    let k = c.struct-known2.given in
+    let k = c.struct_known-2-1.given in
     let e : it.samples % 65536 ≡ it.samples = omega (arith, k) in (
-      ap (λ (m : ℕ). set a.rows.now a.row (it.id.0 ∷ it.parent.0 ∷ a.place ∷ it.rate ∷ it.samples ∷ m ∷ []))
-          n.number_of_lem.ensures.0,
-      λ i. record { id = it.id; parent = it.parent; rate = it.rate; samples = e i; maker = n.number_of_lem.ensures.1 i },
+      ap (λ (m : ℕ). set a.rows.now a.row (it.id-1.0 ∷ it.parent-1.0 ∷ a.place ∷ it.rate ∷ it.samples ∷ m ∷ []))
+          n.number_of-number.ensures.0,
+      λ i. record { id-1 = it.id-1; parent-1 = it.parent-1; rate = it.rate; samples = e i; maker = n.number_of-number.ensures.1 i },
     )
 
-pub put-channel-spec : {M : Type 1} → statement M
-put-channel-spec =
+pub put_channel_spec : {M : Type 1} → statement M
+put_channel_spec =
     tie.close
     (tie.spec
     (λ c κs. search rules)

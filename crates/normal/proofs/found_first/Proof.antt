@@ -7,15 +7,15 @@ use Rattle.normal.proofs.Measures.{found_before, found_here, found-not}
 use Rattle.normal.proofs.found_first.Statement.{statement}
 use Rattle.normal.proofs.found_first.Tie as tie
 
-pub found-first-spec : {M : Type 1} → statement M
-found-first-spec =
+pub found_first_spec : {M : Type 1} → statement M
+found_first_spec =
     tie.close
     (tie.spec
-    (λ c. let a = c.before.args in found_before _ _ a.at (is_unlisted (shape_of a.code)) c.if1.true)
+    (λ c. let a = c.args in found_before _ _ a.at (is_unlisted (shape_of a.code)) c.if-found-end.true)
     (λ c κs. search rules)
-    (λ c. let a = c.before.before.before.args in
-    found_here _ _ a.at (is_unlisted (shape_of a.code)) c.before.before.if1.false
-    (sym c.before.is-unlisted.ensures ∙ c.if2.true))
-    (λ c. let a = c.before.before.before.args in
-    found-not _ _ a.at (is_unlisted (shape_of a.code)) c.before.before.if1.false
-    (sym c.before.is-unlisted.ensures ∙ c.if2.false)))
+    (λ c. let a = c.args in
+    found_here _ _ a.at (is_unlisted (shape_of a.code)) c.if-found-end.false
+    (sym c.is_unlisted.ensures ∙ c.if-is_unlisted.true))
+    (λ c. let a = c.args in
+    found-not _ _ a.at (is_unlisted (shape_of a.code)) c.if-found-end.false
+    (sym c.is_unlisted.ensures ∙ c.if-is_unlisted.false)))

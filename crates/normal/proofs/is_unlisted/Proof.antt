@@ -20,15 +20,19 @@ by_place k e (uncompressed f) s l = ne_eqb (place_in k) listed (λ z. omega arit
 by_place k e (compressed f) s l = ne_eqb (place_in k) listed (λ z. omega arith)
 by_place k e unlisted s l = eq-eqb (place_in k) listed l
 
-returns : tie.Need-returns
-returns c = sym (ap is_unlisted (index_shape _ (sym c.before.in-class.ensures ∙ c.if1.true)))
+returns : tie.Need-returns-then-in_class
+returns c = sym (ap is_unlisted (index_shape _ (sym c.in_class.ensures ∙ c.if-in_class.true)))
 
-returns-2 : tie.Need-returns-2
+returns-2 : tie.Need-returns
 returns-2 c =
     let i = c.before in
-    let k = i.before.before.args.code in
-    ap (λ (n : ℕ). eqb n listed) c.listing-of.ensures
-    ∙ by_place k (sym i.before.in-class.ensures ∙ i.if1.false) (shape_of k) refl (tabled k)
+    let k = i.args.code in
+    ap (λ (n : ℕ). eqb n listed) c.listing_of.ensures
+    ∙ by_place k (sym i.in_class.ensures ∙ i.if-in_class.false) (shape_of k) refl (tabled k)
 
-pub is-unlisted-spec : {M : Type 1} → statement M
-is-unlisted-spec = tie.close (tie.spec (λ c κs. search rules) returns (λ c κs. search rules) returns-2)
+pub is_unlisted_spec : {M : Type 1} → statement M
+is_unlisted_spec = tie.close (tie.spec
+    (λ c κs. search rules)
+    returns
+    (λ c κs. search rules)
+    returns-2)

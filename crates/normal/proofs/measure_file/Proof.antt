@@ -9,20 +9,20 @@ use Rattle.normal.proofs.Measures.{measured-index}
 use Rattle.normal.proofs.measure_file.Statement.{statement}
 use Rattle.normal.proofs.measure_file.Tie as tie
 
-index-length-requires : tie.Need-index-length-requires
-index-length-requires c κs = omega (arith, c.count-types.ensures, few-flagged c.before.before.measure-forms.new.1.0)
+index-length-requires : tie.Need-index_length-more-requires
+index-length-requires c κs = omega (arith, c.count_types.ensures, few-flagged c.before.before.measure_forms-m.new.1.0)
 
-add-bytes : tie.Need-overflow-add-t6
+add-bytes : tie.Need-overflow_add-result
 add-bytes c =
     let counted = c.before.before in
     let measured = counted.before.before in
     let s = measured.before.before.before in
     omega (
       arith,
-      c.before.index-length.ensures,
-      counted.count-types.ensures,
-      few-flagged measured.measure-forms.new.1.0,
-      measured.measure-forms.ensures.1.0,
+      c.index_length-more.ensures,
+      counted.count_types.ensures,
+      few-flagged measured.measure_forms-m.new.1.0,
+      measured.measure_forms-m.ensures.1.0,
       accepted-small _ s.requires.0,
     )
 
@@ -30,14 +30,19 @@ returns : tie.Need-returns
 returns c =
     let counted = c.before.before in
     let measured = counted.before.before in
-    let m = measured.measure-forms in (
-      ap (λ (n : ℕ). record { bytes = m.result.bytes + n; unlisted = m.result.unlisted }) c.before.index-length.ensures
-          ∙ measured-index _ m.result m.new.1.0 counted.count-types.result m.ensures.0 m.ensures.1.1
-          counted.count-types.ensures,
+    let m = measured.measure_forms-m in (
+      ap (λ (n : ℕ). record { bytes = m.result.bytes + n; unlisted = m.result.unlisted }) c.index_length-more.ensures
+          ∙ measured-index _ m.result m.new.1.0 counted.count_types.result m.ensures.0 m.ensures.1.1
+          counted.count_types.ensures,
       m.ensures.1.1,
     )
 
-pub measure-file-spec : {M : Type 1} → statement M
-measure-file-spec =
+pub measure_file_spec : {M : Type 1} → statement M
+measure_file_spec =
     tie.close
-    (tie.spec (λ c κs. let s = c.before.before in (s.requires.0, s.requires.1)) (λ c κs. search rules) index-length-requires add-bytes returns)
+    (tie.spec
+    (λ c κs. let s = c.before.before in (s.requires.0, s.requires.1))
+    (λ c κs. search rules)
+    index-length-requires
+    add-bytes
+    returns)

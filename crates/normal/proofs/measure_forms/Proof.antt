@@ -12,45 +12,45 @@ use Rattle.normal.proofs.Measures.{measuring_done}
 use Rattle.normal.proofs.measure_forms.Statement.{statement}
 use Rattle.normal.proofs.measure_forms.Tie as tie
 
-abbrev invariant-loop : tie.invariant-loop
+abbrev invariant-loop : tie.invariant-loop-place
 invariant-loop file flags₀ msb m₀ place₀ flags m place = Measuring file msb place m flags
 
-abbrev decreases-loop : tie.decreases-loop
+abbrev decreases-loop : tie.decreases-loop-place
 decreases-loop file flags₀ msb m₀ place₀ flags m place = length file - place
 
 -- the tuple where the loop stands
-there : (c : tie.In-loop invariant-loop decreases-loop) → let o = c.before.before.before.is-msb.result in
-    let f = c.before.before.before.before.before.args.file.now in
-    let at = c.before.loop.place in
+there : (c : tie.In-loop-place invariant-loop decreases-loop) → let o = c.is_msb-msb.result in
+    let f = c.args.file.now in
+    let at = c.loop-place.place in
     Whole o f at (len_at o (drop at f))
-there c = measuring_whole _ _ _ _ _ c.before.loop.invariant c.loop-test.true
+there c = measuring_whole _ _ _ _ _ c.loop-place.invariant c.loop-place-test.true
 
-past-requires : tie.Need-past-requires invariant-loop decreases-loop
+past-requires : tie.Need-past-m-requires invariant-loop decreases-loop
 past-requires c κs =
     let turn = c.before in
-    (measuring_sound _ _ _ _ _ turn.before.loop.invariant turn.loop-test.true, turn.before.loop.invariant.few)
+    (measuring_sound _ _ _ _ _ turn.loop-place.invariant turn.loop-place-test.true, turn.loop-place.invariant.few)
 
-loop-again : tie.Need-loop-preserved invariant-loop decreases-loop
+loop-again : tie.Need-loop-place-preserved invariant-loop decreases-loop
 loop-again c =
     let measured = c.before in
     let turn = measured.before.before in
-    let e = measured.past.ensures in
-    measuring_past _ _ _ _ _ turn.before.loop.invariant turn.loop-test.true _ _ _ c.length_at.ensures e.0 e.1.0 e.1.1
+    let e = measured.past-m.ensures in
+    measuring_past _ _ _ _ _ turn.loop-place.invariant turn.loop-place-test.true _ _ _ c.length_at-place.ensures e.0 e.1.0 e.1.1
 
-pub measure-forms-spec : {M : Type 1} → statement M
-measure-forms-spec =
+pub measure_forms_spec : {M : Type 1} → statement M
+measure_forms_spec =
     tie.close
     (tie.spec
     invariant-loop
     decreases-loop
-    (λ c κs. accepted_4 _ c.before.requires.0)
+    (λ c κs. accepted_4 _ c.requires.0)
     (λ c κs. search rules)
     (λ c. let s = c.before.before.before in
-    measuring_begin _ _ _ _ s.requires.0 c.before.is-msb.ensures c.begin.ensures s.requires.1)
+    measuring_begin _ _ _ _ s.requires.0 c.is_msb-msb.ensures c.begin-m.ensures s.requires.1)
     past-requires
     (λ c κs. let turn = c.before.before in omega (arith, (there turn).long, (there turn).ranges))
-    (λ c. let turn = c.before.before.before in omega (arith, (there turn).ranges, c.length_at.ensures))
+    (λ c. let turn = c.before.before.before in omega (arith, (there turn).ranges, c.length_at-place.ensures))
     (λ c. let turn = c.before.before.before in
-    measuring_less _ _ _ _ _ turn.before.loop.invariant turn.loop-test.true _ c.length_at.ensures)
+    measuring_less _ _ _ _ _ turn.loop-place.invariant turn.loop-place-test.true _ c.length_at-place.ensures)
     loop-again
-    (λ c. let d = measuring_done _ _ _ _ _ c.before.loop.invariant c.loop-test.false in (d.0, (d.1, d.2))))
+    (λ c. let d = measuring_done _ _ _ _ _ c.loop-place.invariant c.loop-place-test.false in (d.0, (d.1, d.2))))

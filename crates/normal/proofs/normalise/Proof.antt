@@ -13,97 +13,97 @@ use Rattle.normal.proofs.normalise.Statement.{statement}
 use Rattle.normal.proofs.normalise.Tie as tie
 
 -- places, named by what has been done there
-abbrev start : tie.After-counts → tie.Start
+abbrev start : tie.In-Accepted-2 → tie.Start
 start c = c.before.before.before.before.before
 
-abbrev measured : tie.After-is-unturnable → tie.After-measure-file
+abbrev measured : tie.After-is_unturnable → tie.After-measure_file-m
 measured c = c.before.before.before
 
-abbrev taken : tie.After-measure-file → tie.After-counts
-taken c = c.before.before.before
+abbrev taken : tie.After-measure_file-m → tie.In-Accepted-2
+taken c = c.before.before
 
 -- the check accepts
-abbrev accepts : (c : tie.After-counts) → Accepts (start c).args.file.now
-accepts c = record { counts = _; answer = sym c.before.before.check.ensures.is ∙ c.counts.given.1 }
+abbrev accepts : (c : tie.In-Accepted-2) → Accepts (start c).args.file.now
+accepts c = record { counts-1 = _; answer = sym c.check.ensures.is ∙ c.counts-1.given.1 }
 
 -- what is measured
-found : (c : tie.After-measure-file)
-    → FoundOf (start (taken c)).args.file.now (accepts (taken c)).counts
-    c.measure-file.result.bytes c.measure-file.result.unlisted
+found : (c : tie.After-measure_file-m)
+    → FoundOf (start (taken c)).args.file.now (accepts (taken c)).counts-1
+    c.measure_file-m.result.bytes c.measure_file-m.result.unlisted
 found c =
     let a = accepts (taken c) in
     record {
       accepted = a.answer;
-      bytes = ap (λ (m : Measure). m.bytes) c.measure-file.ensures.0;
-      unlisted = ap (λ (m : Measure). m.unlisted) c.measure-file.ensures.0;
+      bytes = ap (λ (m : Measure). m.bytes) c.measure_file-m.ensures.0;
+      unlisted = ap (λ (m : Measure). m.unlisted) c.measure_file-m.ensures.0;
     }
 
 -- whether it can be turned
-turns : (c : tie.After-is-unturnable)
+turns : (c : tie.After-is_unturnable)
     → let f = (start (taken (measured c))).args.file.now in
-    c.is-unturnable.result ≡ is_msb f && ltb (measured c).measure-file.result.unlisted (length f)
+    c.is_unturnable.result ≡ is_msb f && ltb (measured c).measure_file-m.result.unlisted (length f)
 turns c =
     let f = (start (taken (measured c))).args.file.now in
-    c.is-unturnable.ensures
-    ∙ ap (λ (o : Bool). o && ltb (measured c).measure-file.result.unlisted (length f))
-    c.before.before.is-msb.ensures
+    c.is_unturnable.ensures
+    ∙ ap (λ (o : Bool). o && ltb (measured c).measure_file-m.result.unlisted (length f))
+    c.is_msb.ensures
 
-returns : tie.Need-returns
+returns : tie.Need-returns-then-is_unturnable
 returns c =
-    rw c.refuse2.ensures
+    rw c.refuse-then-is_unturnable.ensures
     (found_unturnable _ _ _ _ _ (found c.before.before.before.before.before)
-    (sym (turns c.before.before) ∙ c.before.if1.true))
+    (sym (turns c.before.before) ∙ c.if-is_unturnable.true))
 
-returns-2 : tie.Need-returns-2
+returns-2 : tie.Need-returns-then-m-gt-LIMIT
 returns-2 c =
     let turnable = c.before.before.before in
     let u = turnable.before in
-    rw c.refuse3.ensures
-    (found-over _ _ _ _ _ (found (measured u)) (sym (turns u) ∙ turnable.if1.false) c.before.if2.true)
+    rw c.refuse-then-m-gt-LIMIT.ensures
+    (found-over _ _ _ _ _ (found (measured u)) (sym (turns u) ∙ turnable.if-is_unturnable.false) c.if-m-gt-LIMIT.true)
 
-returns-3 : tie.Need-returns-3
+returns-3 : tie.Need-returns-then-out-m
 returns-3 c =
     let small = c.before.before.before in
     let turnable = small.before.before in
     let u = turnable.before in
-    rw c.refuse4.ensures
-    (found_no_room _ _ _ _ _ (found (measured u)) (sym (turns u) ∙ turnable.if1.false) small.if2.false c.before.if3.true)
+    rw c.refuse-then-out-m.ensures
+    (found_no_room _ _ _ _ _ (found (measured u)) (sym (turns u) ∙ turnable.if-is_unturnable.false) small.if-m-gt-LIMIT.false c.if-out-m.true)
 
-write-normal-requires : tie.Need-write-normal-requires
+write-normal-requires : tie.Need-write_normal-requires
 write-normal-requires c κs =
     let fits = c.before.before in
     let small = fits.before.before in
     let turnable = small.before.before in
     let u = turnable.before in
     let s = start (taken (measured u)) in (
-      found_writable _ s.args.out.now _ _ _ (found (measured u)) (sym (turns u) ∙ turnable.if1.false) fits.if3.false,
-      (measured u).measure-file.ensures.1,
+      found_writable _ s.args.out.now _ _ _ (found (measured u)) (sym (turns u) ∙ turnable.if-is_unturnable.false) fits.if-out-m.false,
+      (measured u).measure_file-m.ensures.1,
     )
 
-returns-4 : tie.Need-returns-4
+returns-4 : tie.Need-returns-in-Refused
 returns-4 c =
     rw c.refuse.ensures (refused_of _ _ _ _
-    (sym c.before.before.code.given.1 ∙ c.before.before.before.before.check.ensures.is))
+    (sym c.in-Refused.is ∙ c.check.ensures.is))
 
-returns-5 : tie.Need-returns-5
+returns-5 : tie.Need-returns-else-out-m
 returns-5 c =
     let written = c.before.before in
     let fits = written.before.before.before in
     let small = fits.before.before in
     let turnable = small.before.before in
     let u = turnable.before in
-    found-written _ _ _ _ _ (found (measured u)) (sym (turns u) ∙ turnable.if1.false) small.if2.false fits.if3.false _
-    written.write-normal.ensures
+    found-written _ _ _ _ _ (found (measured u)) (sym (turns u) ∙ turnable.if-is_unturnable.false) small.if-m-gt-LIMIT.false fits.if-out-m.false _
+    written.write_normal.ensures
 
-pub normalise-spec : {M : Type 1} → statement M
-normalise-spec =
+pub normalise_spec : {M : Type 1} → statement M
+normalise_spec =
     tie.close
     (tie.spec
     (λ c κs. search rules)
     (λ c. search rules)
     (λ c κs. search rules)
     (λ c. search rules)
-    (λ c κs. (accepts c.before.before, refl))
+    (λ c κs. (accepts c.before, refl))
     (λ c κs. accepted_4 _ (accepts (taken c)))
     (λ c κs. search rules)
     (λ c κs. search rules)

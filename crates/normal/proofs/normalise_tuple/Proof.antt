@@ -16,61 +16,61 @@ use Rattle.normal.proofs.normalise_tuple.Statement.{statement}
 use Rattle.normal.proofs.normalise_tuple.Tie as tie
 
 -- places, named by what has been done there
-abbrev start : tie.Else2 → tie.Start
+abbrev start : tie.Else-not-is_marked → tie.Start
 start c = c.before.before.before.before.before
 
-marks : (c : tie.Else2) → marked (start c).args.file.now ≡ true
-marks c = sym c.before.is-marked.ensures ∙ not-false _ c.if2.false
+marks : (c : tie.Else-not-is_marked) → marked (start c).args.file.now ≡ true
+marks c = sym c.is_marked.ensures ∙ not-false _ c.if-not-is_marked.false
 
 -- what the rules say that it keeps alone
-said : (c : tie.After-judge-alone) → let f = (start c.before.before).args.file.now in
-    alone (is_msb f) (drop 4 f) ≡ c.judge-alone.result
+said : (c : tie.After-judge_alone) → let f = (start c.before.before).args.file.now in
+    alone (is_msb f) (drop 4 f) ≡ c.judge_alone.result
 said c =
     let f = (start c.before.before).args.file.now in
-    sym (c.judge-alone.ensures ∙ ap (λ (o : Bool). alone o (drop 4 f)) c.before.is-msb.ensures)
+    sym (c.judge_alone.ensures ∙ ap (λ (o : Bool). alone o (drop 4 f)) c.is_msb.ensures)
 
-returns : tie.Need-returns
-returns c = rw c.refuse.ensures (single_limit _ _ c.before.if1.true)
+returns : tie.Need-returns-then-file-gt-LIMIT
+returns c = rw c.refuse.ensures (single_limit _ _ c.if-file-gt-LIMIT.true)
 
-returns-2 : tie.Need-returns-2
+returns-2 : tie.Need-returns-then-not-is_marked
 returns-2 c =
-    rw c.refuse2.ensures
-    (single_mark _ _ c.before.before.before.if1.false
-    (sym c.before.before.is-marked.ensures ∙ not-true _ c.before.if2.true))
+    rw c.refuse-then-not-is_marked.ensures
+    (single_mark _ _ c.if-file-gt-LIMIT.false
+    (sym c.is_marked.ensures ∙ not-true _ c.if-not-is_marked.true))
 
-add-refuse : tie.Need-overflow-add-refuse
+add-refuse : tie.Need-overflow_add-offset
 add-refuse c =
-    let j = c.before.before.before in
-    let z = near_fault far (alone-near _ _) (said j ∙ c.before.code.given.1) in
+    let j = c.before in
+    let z = near_fault far (alone-near _ _) (said j ∙ c.in-Fault.is) in
     search rules
 
-turn-tuple-requires : tie.Need-turn-tuple-requires
+turn-tuple-requires : tie.Need-turn_tuple-requires
 turn-tuple-requires c κs =
-    let j = c.before.before.before in
+    let j = c.before.before in
     let f = (start j.before.before).args.file.now in
-    let fine = said j ∙ c.before.enum_told.given.1 in
+    let fine = said j ∙ c.in-Fine.is in
     record {
       within = marked_4 _ (marks j.before.before);
       here = record { framed = alone-framed (is_msb f) (drop 4 f) fine; size = refl; kind = refl };
       own = alone-own (is_msb f) (drop 4 f) fine;
     }
 
-returns-3 : tie.Need-returns-3
+returns-3 : tie.Need-returns-in-Fault
 returns-3 c =
-    let j = c.before.before.before.before in
-    rw c.refuse3.ensures
-    (single_fault _ _ j.before.before.before.before.if1.false (marks j.before.before) _ _
-    (said j ∙ c.before.before.code.given.1))
+    let j = c.before.before in
+    rw c.refuse-in-Fault.ensures
+    (single_fault _ _ j.if-file-gt-LIMIT.false (marks j.before.before) _ _
+    (said j ∙ c.in-Fault.is))
 
-returns-4 : tie.Need-returns-4
+returns-4 : tie.Need-returns-in-Fine
 returns-4 c =
     let told = c.before.before.before.before in
-    let j = told.before.before in
-    single_fine _ _ j.before.before.before.before.if1.false (marks j.before.before)
-    (said j ∙ told.enum_told.given.1) _ _ c.before.before.turn-tuple.ensures
+    let j = told.before in
+    single_fine _ _ j.if-file-gt-LIMIT.false (marks j.before.before)
+    (said j ∙ told.in-Fine.is) _ _ c.turn_tuple.ensures
 
-pub normalise-tuple-spec : {M : Type 1} → statement M
-normalise-tuple-spec =
+pub normalise_tuple_spec : {M : Type 1} → statement M
+normalise_tuple_spec =
     tie.close
     (tie.spec
     (λ c κs. search rules)

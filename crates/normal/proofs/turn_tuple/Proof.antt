@@ -20,54 +20,54 @@ there : (s : tie.Start) → let f = s.args.file.now in Whole (is_msb f) f 4 (len
 there s = framing-whole _ _ _ s.requires.here.framed
 
 -- its order, length and type code are read
-sound : (c : tie.After-kind-at)
-    → SoundHere c.before.before.is-msb.result c.before.before.before.before.before.args.file.now 4
-    c.before.length_at.result c.kind_at.result
+sound : (c : tie.After-kind_at-code)
+    → SoundHere c.is_msb-msb.result c.args.file.now 4
+    c.length_at-whole.result c.kind_at-code.result
 sound c =
-    rw (c.kind_at.ensures, c.before.length_at.ensures, c.before.before.is-msb.ensures)
-    c.before.before.before.before.before.requires
+    rw (c.kind_at-code.ensures, c.length_at-whole.ensures, c.is_msb-msb.ensures)
+    c.requires
 
-turns : (c : tie.After-is-unturnable) → let k = c.before.before.before in
-    c.is-unturnable.result ≡ k.before.before.is-msb.result && is_unlisted (shape_of k.kind_at.result)
+turns : (c : tie.After-is_unturnable) → let k = c.before.before.before in
+    c.is_unturnable.result ≡ k.is_msb-msb.result && is_unlisted (shape_of k.kind_at-code.result)
 turns c =
-    c.is-unturnable.ensures
-    ∙ ap (λ (b : Bool). c.before.before.before.before.before.is-msb.result && b) c.before.is-unlisted.ensures
+    c.is_unturnable.ensures
+    ∙ ap (λ (b : Bool). c.is_msb-msb.result && b) c.is_unlisted.ensures
 
-returns : tie.Need-returns
+returns : tie.Need-returns-then-end-file
 returns c =
     let k = c.before.before in
-    rw c.refuse.ensures (single_behind _ _ _ _ _ k.before.before.is-msb.ensures k.before.length_at.ensures
-    k.kind_at.ensures c.before.if1.true)
+    rw c.refuse.ensures (single_behind _ _ _ _ _ k.is_msb-msb.ensures k.length_at-whole.ensures
+    k.kind_at-code.ensures c.if-end-file.true)
 
-returns-2 : tie.Need-returns-2
+returns-2 : tie.Need-returns-then-is_unturnable
 returns-2 c =
     let u = c.before.before in
     let k = u.before.before.before in
-    rw c.refuse2.ensures
-    (single_unturnable _ _ _ _ _ k.before.before.is-msb.ensures k.before.length_at.ensures k.kind_at.ensures
-    u.before.before.if1.false (sym (turns u) ∙ c.before.if2.true))
+    rw c.refuse-then-is_unturnable.ensures
+    (single_unturnable _ _ _ _ _ k.is_msb-msb.ensures k.length_at-whole.ensures k.kind_at-code.ensures
+    u.if-end-file.false (sym (turns u) ∙ c.if-is_unturnable.true))
 
-returns-3 : tie.Need-returns-3
+returns-3 : tie.Need-returns-then-out-bytes
 returns-3 c =
     let measured = c.before.before.before in
     let u = measured.before.before in
     let k = u.before.before.before in
-    rw c.refuse3.ensures
-    (single_no_room _ _ _ _ _ k.before.before.is-msb.ensures k.before.length_at.ensures k.kind_at.ensures
-    u.before.before.if1.false (sym (turns u) ∙ measured.before.if2.false) _
-    measured.measure-form.ensures.bytes c.before.if3.true)
+    rw c.refuse-then-out-bytes.ensures
+    (single_no_room _ _ _ _ _ k.is_msb-msb.ensures k.length_at-whole.ensures k.kind_at-code.ensures
+    u.if-end-file.false (sym (turns u) ∙ measured.if-is_unturnable.false) _
+    measured.measure_form-form.ensures.bytes c.if-out-bytes.true)
 
-write-form-requires : tie.Need-write-form-requires
+write-form-requires : tie.Need-write_form-requires
 write-form-requires c κs =
     let stored = c.before.before.before in
     let fits = stored.before.before in
     let measured = fits.before.before in
     let u = measured.before.before in (
       sound u.before.before.before,
-      omega (arith, measured.measure-form.ensures.bytes, fits.if3.false, stored.store4.auto.0),
+      omega (arith, measured.measure_form-form.ensures.bytes, fits.if-out-bytes.false, stored.store4.auto.0),
     )
 
-returns-4 : tie.Need-returns-4
+returns-4 : tie.Need-returns
 unfolding mark
 returns-4 c =
     let written = c.before.before.before in
@@ -78,12 +78,12 @@ returns-4 c =
     let k = u.before.before.before in
     let start = k.before.before.before.before.before in
     rw c.accept.ensures
-    (single_written _ start.args.out.now _ _ _ k.before.before.is-msb.ensures k.before.length_at.ensures
-    k.kind_at.ensures u.before.before.if1.false (sym (turns u) ∙ measured.before.if2.false) _
-    measured.measure-form.ensures.bytes fits.if3.false _ _ stored.store4.ensures written.write-form.ensures.1)
+    (single_written _ start.args.out.now _ _ _ k.is_msb-msb.ensures k.length_at-whole.ensures
+    k.kind_at-code.ensures u.if-end-file.false (sym (turns u) ∙ measured.if-is_unturnable.false) _
+    measured.measure_form-form.ensures.bytes fits.if-out-bytes.false _ _ stored.store4.ensures written.write_form.ensures.1)
 
-pub turn-tuple-spec : {M : Type 1} → statement M
-turn-tuple-spec =
+pub turn_tuple_spec : {M : Type 1} → statement M
+turn_tuple_spec =
     tie.close
     (tie.spec
     (λ c κs. omega (arith, (there c.before.before).fits))
@@ -97,7 +97,7 @@ turn-tuple-spec =
     (λ c κs. search rules)
     returns-2
     (λ c κs. sound c.before.before.before.before)
-    (λ c. let m = c.before in omega (arith, m.measure-form.ensures.twice, (most (sound m.before.before.before.before.before)).1))
+    (λ c. let m = c.before in omega (arith, m.measure_form-form.ensures.twice, (most (sound m.before.before.before.before.before)).1))
     (λ c κs. search rules)
     returns-3
     (λ c κs. search rules)

@@ -4,7 +4,11 @@ use Rattle.ping_forms.proofs.close_form.Statement.{statement}
 use Rattle.ping_forms.proofs.close_form.Tie as tie
 
 returns : tie.Need-returns
-returns c = let tail = c.before.before in rw (tail.close-frame.ensures, tail.before.read4.ensures)
+returns c = let tail = c.before.before in rw (tail.close_frame.ensures, tail.read4.ensures)
 
-pub close-form-spec : {M : Type 1} → statement M
-close-form-spec = tie.close (tie.spec (λ c κs. search rules) (λ c κs. search rules) (λ c. search rules) returns)
+pub close_form_spec : {M : Type 1} → statement M
+close_form_spec = tie.close (tie.spec
+    (λ c κs. search rules)
+    (λ c κs. search rules)
+    (λ c. search rules)
+    returns)

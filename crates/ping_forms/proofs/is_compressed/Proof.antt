@@ -12,12 +12,12 @@ use Rattle.ping_forms.proofs.is_compressed.Tie as tie
 arm : {k n : ℕ} → k ≡ n → has_words (shape_of n) ≡ true → true ≡ has_words (shape_of k)
 arm e h = sym h ∙ sym (ap (λ (i : ℕ). has_words (shape_of i)) e)
 
-pub is-compressed-spec : {M : Type 1} → statement M
+pub is_compressed_spec : {M : Type 1} → statement M
 unfolding listing_of among listings
-is-compressed-spec =
+is_compressed_spec =
     tie.close
     (tie.spec
-    (λ c. arm c.match.keys1 refl)
-    (λ c. arm c.match.keys2 refl)
-    (λ c. arm c.match.keys3 refl)
-    (λ c. sym (no_words c.before.args.code c.match.rest)))
+    (λ c. arm c.in-10010.is refl)
+    (λ c. arm c.in-10040.is refl)
+    (λ c. arm c.in-10050.is refl)
+    (λ c. sym (no_words c.args.code c.in_default.in_default-own.rest)))

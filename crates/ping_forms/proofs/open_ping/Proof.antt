@@ -9,9 +9,9 @@ use Rattle.ping_forms.proofs.Turned.{header-fields, header-stored}
 use Rattle.ping_forms.proofs.open_ping.Statement.{statement}
 use Rattle.ping_forms.proofs.open_ping.Tie as tie
 
-turn-row-requires : tie.Need-turn-row-requires
+turn-row-requires : tie.Need-turn_row-requires
 turn-row-requires c κs =
-    let e = ap size (header-fields c.before.before.before.row.ensures) in
+    let e = ap size (header-fields c.row.ensures) in
     (omega (arith, e), omega (arith, e))
 
 returns : tie.Need-returns
@@ -19,12 +19,12 @@ returns c =
     let fields = c.before.before in
     let row = fields.before.before.before.before in
     let front = row.before.before.before in
-    let a = front.before.before.before.before.args in
-    header-stored row.row.ensures a.msb (drop (a.at + 6) a.file.now) a.out.now _ a.to a.bytes a.code
-    (rw (fields.turn-row.ensures, front.open-frame.ensures))
+    let a = front.args in
+    header-stored row.row.ensures a.msb (drop (a.at + 6) a.file.now) a.out-1.now _ a.to a.bytes a.code
+    (rw (fields.turn_row.ensures, front.open_frame.ensures))
 
-pub open-ping-spec : {M : Type 1} → statement M
-open-ping-spec =
+pub open_ping_spec : {M : Type 1} → statement M
+open_ping_spec =
     tie.close
     (tie.spec
     (λ c κs. search rules)

@@ -12,24 +12,24 @@ use Rattle.ping_writers.proofs.Plain.{Ready, refused_a, ready_a, written_a}
 use Rattle.ping_writers.proofs.write_u16_angles.Statement.{statement}
 use Rattle.ping_writers.proofs.write_u16_angles.Tie as tie
 
-returns : tie.Need-returns
+returns : tie.Need-returns-in_default
 returns c =
-    let judged = c.before.before in
+    let judged = c.before in
     let first = judged.before in
     let least = first.before in
     let inner = least.before in
     let same = inner.before in
     let start = same.before.before.before in
     let a = start.args in
-    refused_a narrow_angles a.numbers.now a.alongship.now a.athwartship.now a.out.now
-    _ same.same.ensures _ _ _ inner.smaller.ensures least.smaller2.ensures
-    first.first-drop.ensures _ judged.judge-plain.ensures a.msb a.header a.attribute c.enum_told.given.1
+    refused_a narrow_angles a.numbers.now a.alongship.now a.athwartship.now a.out-1.now
+    _ same.same-equal.ensures _ _ _ inner.smaller.ensures least.smaller-least.ensures
+    first.first_drop-first.ensures _ judged.judge_plain-judged.ensures a.msb a.header a.attribute c.in_default.is
 
 -- what is known where the lists are sound
-ready : (c : tie.After-judged) → let a = c.before.before.before.before.before.before.before.before.before.args in
+ready : (c : tie.In-Accepted-2) → let a = c.args in
     (length a.alongship.now ≡ length a.numbers.now) × (length a.athwartship.now ≡ length a.numbers.now)
-    × Ready (length a.numbers.now) 6 (length a.out.now)
-    c.judged.given.0.0
+    × Ready (length a.numbers.now) 6 (length a.out-1.now)
+    c.judged-1.given.0.0
 ready c =
     let judged = c.before.before in
     let first = judged.before in
@@ -38,63 +38,63 @@ ready c =
     let same = inner.before in
     let start = same.before.before.before in
     let a = start.args in
-    ready_a narrow_angles a.numbers.now a.alongship.now a.athwartship.now a.out.now
-    _ same.same.ensures _ _ _ inner.smaller.ensures least.smaller2.ensures
-    first.first-drop.ensures _ judged.judge-plain.ensures c.judged.given.1
+    ready_a narrow_angles a.numbers.now a.alongship.now a.athwartship.now a.out-1.now
+    _ same.same-equal.ensures _ _ _ inner.smaller.ensures least.smaller-least.ensures
+    first.first_drop-first.ensures _ judged.judge_plain-judged.ensures c.judged-1.given.1
 
-write-opening-requires : tie.Need-write-opening-requires
+write-opening-requires : tie.Need-write_opening-requires
 write-opening-requires c κs =
-    let r = ready c.before.before in
+    let r = ready c.before in
     (omega (arith, r.2.few, r.2.whole, r.2.fits), (omega (arith, r.2.few, r.2.whole), omega (arith, r.2.few, r.2.whole)))
 
-write-narrow-angles-requires : tie.Need-write-narrow-angles-requires
+write-narrow-angles-requires : tie.Need-write_narrow_angles-requires
 write-narrow-angles-requires c κs =
-    let r = ready c.before.before.before.before.before.before in
+    let r = ready c.before.before.before.before.before in
     (r.0, (r.1, omega (arith, r.2.whole, r.2.fits)))
 
-mul-write-closing : tie.Need-overflow-mul-write-closing
+mul-write-closing : tie.Need-overflow_mul-n
 mul-write-closing c =
-    let r = ready c.before.before.before.before.before.before.before.before.before.before in
+    let r = ready c.before.before.before.before.before.before.before.before.before in
     omega (arith, r.2.few)
 
-add-write-closing : tie.Need-overflow-add-write-closing
+add-write-closing : tie.Need-overflow_add-n
 add-write-closing c =
-    let r = ready c.before.before.before.before.before.before.before.before.before.before in
+    let r = ready c.before.before.before.before.before.before.before.before.before in
     omega (arith, r.2.few)
 
-write-closing-requires : tie.Need-write-closing-requires
+write-closing-requires : tie.Need-write_closing-requires
 write-closing-requires c κs =
-    let r = ready c.before.before.before.before.before.before.before.before.before.before in (
+    let r = ready c.before.before.before.before.before.before.before.before.before in (
       (omega (arith, r.2.whole), omega (arith, r.2.whole), omega (arith, r.2.whole)),
       (omega (arith, r.2.fits), omega (arith, r.2.few, r.2.whole)),
     )
 
-returns-2 : tie.Need-returns-2
+returns-2 : tie.Need-returns
 returns-2 c =
     let close = c.before.before in
     let samples = close.before.before.before.before in
     let opening = samples.before.before.before.before in
-    let sound = opening.before.before.before in
-    let judged = sound.before.before in
+    let sound = opening.before.before in
+    let judged = sound.before in
     let first = judged.before in
     let least = first.before in
     let inner = least.before in
     let same = inner.before in
     let start = same.before.before.before in
     let a = start.args in
-    written_a narrow_angles a.numbers.now a.alongship.now a.athwartship.now a.out.now
-    _ same.same.ensures _ _ _ inner.smaller.ensures least.smaller2.ensures
-    first.first-drop.ensures _ (sym sound.judged.given.1 ∙ judged.judge-plain.ensures) a.msb a.header a.attribute
+    written_a narrow_angles a.numbers.now a.alongship.now a.athwartship.now a.out-1.now
+    _ same.same-equal.ensures _ _ _ inner.smaller.ensures least.smaller-least.ensures
+    first.first_drop-first.ensures _ (sym sound.in-Accepted.is ∙ judged.judge_plain-judged.ensures) a.msb a.header a.attribute
     (24 + 6 * length a.numbers.now) _ refl (omega arith)
     (rw (
-      close.write-closing.ensures,
-      samples.write-narrow-angles.ensures,
-      opening.write-opening.ensures,
+      close.write_closing.ensures,
+      samples.write_narrow_angles.ensures,
+      opening.write_opening.ensures,
       to_z-of_z {w = w32} {z = a.attribute} start.ranges.attribute,
     ))
 
-pub write-u16-angles-spec : {M : Type 1} → statement M
-write-u16-angles-spec =
+pub write_u16_angles_spec : {M : Type 1} → statement M
+write_u16_angles_spec =
     tie.close
     (tie.spec
     (λ c κs. search rules)

@@ -7,62 +7,62 @@ use Rattle.pings.proofs.Handing.{lacking-numbers, lacking-alongship, lacking-ath
 use Rattle.pings.proofs.hand_angles.Statement.{statement}
 use Rattle.pings.proofs.hand_angles.Tie as tie
 
-abbrev start : tie.After-count-values → tie.Start
+abbrev start : tie.After-count_values-n → tie.Start
 start n = n.before.before.before
 
-returns : tie.Need-returns
+returns : tie.Need-returns-then-numbers-n
 returns c =
     let n = c.before.before in
     let a = (start n).args in
     rw c.refuse.ensures
-    (lacking-numbers _ a.numbers.now a.alongship.now a.athwartship.now
-    (rw (← n.count-values.ensures) c.before.if1.true))
+    (lacking-numbers _ a.numbers-1.now a.alongship-1.now a.athwartship-1.now
+    (rw (← n.count_values-n.ensures) c.if-numbers-n.true))
 
-returns-2 : tie.Need-returns-2
+returns-2 : tie.Need-returns-then-alongship-n
 returns-2 c =
     let n = c.before.before.before in
     let a = (start n).args in
-    rw c.refuse2.ensures
-    (lacking-alongship _ a.numbers.now a.alongship.now a.athwartship.now
-    (rw (← n.count-values.ensures) c.before.if2.true))
+    rw c.refuse-then-alongship-n.ensures
+    (lacking-alongship _ a.numbers-1.now a.alongship-1.now a.athwartship-1.now
+    (rw (← n.count_values-n.ensures) c.if-alongship-n.true))
 
-returns-3 : tie.Need-returns-3
+returns-3 : tie.Need-returns-then-athwartship-n
 returns-3 c =
     let n = c.before.before.before.before in
     let a = (start n).args in
-    rw c.refuse3.ensures
-    (lacking-athwartship _ a.numbers.now a.alongship.now a.athwartship.now
-    (rw (← n.count-values.ensures) c.before.if3.true))
+    rw c.refuse-then-athwartship-n.ensures
+    (lacking-athwartship _ a.numbers-1.now a.alongship-1.now a.athwartship-1.now
+    (rw (← n.count_values-n.ensures) c.if-athwartship-n.true))
 
 -- no slice is short
-room : (c : tie.Else3) → let a = (start c.before.before.before).args in
-    AngleRoom (part_samples (shape_of a.code) a.msb a.part.now) a.numbers.now a.alongship.now a.athwartship.now
+room : (c : tie.Else-athwartship-n) → let a = (start c.before.before.before).args in
+    AngleRoom (part_samples (shape_of a.code) a.msb a.part.now) a.numbers-1.now a.alongship-1.now a.athwartship-1.now
 room c =
     let n = c.before.before.before in
     record {
-      for_numbers = rw (← n.count-values.ensures) c.before.before.if1.false;
-      for_alongship = rw (← n.count-values.ensures) c.before.if2.false;
-      for_athwartship = rw (← n.count-values.ensures) c.if3.false;
+      for_numbers = rw (← n.count_values-n.ensures) c.if-numbers-n.false;
+      for_alongship = rw (← n.count_values-n.ensures) c.if-alongship-n.false;
+      for_athwartship = rw (← n.count_values-n.ensures) c.if-athwartship-n.false;
     }
 
-take-angles-requires : tie.Need-take-angles-requires
+take-angles-requires : tie.Need-take_angles-requires
 take-angles-requires c κs =
     let k = c.before.before.before in
     let s = start k.before.before.before in
-    (s.pre.1, room k)
+    (s.requires.1, room k)
 
-returns-4 : tie.Need-returns-4
+returns-4 : tie.Need-returns
 returns-4 c =
     let r = c.before.before.before.before.before in
     let k = r.before.before.before.before in
     let n = k.before.before.before in
     let a = (start n).args in
-    let e = r.take-angles.ensures in
-    rw (c.accept.ensures, n.count-values.ensures)
-    (handed-angles _ a.numbers.now a.alongship.now a.athwartship.now (room k) e.0 e.1.0 e.1.1)
+    let e = r.take_angles.ensures in
+    rw (c.accept.ensures, n.count_values-n.ensures)
+    (handed-angles _ a.numbers-1.now a.alongship-1.now a.athwartship-1.now (room k) e.0 e.1.0 e.1.1)
 
-pub hand-angles-spec : {M : Type 1} → statement M
-hand-angles-spec =
+pub hand_angles_spec : {M : Type 1} → statement M
+hand_angles_spec =
     tie.close
     (tie.spec
     (λ c κs. search rules)

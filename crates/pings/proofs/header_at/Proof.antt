@@ -12,20 +12,20 @@ use Rattle.pings.proofs.header_at.Tie as tie
 returns : tie.Need-returns
 returns c =
     let fraction = c.before.before.before.before.before in
-    let a = fraction.before.before.args in
+    let a = fraction.args in
     (λ i. record {
       time_fraction = fraction.read2.ensures i;
-      time_cpu = c.before.before.before.before.read4.ensures i;
-      software_channel_identifier = record { 0 = c.before.before.before.read22.ensures i };
-      transmitter_mode = c.before.before.read23.ensures i;
-      ping_number = c.before.read42.ensures i;
+      time_cpu = c.read4.ensures i;
+      software_channel_identifier = record { 0 = c.read2-2.ensures i };
+      transmitter_mode = c.read2-3.ensures i;
+      ping_number = c.read4-2.ensures i;
       detected_bottom_range =
-          (to_z-of_z {w = w32} {z = c.signed4-at.result} (record { sfits = c.signed4-at.type-inv }) ∙ c.signed4-at.ensures) i;
+          (to_z-of_z {w = w32} {z = c.signed4_at.result} (record { sfits = c.signed4_at.type-inv }) ∙ c.signed4_at.ensures) i;
     })
     ∙ ap header_of (sym (values-at a.msb ping_row a.file.now a.place 6))
 
-pub header-at-spec : {M : Type 1} → statement M
-header-at-spec =
+pub header_at_spec : {M : Type 1} → statement M
+header_at_spec =
     tie.close
     (tie.spec
     (λ c. search rules)

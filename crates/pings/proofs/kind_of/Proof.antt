@@ -13,17 +13,17 @@ use Rattle.pings.proofs.kind_of.Tie as tie
 arm : {k n : ℕ} → k ≡ n → kind_of_ping n ≡ kind_of_ping k
 arm e = ap kind_of_ping (sym e)
 
-pub kind-of-spec : {M : Type 1} → statement M
+pub kind_of_spec : {M : Type 1} → statement M
 unfolding listing_of among listings is_ping
-kind-of-spec =
+kind_of_spec =
     tie.close
     (tie.spec
-    (λ c. arm c.match.keys1)
-    (λ c. arm c.match.keys2)
-    (λ c. arm c.match.keys3)
-    (λ c. arm c.match.keys4)
-    (λ c. arm c.match.keys5)
-    (λ c. arm c.match.keys6)
+    (λ c. arm c.in-10000.is)
+    (λ c. arm c.in-10010.is)
+    (λ c. arm c.in-10001.is)
+    (λ c. arm c.in-10030.is)
+    (λ c. arm c.in-10031.is)
+    (λ c. arm c.in-10040.is)
     (λ c.
     let s = c.before in
     let others = 10040 ∷ 10031 ∷ 10030 ∷ 10001 ∷ 10010 ∷ 10000 ∷ [] in

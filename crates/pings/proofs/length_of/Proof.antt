@@ -7,21 +7,21 @@ use Rattle.pings.proofs.Parts.{wide-words, told-run, told-value}
 use Rattle.pings.proofs.length_of.Statement.{statement}
 use Rattle.pings.proofs.length_of.Tie as tie
 
-returns : tie.Need-returns
+returns : tie.Need-returns-then-ends_in_run
 returns c =
     let ends = c.before.before in
-    let a = ends.before.before.before.args in
-    told-run radix (sym (wide-words a.msb a.part.now)) c.count-samples.ensures
-    (sym ends.ends-in-run.ensures ∙ c.before.if1.true)
+    let a = ends.args in
+    told-run radix (sym (wide-words a.msb a.part.now)) c.count_samples.ensures
+    (sym ends.ends_in_run.ensures ∙ c.if-ends_in_run.true)
 
-returns-2 : tie.Need-returns-2
+returns-2 : tie.Need-returns
 returns-2 c =
     let ends = c.before in
-    let a = ends.before.before.before.args in
-    told-value radix (sym (wide-words a.msb a.part.now)) (sym ends.ends-in-run.ensures ∙ c.if1.false)
+    let a = ends.args in
+    told-value radix (sym (wide-words a.msb a.part.now)) (sym ends.ends_in_run.ensures ∙ c.if-ends_in_run.false)
 
-pub length-of-spec : {M : Type 1} → statement M
-length-of-spec =
+pub length_of_spec : {M : Type 1} → statement M
+length_of_spec =
     tie.close
     (tie.spec
     (λ c. search rules)

@@ -14,47 +14,47 @@ use Rattle.pings.proofs.read_angles.Statement.{statement}
 use Rattle.pings.proofs.read_angles.Tie as tie
 
 -- the ping that was opened: a listed one, long enough for a sample, in the file
-opened : (m : tie.After-msb) → let a = m.before.before.before.before.before.args in
-    Readable is_angled a.file.now a.place m.msb.given.0.0 m.msb.given.0.1.0 m.msb.given.0.1.1.0
-opened m = rw m.msb.given.1 at m.before.before.open-angled.ensures
+opened : (m : tie.In-Tuple-2) → let a = m.args in
+    Readable is_angled a.file.now a.place m.msb-1.given.0.0 m.msb-1.given.0.1.0 m.msb-1.given.0.1.1.0
+opened m = rw m.msb-1.given.1 at m.open_angled.ensures
 
-listed : (m : tie.After-msb) → is_ping m.msb.given.0.1.1.0 ≡ true
+listed : (m : tie.In-Tuple-2) → is_ping m.msb-1.given.0.1.1.0 ≡ true
 listed m = holder_ping 2 _ (opened m).asks
 
-room : (m : tie.After-msb) → let a = m.before.before.before.before.before.args in
-    (36 ≤ m.msb.given.0.1.0) × (m.msb.given.0.1.0 ≤ 262144) × (a.place + m.msb.given.0.1.0 ≤ length a.file.now)
+room : (m : tie.In-Tuple-2) → let a = m.args in
+    (36 ≤ m.msb-1.given.0.1.0) × (m.msb-1.given.0.1.0 ≤ 262144) × (a.place + m.msb-1.given.0.1.0 ≤ length a.file.now)
 room m = whole-there (opened m) (listed m)
 
-hand-angles-requires : tie.Need-hand-angles-requires
-hand-angles-requires c κs = let m = c.before.before.before.before.before in (part_sound (opened m) (listed m), (opened m).asks)
+hand-angles-requires : tie.Need-hand_angles-requires
+hand-angles-requires c κs = let m = c.before.before.before.before in (part_sound (opened m) (listed m), (opened m).asks)
 
-returns : tie.Need-returns
+returns : tie.Need-returns-in-Refused
 returns c =
-    let d = c.before.before in
-    rw c.refuse.ensures (refused-angles _ _ _ _ _ (rw d.code.given.1 at d.before.before.open-angled.ensures))
+    let d = c.before in
+    rw c.refuse.ensures (refused-angles _ _ _ _ _ (rw d.in-Refused.is at d.open_angled.ensures))
 
-returns-2 : tie.Need-returns-2
+returns-2 : tie.Need-returns-in-Tuple
 returns-2 c =
     let r = c.before.before.before.before in
-    let m = r.before.before.before.before.before.before in
+    let m = r.before.before.before.before.before in
     let s = opened m in
     let l = listed m in
-    read-angles _ _ _ s.answer (samples-there s l) r.hand-angles.ensures
+    read-angles _ _ _ s.answer (samples-there s l) r.hand_angles.ensures
 
-pub read-angles-spec : {M : Type 1} → statement M
-read-angles-spec =
+pub read_angles_spec : {M : Type 1} → statement M
+read_angles_spec =
     tie.close
     (tie.spec
     (λ c κs. search rules)
     (λ c. search rules)
     (λ c κs. search rules)
     (λ c. search rules)
-    (λ c. let r = room c.before in omega arith)
-    (λ c. let r = room c.before in omega arith)
-    (λ c. let r = room c.before in omega arith)
-    (λ c. let r = room c.before in omega arith)
-    (λ c. let r = room c.before in omega arith)
-    (λ c. let r = room c.before in omega arith)
+    (λ c. let r = room c in omega arith)
+    (λ c. let r = room c in omega arith)
+    (λ c. let r = room c in omega arith)
+    (λ c. let r = room c in omega arith)
+    (λ c. let r = room c in omega arith)
+    (λ c. let r = room c in omega arith)
     hand-angles-requires
     returns
     (λ c. search rules)

@@ -8,20 +8,26 @@ use Rattle.pings.proofs.Fielding.{read-fields}
 use Rattle.pings.proofs.read_ping.Statement.{statement}
 use Rattle.pings.proofs.read_ping.Tie as tie
 
-fields-at-requires : tie.Need-fields-at-requires
-fields-at-requires c κs = rw c.before.msb.given.1 at c.before.before.before.open-ping.ensures
+fields-at-requires : tie.Need-fields_at-requires
+fields-at-requires c κs = rw c.in-Tuple.is at c.open_ping.ensures
 
-returns : tie.Need-returns
+returns : tie.Need-returns-in-Refused
 returns c =
-    let a = c.before.before.before.before.before.args in
-    let e = rw c.before.code.given.1 at c.before.before.before.open-ping.ensures in
+    let a = c.args in
+    let e = rw c.in-Refused.is at c.open_ping.ensures in
     record { answer = tells e; outcome = ap (λ (x : Answer). answered x (ping_fields a.file.now a.place)) e }
 
-returns-2 : tie.Need-returns-2
+returns-2 : tie.Need-returns-in-Tuple
 returns-2 c =
-    let r = rw c.before.before.msb.given.1 at c.before.before.before.before.open-ping.ensures in
+    let r = rw c.in-Tuple.is at c.open_ping.ensures in
     read-fields r c.fields_at.result c.fields_at.ensures
 
-pub read-ping-spec : {M : Type 1} → statement M
-read-ping-spec =
-    tie.close (tie.spec (λ c κs. search rules) (λ c. search rules) (λ c. search rules) fields-at-requires returns returns-2)
+pub read_ping_spec : {M : Type 1} → statement M
+read_ping_spec =
+    tie.close (tie.spec
+    (λ c κs. search rules)
+    (λ c. search rules)
+    (λ c. search rules)
+    fields-at-requires
+    returns
+    returns-2)

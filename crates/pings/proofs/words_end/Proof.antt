@@ -26,7 +26,7 @@ returns c =
       ap (λ (i : ℕ). all_words 2 a.msb (take i (drop 4 part))) z
           ∙ ap (all_words 2 a.msb) (sym (take-take h (length part - 4) (drop 4 part) (omega (arith, near.0, long))))
           ∙ c.held.ensures.0
-          ∙ ap (λ (i : ℕ). held_words narrow i words) r.read4.ensures,
+          ∙ ap (λ (i : ℕ). held_words narrow i words) r.read4-count.ensures,
       (
         omega (arith, near.1, long, s.requires.0),
         omega (arith, near.0, long, s.requires.0),
@@ -34,8 +34,8 @@ returns c =
       ),
     )
 
-pub words-end-spec : {M : Type 1} → statement M
-words-end-spec =
+pub words_end_spec : {M : Type 1} → statement M
+words_end_spec =
     tie.close
     (tie.spec
     (λ c κs. search rules)

@@ -6,14 +6,14 @@ use Rattle.quantities.proofs.Codes.{arm, left-wide}
 use Rattle.quantities.proofs.per_volt.Statement.{statement}
 use Rattle.quantities.proofs.per_volt.Tie as tie
 
-pub per-volt-spec : {M : Type 1} → statement M
+pub per_volt_spec : {M : Type 1} → statement M
 unfolding listing_of among listings
-per-volt-spec =
+per_volt_spec =
     tie.close
     (tie.spec
-    (λ c. arm per_volt c.match.keys1 refl)
-    (λ c. arm per_volt c.match.keys2 refl)
-    (λ c. arm per_volt c.match.keys3 refl)
-    (λ c. arm per_volt c.match.keys4 refl)
-    (λ c. arm per_volt c.match.keys5 refl)
-    (λ c. sym (ap per_volt (left-wide c.before.args.code c.match.rest))))
+    (λ c. arm per_volt c.in-10030.is refl)
+    (λ c. arm per_volt c.in-10040.is refl)
+    (λ c. arm per_volt c.in-10050.is refl)
+    (λ c. arm per_volt c.in-10001.is refl)
+    (λ c. arm per_volt c.in-10031.is refl)
+    (λ c. sym (ap per_volt (left-wide c.args.code c.in_default.in_default-own.rest))))

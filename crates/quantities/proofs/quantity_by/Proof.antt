@@ -24,16 +24,16 @@ rest-biosonics k n = rw (ne_eqb k 0 n.0.0.1, ne_eqb k 1 n.0.1, ne_eqb k 2 n.1)
 rest-simrad : (k : ℕ) → NoneOf (3 ∷ 2 ∷ []) k → quantity_by Simrad k ≡ Other
 rest-simrad k n = rw (ne_eqb k 2 n.0.1, ne_eqb k 3 n.1)
 
-pub quantity-by-spec : {M : Type 1} → statement M
-quantity-by-spec =
+pub quantity_by_spec : {M : Type 1} → statement M
+quantity_by_spec =
     tie.close
     (tie.spec
     (λ c. search rules)
     (λ c. search rules)
-    (λ c. arm c.before.enum_told.given.1 c.match2.keys1 refl)
-    (λ c. arm c.before.enum_told.given.1 c.match2.keys2 refl)
-    (λ c. arm c.before.enum_told.given.1 c.match2.keys3 refl)
-    (λ c. arm c.before.enum_told.given.1 refl (rest-biosonics _ c.match2.rest))
-    (λ c. arm c.before.enum-told2.given.1 c.match3.keys1 refl)
-    (λ c. arm c.before.enum-told2.given.1 c.match3.keys2 refl)
-    (λ c. arm c.before.enum-told2.given.1 refl (rest-simrad _ c.match3.rest)))
+    (λ c. arm c.in-Biosonics.is c.in-0.is refl)
+    (λ c. arm c.in-Biosonics.is c.in-1.is refl)
+    (λ c. arm c.in-Biosonics.is c.in-2.is refl)
+    (λ c. arm c.in-Biosonics.is refl (rest-biosonics _ c.in_default.in_default-own.rest))
+    (λ c. arm c.in-Simrad.is c.in-2-samples.is refl)
+    (λ c. arm c.in-Simrad.is c.in-3.is refl)
+    (λ c. arm c.in-Simrad.is refl (rest-simrad _ c.in_default-samples.in_default-samples-own.rest)))

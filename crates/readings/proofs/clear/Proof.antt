@@ -10,22 +10,22 @@ use Rattle.readings.proofs.Laying.{filled_next, filled-all}
 use Rattle.readings.proofs.clear.Statement.{statement}
 use Rattle.readings.proofs.clear.Tie as tie
 
-abbrev invariant-loop : tie.invariant-loop
+abbrev invariant-loop : tie.invariant-loop-i
 invariant-loop cases₀ doubles₀ i₀ cases doubles i =
     (i ≤ length cases₀) × (length cases ≡ length cases₀) × (length doubles ≡ length cases₀)
     × (take i cases ≡ take i (replicate (length cases₀) 0)) × (take i doubles ≡ take i (replicate (length cases₀) no_double))
 
-abbrev decreases-loop : tie.decreases-loop
+abbrev decreases-loop : tie.decreases-loop-i
 decreases-loop cases₀ doubles₀ i₀ cases doubles i = length cases₀ - i
 
-loop-holds : tie.Need-loop-init invariant-loop decreases-loop
+loop-holds : tie.Need-loop-i-init invariant-loop decreases-loop
 loop-holds c = (omega arith, refl, sym c.requires, refl, refl)
 
-loop-again : tie.Need-loop-preserved invariant-loop decreases-loop
+loop-again : tie.Need-loop-i-preserved invariant-loop decreases-loop
 loop-again c =
     let head = c.before in
-    let l = head.loop in
-    let n = length head.before.args.cases.now in
+    let l = head.loop-i in
+    let n = length head.args.cases.now in
     let h : l.i < n = omega arith in (
       omega arith,
       simp length-set l.invariant.1,
@@ -38,8 +38,8 @@ loop-again c =
 
 returns : tie.Need-returns invariant-loop decreases-loop
 returns c =
-    let l = c.before.loop in
-    let n = length c.before.before.args.cases.now in
+    let l = c.loop-i in
+    let n = length c.args.cases.now in
     let e : l.i ≡ n = omega arith in (
       filled-all (replicate n 0) l.cases (length-replicate {A = ℕ} n 0) l.invariant.1 (rw e at l.invariant.3),
       filled-all (replicate n no_double) l.doubles (length-replicate n no_double) l.invariant.2 (rw e at l.invariant.4),

@@ -17,26 +17,26 @@ told s e h p = (
   subst (λ (i : ℕ). 0 < i) (sym h) p,
 )
 
-returns : tie.Need-returns
+returns : tie.Need-returns-in-Volts
 returns c =
     let t = c.before in
-    let s = t.before.before in
-    told s t.enum_told.given.1 c.per-volt.ensures (units_of s.args.code s.requires).0
+    let s = t.before in
+    told s t.in-Volts.is c.per_volt.ensures (units_of s.args.code s.requires).0
 
-returns-2 : tie.Need-returns-2
+returns-2 : tie.Need-returns-in-Sv
 returns-2 c =
     let t = c.before in
-    let s = t.before.before in
-    told s t.enum-told2.given.1 c.per-decibel.ensures (units_of s.args.code s.requires).1
+    let s = t.before in
+    told s t.in-Sv.is c.per_decibel.ensures (units_of s.args.code s.requires).1
 
-returns-3 : tie.Need-returns-3
+returns-3 : tie.Need-returns-in-Ts
 returns-3 c =
     let t = c.before in
-    let s = t.before.before in
-    told s t.enum-told3.given.1 c.per-decibel2.ensures (units_of s.args.code s.requires).1
+    let s = t.before in
+    told s t.in-Ts.is c.per_decibel-in-Ts.ensures (units_of s.args.code s.requires).1
 
-pub divisor-of-spec : {M : Type 1} → statement M
-divisor-of-spec =
+pub divisor_of_spec : {M : Type 1} → statement M
+divisor_of_spec =
     tie.close
     (tie.spec
     (λ c. search rules)

@@ -6,11 +6,11 @@ use Rattle.readings.proofs.Doubles.{nought}
 use Rattle.readings.proofs.double_of.Statement.{statement}
 use Rattle.readings.proofs.double_of.Tie as tie
 
-returns : tie.Need-returns
-returns c = nought ∙ sym (ap double_in c.enum_told.given.1)
+returns : tie.Need-returns-in-Silent
+returns c = nought ∙ sym (ap double_in c.in-Silent.is)
 
-pub double-of-spec : {M : Type 1} → statement M
-double-of-spec =
+pub double_of_spec : {M : Type 1} → statement M
+double_of_spec =
     tie.close
     (tie.spec
     (λ c. search rules)

@@ -12,10 +12,10 @@ use Rattle.readings.proofs.fill.Statement.{statement}
 use Rattle.readings.proofs.fill.Tie as tie
 
 -- ---- places
-abbrev start : tie.After-span-of → tie.Start
+abbrev start : tie.After-span_of-span → tie.Start
 start k = k.before.before.before.before.before.before
 
-abbrev cleared : tie.After-lay-arg3 → tie.After-clear
+abbrev cleared : tie.After-lay-arg-3-1 → tie.After-clear
 cleared k = k.before.before.before.before.before.before.before
 
 -- ---- needs
@@ -25,8 +25,8 @@ lay-requires c κs =
     let spanned = k.before.before.before in
     let s = start spanned in
     let n = length s.args.cases.now in
-    let span = spanned.Span-of.ensures in (
-      (s.pre.1.0, omega (arith, span-long span, span.within, s.pre.0.sound.few)),
+    let span = spanned.span_of-span.ensures in (
+      (s.requires.1.0, omega (arith, span-long span, span.within, s.requires.0.sound.few)),
       ap length k.clear.ensures.0
           ∙ length-replicate {A = ℕ} n 0
           ∙ sym (ap length k.clear.ensures.1 ∙ length-replicate n no_double),
@@ -39,9 +39,9 @@ returns c =
     let spanned = k.before.before.before in
     let s = start spanned in
     let a = s.args in
-    let n = length a.cases.now in
-    let span = spanned.Span-of.ensures in
-    let rising = rises _ s.pre.0.rising in (
+    let n = length a.cases-1.now in
+    let span = spanned.span_of-span.ensures in
+    let rising = rises _ s.requires.0.rising in (
       filled-window case_in a.ping.quantity span rising a.first n k.clear.ensures.0 lain.lay.ensures.0,
       filled-window double_in a.ping.quantity span rising a.first n k.clear.ensures.1 lain.lay.ensures.1,
     )

@@ -9,23 +9,23 @@ use Rattle.readings.proofs.Units.{has-valued, has-none}
 use Rattle.readings.proofs.has_readings.Statement.{statement}
 use Rattle.readings.proofs.has_readings.Tie as tie
 
-returns : tie.Need-returns
+returns : tie.Need-returns-then-not-is_valued
 returns c =
     let k = c.before in
     let s = k.before in
-    sym (has-none s.args.quantity s.args.code s.requires (sym k.is-valued.ensures ∙ not-true _ c.if1.true))
+    sym (has-none s.args.quantity s.args.code s.requires (sym k.is_valued.ensures ∙ not-true _ c.if-not-is_valued.true))
 
 -- what the samples are told to be
-told : (c : tie.Else1) {x : Quantity} → let a = c.before.before.args in
+told : (c : tie.Else-not-is_valued) {x : Quantity} → let a = c.args in
     a.quantity ≡ x → is_read x ≡ has_readings a.quantity (family_of a.code)
 told c e =
     let k = c.before in
     let s = k.before in
-    let valued = sym k.is-valued.ensures ∙ not-false _ c.if1.false in
+    let valued = sym k.is_valued.ensures ∙ not-false _ c.if-not-is_valued.false in
     ap is_read (sym e) ∙ sym (has-valued s.args.quantity s.args.code s.requires valued)
 
-pub has-readings-spec : {M : Type 1} → statement M
-has-readings-spec =
+pub has_readings_spec : {M : Type 1} → statement M
+has_readings_spec =
     tie.close
     (tie.spec
     (λ c κs. search rules)
@@ -34,7 +34,7 @@ has-readings-spec =
     (λ c. search rules)
     (λ c. search rules)
     (λ c. search rules)
-    (λ c. told c.before.before c.enum_told.given.1)
-    (λ c. told c.before.before c.enum-told2.given.1)
-    (λ c. told c.before.before c.enum-told3.given.1)
-    (λ c. told c.before.before c.enum-told4.given.1))
+    (λ c. told c.before c.in-Volts.is)
+    (λ c. told c.before c.in-Sv.is)
+    (λ c. told c.before c.in-Ts.is)
+    (λ c. told c.before c.in-Other.is))

@@ -13,31 +13,31 @@ use Rattle.readings.proofs.Laying.{laid_sample, laid_none}
 use Rattle.readings.proofs.lay_step.Statement.{statement}
 use Rattle.readings.proofs.lay_step.Tie as tie
 
-returns : tie.Need-returns
+returns : tie.Need-returns-then-it
 returns c =
     let laying = c.before.before.before.before in
     let read = laying.before in
     let wide = read.before.before in
     let then = wide.before.before.before in
-    let a = then.before.before.before.args in
+    let a = then.args in
     let v = to_z-of_z w32 a.it.value (search rules) in
-    let z : read.reading-of.result ≡ cased a.quantity (double_of a.it.value a.divisor) =
-    read.reading-of.ensures ∙ ap (λ (z : ℤ). cased a.quantity (double_of z a.divisor)) v in (
-      laying.put-reading.ensures.0
-          ∙ ap₂ (λ (n : ℕ) (x : Reading). put a.first a.cases.now n (case_in x)) wide.wide.ensures z
-          ∙ sym (laid_sample _ _ _ a.it then.if1.true),
-      laying.put-reading.ensures.1
-          ∙ ap₂ (λ (n : ℕ) (x : Reading). put a.first a.doubles.now n (double_in x)) wide.wide.ensures z
-          ∙ sym (laid_sample _ _ _ a.it then.if1.true),
+    let z : read.reading_of.result ≡ cased a.quantity (double_of a.it.value a.divisor) =
+    read.reading_of.ensures ∙ ap (λ (z : ℤ). cased a.quantity (double_of z a.divisor)) v in (
+      laying.put_reading.ensures.0
+          ∙ ap₂ (λ (n : ℕ) (x : Reading). put a.first a.cases-1.now n (case_in x)) wide.wide.ensures z
+          ∙ sym (laid_sample _ _ _ a.it then.if-it.true),
+      laying.put_reading.ensures.1
+          ∙ ap₂ (λ (n : ℕ) (x : Reading). put a.first a.doubles-1.now n (double_in x)) wide.wide.ensures z
+          ∙ sym (laid_sample _ _ _ a.it then.if-it.true),
     )
 
-returns-2 : tie.Need-returns-2
+returns-2 : tie.Need-returns-else-it
 returns-2 c =
-    let it = c.before.before.before.args.it in
-    (sym (laid_none _ _ _ it c.if1.false), sym (laid_none _ _ _ it c.if1.false))
+    let it = c.args.it in
+    (sym (laid_none _ _ _ it c.if-it.false), sym (laid_none _ _ _ it c.if-it.false))
 
-pub lay-step-spec : {M : Type 1} → statement M
-lay-step-spec =
+pub lay_step_spec : {M : Type 1} → statement M
+lay_step_spec =
     tie.close
     (tie.spec
     (λ c κs. search rules)

@@ -6,10 +6,10 @@ use Rattle.readings.proofs.page_at.Statement.{statement}
 use Rattle.readings.proofs.page_at.Tie as tie
 
 returns : tie.Need-returns
-returns c = page_told _ _ _ (rw nought at c.before.before.before.readings.ensures) c.show-all.ensures
+returns c = page_told _ _ _ (rw nought at c.readings-answer.ensures) c.show_all.ensures
 
-pub page-at-spec : {M : Type 1} → statement M
-page-at-spec =
+pub page_at_spec : {M : Type 1} → statement M
+page_at_spec =
     tie.close
     (tie.spec
     (λ c. search rules)

@@ -16,5 +16,8 @@ returns c =
     (one_rounding s.args.value s.args.divisor (lt_of_lt_of_le f.value.sfits (lit≤ tt)) s.requires
     (le_of_lt (lt_of_lt_of_le f.divisor.fits (lit≤ tt))))
 
-pub quotient-spec : {M : Type 1} → statement M
-quotient-spec = tie.close (tie.spec (λ c. search rules) (λ c. search rules) returns)
+pub quotient_spec : {M : Type 1} → statement M
+quotient_spec = tie.close (tie.spec
+    (λ c. search rules)
+    (λ c. search rules)
+    returns)

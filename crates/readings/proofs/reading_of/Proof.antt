@@ -17,17 +17,17 @@ made : (s : tie.Start) {q : Quantity} {x : Float} → s.args.quantity ≡ q
     → cased q x ≡ cased s.args.quantity (double_of s.args.value s.args.divisor)
 made s e h = ap₂ cased (sym e) (h ∙ ap (λ (z : ℤ). double_of z s.args.divisor) (to_z-of_z w32 s.args.value s.ranges.value))
 
-returns : tie.Need-returns
-returns c = made c.before.before.before c.before.enum_told.given.1 c.quotient.ensures
+returns : tie.Need-returns-in-Volts
+returns c = made c.before.before c.in-Volts.is c.quotient.ensures
 
-returns-2 : tie.Need-returns-2
-returns-2 c = made c.before.before.before c.before.enum-told2.given.1 c.quotient2.ensures
+returns-2 : tie.Need-returns-in-Sv
+returns-2 c = made c.before.before c.in-Sv.is c.quotient-in-Sv.ensures
 
-returns-3 : tie.Need-returns-3
-returns-3 c = made c.before.before.before c.before.enum-told3.given.1 c.quotient3.ensures
+returns-3 : tie.Need-returns-in-Ts
+returns-3 c = made c.before.before c.in-Ts.is c.quotient-in-Ts.ensures
 
-pub reading-of-spec : {M : Type 1} → statement M
-reading-of-spec =
+pub reading_of_spec : {M : Type 1} → statement M
+reading_of_spec =
     tie.close
     (tie.spec
     (λ c. search rules)

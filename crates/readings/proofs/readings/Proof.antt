@@ -11,49 +11,49 @@ use Rattle.readings.proofs.readings.Tie as tie
 abbrev start : tie.After-check → tie.Start
 start k = k.before.before.before.before
 
-accepted : (c : tie.After-counts) → check_file (start c.before.before).args.file.now ≡ Accepted c.counts.given.0.0
-accepted c = sym c.before.before.check.ensures.is ∙ c.counts.given.1
+accepted : (c : tie.In-Accepted-2) → check_file (start c.before.before).args.file.now ≡ Accepted c.counts-1.given.0.0
+accepted c = sym c.check.ensures.is ∙ c.counts-1.given.1
 
 find-requires : tie.Need-find-requires
-find-requires c κs = record { counts = c.before.counts.given.0.0; answer = accepted c.before }
+find-requires c κs = record { counts-1 = c.in-Accepted.counts; answer = accepted c }
 
 -- the linked ping
-found : (c : tie.After-ping) → let a = (start c.before.before.before.before.before.before).args in
-    FoundPing a.file.now a.place c.ping.given.0.0
+found : (c : tie.In-Ping-2) → let a = (start c.before.before.before.before).args in
+    FoundPing a.file.now a.place c.ping-1.given.0.0
 found c =
     let k = c.before.before in
-    let a = (start k.before.before.before.before).args in
-    subst (FoundAt a.file.now a.place) c.ping.given.1 k.find.ensures
+    let a = (start k.before.before).args in
+    subst (FoundAt a.file.now a.place) c.ping-1.given.1 k.find.ensures
 
-hand-over-requires : tie.Need-hand-over-requires
-hand-over-requires c κs = (found c.before.before.before).here
+hand-over-requires : tie.Need-hand_over-requires
+hand-over-requires c κs = (found c.before.before).here
 
-returns : tie.Need-returns
+returns : tie.Need-returns-in-Refused
 returns c =
-    let r = c.before.before in
-    let a = (start r.before.before).args in
-    told_unchecked a.file.now a.place a.first _ _ (sym r.before.before.check.ensures.is ∙ r.code.given.1)
+    let r = c.before in
+    let a = (start r.before).args in
+    told_unchecked a.file.now a.place a.first _ _ (sym r.check.ensures.is ∙ r.in-Refused.is)
     c.refuse.ensures
 
-returns-2 : tie.Need-returns-2
+returns-2 : tie.Need-returns-in-Nowhere
 returns-2 c =
     let e = c.before in
-    let k = e.before.before in
-    let counted = k.before.before in
-    let a = (start counted.before.before).args in
+    let k = e.before in
+    let counted = k.before in
+    let a = (start counted.before).args in
     told-nowhere a.file.now a.place a.first _ _ (accepted counted)
-    (subst (FoundAt a.file.now a.place) e.enum_told.given.1 k.find.ensures) c.refuse2.ensures
+    (subst (FoundAt a.file.now a.place) e.in-Nowhere.is k.find.ensures) c.refuse-in-Nowhere.ensures
 
-returns-3 : tie.Need-returns-3
+returns-3 : tie.Need-returns-in-Ping
 returns-3 c =
     let over = c.before.before.before.before in
-    let k = over.before.before.before.before in
-    let counted = k.before.before.before.before in
-    let a = (start counted.before.before).args in
-    told-found a.file.now a.place a.first _ _ (accepted counted) (found k) over.hand-over.ensures
+    let k = over.before.before.before in
+    let counted = k.before.before in
+    let a = (start counted.before).args in
+    told-found a.file.now a.place a.first _ _ (accepted counted) (found k) over.hand_over.ensures
 
-pub readings-spec : {M : Type 1} → statement M
-readings-spec =
+pub readings_spec : {M : Type 1} → statement M
+readings_spec =
     tie.close
     (tie.spec
     (λ c κs. search rules)

@@ -11,25 +11,25 @@ use Rattle.readings.proofs.Laying.{filled_next, filled-all, length-shown, shown-
 use Rattle.readings.proofs.show_all.Statement.{statement}
 use Rattle.readings.proofs.show_all.Tie as tie
 
-abbrev invariant-loop : tie.invariant-loop
+abbrev invariant-loop : tie.invariant-loop-i
 invariant-loop cases doubles page₀ i₀ page i = (i ≤ 64) × (length page ≡ 64) × (take i page ≡ take i (shown_all cases doubles))
 
-abbrev decreases-loop : tie.decreases-loop
+abbrev decreases-loop : tie.decreases-loop-i
 decreases-loop cases doubles page₀ i₀ page i = 64 - i
 
-loop-holds : tie.Need-loop-init invariant-loop decreases-loop
+loop-holds : tie.Need-loop-i-init invariant-loop decreases-loop
 loop-holds c = (omega arith, refl, refl)
 
 -- as many of either as the page has
 long : (s : tie.Start invariant-loop decreases-loop) → length (shown_all s.args.t1 s.args.t2) ≡ 64
 long s = length-shown s.args.t1 s.args.t2 (search rules) (search rules)
 
-loop-again : tie.Need-loop-preserved invariant-loop decreases-loop
+loop-again : tie.Need-loop-i-preserved invariant-loop decreases-loop
 loop-again c =
     let head = c.before.before in
     let s = head.before in
-    let l = head.loop in
-    let h = c.before.loop-test.true in
+    let l = head.loop-i in
+    let h = c.loop-i-test.true in
     let a : length s.args.t1 ≡ 64 = search rules in
     let b : length s.args.t2 ≡ 64 = search rules in (
       omega arith,
@@ -40,12 +40,12 @@ loop-again c =
 
 returns : tie.Need-returns invariant-loop decreases-loop
 returns c =
-    let l = c.before.loop in
+    let l = c.loop-i in
     let e : l.i ≡ 64 = omega arith in
     filled-all _ l.page (long c.before.before) l.invariant.1 (rw e at l.invariant.2)
 
-pub show-all-spec : {M : Type 1} → statement M
-show-all-spec =
+pub show_all_spec : {M : Type 1} → statement M
+show_all_spec =
     tie.close
     (tie.spec
     invariant-loop

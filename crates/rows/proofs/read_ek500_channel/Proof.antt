@@ -13,32 +13,32 @@ use Rattle.rows.proofs.read_ek500_channel.Statement.{statement}
 use Rattle.rows.proofs.read_ek500_channel.Tie as tie
 
 -- places, named by what has been done there
-abbrev start : tie.After-row → tie.Start
+abbrev start : tie.After-row-row → tie.Start
 start c = c.before.before.before
 
-abbrev rowed : tie.After-read-row → tie.After-row
+abbrev rowed : tie.After-read_row → tie.After-row-row
 rowed c = c.before.before.before.before
 
-abbrev first_read : tie.After-read-row2 → tie.After-read-row
+abbrev first_read : tie.After-read_row-2 → tie.After-read_row
 first_read c = c.before.before.before.before.before.before
 
 parted : {r : List ℕ} → r ≡ get_or row_codes 4 [] → Parted 4 14 13 36 14 r
 unfolding row_codes listings fields_of field_of
-parted e = rw e (record { first = lit≤ tt; other = lit≤ tt; bytes = refl; numbers = refl; whole = refl })
+parted e = rw e (record { first = lit≤ tt; other = lit≤ tt; bytes = refl; numbers-1 = refl; whole = refl })
 
-read-row-requires : tie.Need-read-row-requires
+read-row-requires : tie.Need-read_row-requires
 read-row-requires c κs =
     let t = c.before.before.before in
     let d = start t in
     let a = d.args in
-    first-asks _ _ _ _ _ (parted t.row.ensures) a.file.now a.numbers.now a.at d.pre.0 d.pre.1
+    first-asks _ _ _ _ _ (parted t.row-row.ensures) a.file.now a.numbers-1.now a.at d.requires.0 d.requires.1
 
-read-row-requires-2 : tie.Need-read-row-requires-2
+read-row-requires-2 : tie.Need-read_row-requires-2
 read-row-requires-2 c κs =
     let t = rowed c.before.before.before.before.before in
     let d = start t in
     let a = d.args in
-    let x = other-asks _ _ _ _ _ (parted t.row.ensures) a.file.now a.numbers.now a.at d.pre.0 d.pre.1 in
+    let x = other-asks _ _ _ _ _ (parted t.row-row.ensures) a.file.now a.numbers-1.now a.at d.requires.0 d.requires.1 in
     (x.0, (x.1.0, omega (arith, x.1.1)))
 
 returns : tie.Need-returns
@@ -47,11 +47,11 @@ returns c =
     let f = first_read q in
     let t = rowed f in
     let a = (start t).args in
-    both _ _ _ _ _ (parted t.row.ensures) a.msb a.file.now a.numbers.now a.at f.read-row.ensures
-    q.read-row2.ensures
+    both _ _ _ _ _ (parted t.row-row.ensures) a.msb a.file.now a.numbers-1.now a.at f.read_row.ensures
+    q.read_row-2.ensures
 
-pub read-ek500-channel-spec : {M : Type 1} → statement M
-read-ek500-channel-spec =
+pub read_ek500_channel_spec : {M : Type 1} → statement M
+read_ek500_channel_spec =
     tie.close
     (tie.spec
     (λ c κs. search rules)

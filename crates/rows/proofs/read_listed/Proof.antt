@@ -30,40 +30,40 @@ module _ (s : tie.Start) {k n : ℕ} {r : List ℕ} (e : s.args.listing ≡ k) (
   -- what its call asks
   asked : let a = s.args in
       (length (take n r) ≤ length (fields_of (take n r)))
-      × ((a.at + size (fields_of (take n r)) ≤ length a.file.now) × (0 + many (fields_of (take n r)) ≤ length a.numbers.now))
+      × ((a.at + size (fields_of (take n r)) ≤ length a.file.now) × (0 + many (fields_of (take n r)) ≤ length a.numbers-1.now))
   asked =
       let l = ap (λ (fs : List Field). length fs) of_listing in
       let m = ap (λ (i : ℕ). length (listed_fields i)) e in
       let z = ap (λ (fs : List Field). size fs) of_listing in
       let y = ap (λ (fs : List Field). many fs) of_listing in
-      (omega (arith, l, m, c, length-take n r), (omega (arith, s.pre.1.0), omega (arith, s.pre.1.1)))
+      (omega (arith, l, m, c, length-take n r), (omega (arith, s.requires.1.0), omega (arith, s.requires.1.1)))
 
   -- and what it leaves
   left : {numbers : List ℕ} → let a = s.args in
-      numbers ≡ sets a.numbers.now 0 (numbers_in (values_of a.msb (fields_of (take n r)) (drop a.at a.file.now)))
-      → numbers ≡ sets a.numbers.now 0 (numbers_in (values_of a.msb (listed_fields a.listing) (drop a.at a.file.now)))
+      numbers ≡ sets a.numbers-1.now 0 (numbers_in (values_of a.msb (fields_of (take n r)) (drop a.at a.file.now)))
+      → numbers ≡ sets a.numbers-1.now 0 (numbers_in (values_of a.msb (listed_fields a.listing) (drop a.at a.file.now)))
   left g =
       let a = s.args in
-      g ∙ ap (λ (fs : List Field). sets a.numbers.now 0 (numbers_in (values_of a.msb fs (drop a.at a.file.now)))) of_listing
+      g ∙ ap (λ (fs : List Field). sets a.numbers-1.now 0 (numbers_in (values_of a.msb fs (drop a.at a.file.now)))) of_listing
 
 -- in an arm that reads its row in parts: what its call asks, and what it leaves
 module _ (s : tie.Start) (k : ℕ) (e : s.args.listing ≡ k) where
   parts-asked : let a = s.args in
-      (a.at + size (listed_fields k) ≤ length a.file.now) × (many (listed_fields k) ≤ length a.numbers.now)
+      (a.at + size (listed_fields k) ≤ length a.file.now) × (many (listed_fields k) ≤ length a.numbers-1.now)
   parts-asked = rw e at s.requires.1
 
   parts-left : {numbers : List ℕ} → let a = s.args in
-      numbers ≡ sets a.numbers.now 0 (numbers_in (values_of a.msb (listed_fields k) (drop a.at a.file.now)))
-      → numbers ≡ sets a.numbers.now 0 (numbers_in (values_of a.msb (listed_fields a.listing) (drop a.at a.file.now)))
+      numbers ≡ sets a.numbers-1.now 0 (numbers_in (values_of a.msb (listed_fields k) (drop a.at a.file.now)))
+      → numbers ≡ sets a.numbers-1.now 0 (numbers_in (values_of a.msb (listed_fields a.listing) (drop a.at a.file.now)))
   parts-left g = rw e g
 
 -- behind the fourteen arms one listing is left
-last : (m : tie.At-match-rest) → m.before.before.before.args.listing ≡ 14
-last m = let s = m.before.before.before in omega (arith, s.requires.0, at_least 14 s.args.listing m.match.rest)
+last : (m : tie.In_default) → m.args.listing ≡ 14
+last m = let s = m.before.before.before in omega (arith, s.requires.0, at_least 14 s.args.listing m.in_default.in_default-own.rest)
 
-pub read-listed-spec : {M : Type 1} → statement M
+pub read_listed_spec : {M : Type 1} → statement M
 unfolding row_codes listings fields_of field_of
-read-listed-spec =
+read_listed_spec =
     tie.close
     (tie.spec
     (λ c κs. search rules)
@@ -73,7 +73,7 @@ read-listed-spec =
     (λ c. search rules)
     (λ c κs. let r = c.before.before.before in
     let m = r.before in
-    asked m.before.before.before m.match.keys1 r.row.ensures refl)
+    asked m.before.before.before m.in-0.is r.row.ensures refl)
     (λ c κs. search rules)
     (λ c. search rules)
     (λ c. search rules)
@@ -81,10 +81,10 @@ read-listed-spec =
     (λ c. search rules)
     (λ c κs. let r = c.before.before.before in
     let m = r.before in
-    asked m.before.before.before m.match.keys2 r.row2.ensures refl)
-    (λ c κs. let m = c.before in parts-asked m.before.before.before 2 m.match.keys3)
-    (λ c κs. let m = c.before in parts-asked m.before.before.before 3 m.match.keys4)
-    (λ c κs. let m = c.before in parts-asked m.before.before.before 4 m.match.keys5)
+    asked m.before.before.before m.in-1.is r.row-in-1.ensures refl)
+    (λ c κs. let m = c.before in parts-asked m.before.before.before 2 m.in-2.is)
+    (λ c κs. let m = c.before in parts-asked m.before.before.before 3 m.in-3.is)
+    (λ c κs. let m = c.before in parts-asked m.before.before.before 4 m.in-4.is)
     (λ c κs. search rules)
     (λ c. search rules)
     (λ c. search rules)
@@ -92,7 +92,7 @@ read-listed-spec =
     (λ c. search rules)
     (λ c κs. let r = c.before.before.before in
     let m = r.before in
-    asked m.before.before.before m.match.keys6 r.row3.ensures refl)
+    asked m.before.before.before m.in-5.is r.row-in-5.ensures refl)
     (λ c κs. search rules)
     (λ c. search rules)
     (λ c. search rules)
@@ -100,7 +100,7 @@ read-listed-spec =
     (λ c. search rules)
     (λ c κs. let r = c.before.before.before in
     let m = r.before in
-    asked m.before.before.before m.match.keys7 r.row4.ensures refl)
+    asked m.before.before.before m.in-6.is r.row-in-6.ensures refl)
     (λ c κs. search rules)
     (λ c. search rules)
     (λ c. search rules)
@@ -108,7 +108,7 @@ read-listed-spec =
     (λ c. search rules)
     (λ c κs. let r = c.before.before.before in
     let m = r.before in
-    asked m.before.before.before m.match.keys8 r.row5.ensures refl)
+    asked m.before.before.before m.in-7.is r.row-in-7.ensures refl)
     (λ c κs. search rules)
     (λ c. search rules)
     (λ c. search rules)
@@ -116,7 +116,7 @@ read-listed-spec =
     (λ c. search rules)
     (λ c κs. let r = c.before.before.before in
     let m = r.before in
-    asked m.before.before.before m.match.keys9 r.row6.ensures refl)
+    asked m.before.before.before m.in-8.is r.row-in-8.ensures refl)
     (λ c κs. search rules)
     (λ c. search rules)
     (λ c. search rules)
@@ -124,7 +124,7 @@ read-listed-spec =
     (λ c. search rules)
     (λ c κs. let r = c.before.before.before in
     let m = r.before in
-    asked m.before.before.before m.match.keys10 r.row7.ensures refl)
+    asked m.before.before.before m.in-9.is r.row-in-9.ensures refl)
     (λ c κs. search rules)
     (λ c. search rules)
     (λ c. search rules)
@@ -132,7 +132,7 @@ read-listed-spec =
     (λ c. search rules)
     (λ c κs. let r = c.before.before.before in
     let m = r.before in
-    asked m.before.before.before m.match.keys11 r.row8.ensures refl)
+    asked m.before.before.before m.in-10.is r.row-in-10.ensures refl)
     (λ c κs. search rules)
     (λ c. search rules)
     (λ c. search rules)
@@ -140,7 +140,7 @@ read-listed-spec =
     (λ c. search rules)
     (λ c κs. let r = c.before.before.before in
     let m = r.before in
-    asked m.before.before.before m.match.keys12 r.row9.ensures refl)
+    asked m.before.before.before m.in-11.is r.row-in-11.ensures refl)
     (λ c κs. search rules)
     (λ c. search rules)
     (λ c. search rules)
@@ -148,7 +148,7 @@ read-listed-spec =
     (λ c. search rules)
     (λ c κs. let r = c.before.before.before in
     let m = r.before in
-    asked m.before.before.before m.match.keys13 r.row10.ensures refl)
+    asked m.before.before.before m.in-12.is r.row-in-12.ensures refl)
     (λ c κs. search rules)
     (λ c. search rules)
     (λ c. search rules)
@@ -156,7 +156,7 @@ read-listed-spec =
     (λ c. search rules)
     (λ c κs. let r = c.before.before.before in
     let m = r.before in
-    asked m.before.before.before m.match.keys14 r.row11.ensures refl)
+    asked m.before.before.before m.in-13.is r.row-in-13.ensures refl)
     (λ c κs. search rules)
     (λ c. search rules)
     (λ c. search rules)
@@ -164,76 +164,76 @@ read-listed-spec =
     (λ c. search rules)
     (λ c κs. let r = c.before.before.before in
     let m = r.before in
-    asked m.before.before.before (last m) r.row12.ensures refl)
+    asked m.before.before.before (last m) r.row-in_default.ensures refl)
     (λ c. search rules)
     (λ c. let t = c.before.before in
     let r = t.before.before.before.before in
     let m = r.before in
-    left m.before.before.before m.match.keys1 r.row.ensures refl t.read-row.ensures)
+    left m.before.before.before m.in-0.is r.row.ensures refl t.read_row.ensures)
     (λ c. search rules)
     (λ c. let t = c.before.before in
     let r = t.before.before.before.before in
     let m = r.before in
-    left m.before.before.before m.match.keys2 r.row2.ensures refl t.read-row2.ensures)
+    left m.before.before.before m.in-1.is r.row-in-1.ensures refl t.read_row-in-1.ensures)
     (λ c. search rules)
     (λ c. let t = c.before.before in
     let m = t.before.before in
-    parts-left m.before.before.before 2 m.match.keys3 t.read-ek500-sounder.ensures)
+    parts-left m.before.before.before 2 m.in-2.is t.read_ek500_sounder.ensures)
     (λ c. search rules)
     (λ c. let t = c.before.before in
     let m = t.before.before in
-    parts-left m.before.before.before 3 m.match.keys4 t.read-channel.ensures)
+    parts-left m.before.before.before 3 m.in-3.is t.read_channel.ensures)
     (λ c. search rules)
     (λ c. let t = c.before.before in
     let m = t.before.before in
-    parts-left m.before.before.before 4 m.match.keys5 t.read-ek500-channel.ensures)
+    parts-left m.before.before.before 4 m.in-4.is t.read_ek500_channel.ensures)
     (λ c. search rules)
     (λ c. let t = c.before.before in
     let r = t.before.before.before.before in
     let m = r.before in
-    left m.before.before.before m.match.keys6 r.row3.ensures refl t.read-row3.ensures)
+    left m.before.before.before m.in-5.is r.row-in-5.ensures refl t.read_row-in-5.ensures)
     (λ c. search rules)
     (λ c. let t = c.before.before in
     let r = t.before.before.before.before in
     let m = r.before in
-    left m.before.before.before m.match.keys7 r.row4.ensures refl t.read-row4.ensures)
+    left m.before.before.before m.in-6.is r.row-in-6.ensures refl t.read_row-in-6.ensures)
     (λ c. search rules)
     (λ c. let t = c.before.before in
     let r = t.before.before.before.before in
     let m = r.before in
-    left m.before.before.before m.match.keys8 r.row5.ensures refl t.read-row5.ensures)
+    left m.before.before.before m.in-7.is r.row-in-7.ensures refl t.read_row-in-7.ensures)
     (λ c. search rules)
     (λ c. let t = c.before.before in
     let r = t.before.before.before.before in
     let m = r.before in
-    left m.before.before.before m.match.keys9 r.row6.ensures refl t.read-row6.ensures)
+    left m.before.before.before m.in-8.is r.row-in-8.ensures refl t.read_row-in-8.ensures)
     (λ c. search rules)
     (λ c. let t = c.before.before in
     let r = t.before.before.before.before in
     let m = r.before in
-    left m.before.before.before m.match.keys10 r.row7.ensures refl t.read-row7.ensures)
+    left m.before.before.before m.in-9.is r.row-in-9.ensures refl t.read_row-in-9.ensures)
     (λ c. search rules)
     (λ c. let t = c.before.before in
     let r = t.before.before.before.before in
     let m = r.before in
-    left m.before.before.before m.match.keys11 r.row8.ensures refl t.read-row8.ensures)
+    left m.before.before.before m.in-10.is r.row-in-10.ensures refl t.read_row-in-10.ensures)
     (λ c. search rules)
     (λ c. let t = c.before.before in
     let r = t.before.before.before.before in
     let m = r.before in
-    left m.before.before.before m.match.keys12 r.row9.ensures refl t.read-row9.ensures)
+    left m.before.before.before m.in-11.is r.row-in-11.ensures refl t.read_row-in-11.ensures)
     (λ c. search rules)
     (λ c. let t = c.before.before in
     let r = t.before.before.before.before in
     let m = r.before in
-    left m.before.before.before m.match.keys13 r.row10.ensures refl t.read-row10.ensures)
+    left m.before.before.before m.in-12.is r.row-in-12.ensures refl t.read_row-in-12.ensures)
     (λ c. search rules)
     (λ c. let t = c.before.before in
     let r = t.before.before.before.before in
     let m = r.before in
-    left m.before.before.before m.match.keys14 r.row11.ensures refl t.read-row11.ensures)
+    left m.before.before.before m.in-13.is r.row-in-13.ensures refl t.read_row-in-13.ensures)
     (λ c. search rules)
     (λ c. let t = c.before.before in
     let r = t.before.before.before.before in
     let m = r.before in
-    left m.before.before.before (last m) r.row12.ensures refl t.read-row12.ensures))
+    left m.before.before.before (last m) r.row-in_default.ensures refl t.read_row-in_default.ensures))

@@ -4,19 +4,19 @@ use Rattle.rows.proofs.Reading.{unopened, opened_as}
 use Rattle.rows.proofs.read_row.Statement.{statement}
 use Rattle.rows.proofs.read_row.Tie as tie
 
-take-row-requires : tie.Need-take-row-requires
+take-row-requires : tie.Need-take_row-requires
 take-row-requires c κs =
-    let m = c.before.before in
-    opened_as (rw m.msb.given.1 at m.before.before.open-record.ensures)
+    let m = c.before in
+    opened_as (rw m.in-Tuple.is at m.open_record.ensures)
 
-returns : tie.Need-returns
+returns : tie.Need-returns-in-Refused
 returns c =
-    let o = c.before.before.before in
-    let a = o.before.before.before.args in
-    unopened a.code a.file.now a.place a.numbers.now _ _ (rw c.before.code.given.1 at o.open-record.ensures)
+    let o = c.before in
+    let a = o.args in
+    unopened a.code-1 a.file.now a.place a.numbers-1.now _ _ (rw c.in-Refused.is at o.open_record.ensures)
 
-pub read-row-spec : {M : Type 1} → statement M
-read-row-spec =
+pub read_row_spec : {M : Type 1} → statement M
+read_row_spec =
     tie.close
     (tie.spec
     (λ c κs. search rules)

@@ -5,14 +5,14 @@ use Rattle.layout.specs.Answers.{is_fine}
 use Rattle.salvage.proofs.is_kept.Statement.{statement}
 use Rattle.salvage.proofs.is_kept.Tie as tie
 
-keeps-alone-requires : tie.Need-keeps-alone-requires
+keeps-alone-requires : tie.Need-keeps_alone-requires
 keeps-alone-requires c κs =
     let s = c.before.before.before.before in
-    let r = s.requires.1 c.before.if1.true in
-    ((s.requires.0, r.1, c.if2.true), r.0)
+    let r = s.requires.1 c.if-dear.true in
+    ((s.requires.0, r.1, c.if-at-eq0.true), r.0)
 
-pub is-kept-spec : {M : Type 1} → statement M
-is-kept-spec =
+pub is_kept_spec : {M : Type 1} → statement M
+is_kept_spec =
     tie.close
     (tie.spec
     keeps-alone-requires
@@ -20,5 +20,5 @@ is-kept-spec =
     (λ c κs. search rules)
     (λ c. search rules)
     (λ c. search rules)
-    (λ c. ap is_fine (sym c.enum_told.given.1 ∙ c.before.before.judge-alone.ensures))
-    (λ c. ap is_fine (sym c.enum-told2.given.1 ∙ c.before.before.judge-alone.ensures)))
+    (λ c. ap is_fine (sym c.in-Fine.is ∙ c.judge_alone.ensures))
+    (λ c. ap is_fine (sym c.in-Fault.is ∙ c.judge_alone.ensures)))

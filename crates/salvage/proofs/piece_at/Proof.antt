@@ -13,22 +13,22 @@ use Rattle.salvage.proofs.piece_at.Statement.{statement}
 use Rattle.salvage.proofs.piece_at.Tie as tie
 
 -- the tuple is kept
-fine : (c : tie.Then1) → let a = c.before.before.before.before.args in alone a.msb (drop a.at a.file.now) ≡ Fine
-fine c = fine-is _ (sym c.before.is-kept.ensures ∙ c.if1.true)
+fine : (c : tie.Then-is_kept) → let a = c.args in alone a.msb (drop a.at a.file.now) ≡ Fine
+fine c = fine-is _ (sym c.is_kept.ensures ∙ c.if-is_kept.true)
 
-there : (c : tie.Then1) → let a = c.before.before.before.before.args in
+there : (c : tie.Then-is_kept) → let a = c.args in
     Whole a.msb a.file.now a.at (len_at a.msb (drop a.at a.file.now))
 there c = kept_whole _ _ _ (fine c)
 
-pub piece-at-spec : {M : Type 1} → statement M
-piece-at-spec =
+pub piece_at_spec : {M : Type 1} → statement M
+piece_at_spec =
     tie.close
     (tie.spec
     (λ c κs. search rules)
     (λ c κs. omega (arith, (there c).long, (there c).ranges))
-    (λ c. omega (arith, (there c.before).fits, c.length_at.ensures))
-    (λ c. piece-kept _ _ _ (fine c.before) _ c.length_at.ensures)
+    (λ c. omega (arith, (there c.before).fits, c.length_at-whole.ensures))
+    (λ c. piece-kept _ _ _ (fine c.before) _ c.length_at-whole.ensures)
     (λ c. search rules)
     (λ c. search rules)
-    (λ c. let n = c.before in piece-dropped _ _ _ (sym n.before.is-kept.ensures ∙ n.if1.false) c.if2.true)
-    (λ c. let n = c.before in piece-last _ _ _ (sym n.before.is-kept.ensures ∙ n.if1.false) c.if2.false))
+    (λ c. let n = c.before in piece-dropped _ _ _ (sym n.is_kept.ensures ∙ n.if-is_kept.false) c.if-end-at-gt-STRIDE.true)
+    (λ c. let n = c.before in piece-last _ _ _ (sym n.is_kept.ensures ∙ n.if-is_kept.false) c.if-end-at-gt-STRIDE.false))

@@ -8,16 +8,22 @@ use Rattle.salvage.proofs.put_kept.Tie as tie
 copy-requires : tie.Need-copy-requires
 copy-requires c κs =
     let k = c.before.before in
-    (omega arith, rw k.if1.true at k.before.before.before.requires.1)
+    (omega arith, rw k.if-p.true at k.requires.1)
 
-returns : tie.Need-returns
+returns : tie.Need-returns-then-p
 returns c =
     let p = c.before.before in
-    rw p.before.before.before.if1.true (refl, p.copy.ensures)
+    rw p.if-p.true (refl, p.copy.ensures)
 
-returns-2 : tie.Need-returns-2
-returns-2 c = rw c.if1.false (omega arith, refl)
+returns-2 : tie.Need-returns
+returns-2 c = rw c.if-p.false (omega arith, refl)
 
-pub put-kept-spec : {M : Type 1} → statement M
-put-kept-spec =
-    tie.close (tie.spec (λ c. search rules) copy-requires (λ c. search rules) (λ c. search rules) returns returns-2)
+pub put_kept_spec : {M : Type 1} → statement M
+put_kept_spec =
+    tie.close (tie.spec
+    (λ c. search rules)
+    copy-requires
+    (λ c. search rules)
+    (λ c. search rules)
+    returns
+    returns-2)

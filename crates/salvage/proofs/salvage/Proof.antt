@@ -11,21 +11,21 @@ use Rattle.salvage.proofs.salvage.Statement.{statement}
 use Rattle.salvage.proofs.salvage.Tie as tie
 
 -- places, named by what has been done there
-abbrev marking : tie.Else2 → tie.Else1
+abbrev marking : tie.Else-not-is_marked → tie.Else-file-gt-LIMIT
 marking c = c.before.before
 
 -- the file has its mark
-has-mark : (c : tie.Else2) → marked (marking c).before.before.before.before.args.file.now ≡ true
-has-mark c = sym c.before.is-marked.ensures ∙ not-false _ c.if2.false
+has-mark : (c : tie.Else-not-is_marked) → marked (marking c).args.file.now ≡ true
+has-mark c = sym c.is_marked.ensures ∙ not-false _ c.if-not-is_marked.false
 
-returns : tie.Need-returns
-returns c = rw c.refuse.ensures (over-limit _ _ _ c.before.if1.true)
+returns : tie.Need-returns-then-file-gt-LIMIT
+returns c = rw c.refuse.ensures (over-limit _ _ _ c.if-file-gt-LIMIT.true)
 
-returns-2 : tie.Need-returns-2
+returns-2 : tie.Need-returns-then-not-is_marked
 returns-2 c =
     let m = c.before.before in
-    rw c.refuse2.ensures
-    (no_mark _ _ _ m.before.if1.false (sym m.is-marked.ensures ∙ not-true _ c.before.if2.true))
+    rw c.refuse-then-not-is_marked.ensures
+    (no_mark _ _ _ m.if-file-gt-LIMIT.false (sym m.is_marked.ensures ∙ not-true _ c.if-not-is_marked.true))
 
 -- the sums, where there are some, are of the file's order
 save-requires : tie.Need-save-requires
@@ -33,10 +33,10 @@ save-requires c κs =
     let u = c.before.before.before.before in
     let m = u.before.before in
     let e = m.before in
-    ((has-mark e, (marking e).if1.false), ready_by u.sum-up.result _ _ (sym m.is-msb.ensures) u.sum-up.ensures)
+    ((has-mark e, (marking e).if-file-gt-LIMIT.false), ready_by u.sum_up-dear.result _ _ (sym m.is_msb.ensures) u.sum_up-dear.ensures)
 
-pub salvage-spec : {M : Type 1} → statement M
-salvage-spec =
+pub salvage_spec : {M : Type 1} → statement M
+salvage_spec =
     tie.close
     (tie.spec
     (λ c κs. search rules)
@@ -46,7 +46,7 @@ salvage-spec =
     returns-2
     (λ c κs. marked_4 _ (has-mark c))
     (λ c. search rules)
-    (λ c κs. let e = c.before.before in ((marked_4 _ (has-mark e), (marking e).if1.false), refl))
+    (λ c κs. let e = c.before.before in ((marked_4 _ (has-mark e), (marking e).if-file-gt-LIMIT.false), refl))
     (λ c. search rules)
     save-requires
     (λ c. search rules)

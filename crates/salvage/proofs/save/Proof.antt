@@ -6,49 +6,49 @@ use Rattle.salvage.proofs.save.Statement.{statement}
 use Rattle.salvage.proofs.save.Tie as tie
 
 -- places, named by what has been done there
-abbrev start : tie.After-measure-file → tie.Start
+abbrev start : tie.After-measure_file-measured → tie.Start
 start c = c.before.before.before.before.before
 
-abbrev fitting : tie.Else2 → tie.Else1
+abbrev fitting : tie.Else-out-measured → tie.Else-table-measured
 fitting c = c.before.before
 
-abbrev measuring : tie.Else1 → tie.After-measure-file
+abbrev measuring : tie.Else-table-measured → tie.After-measure_file-measured
 measuring c = c.before.before
 
-returns : tie.Need-returns
+returns : tie.Need-returns-then-table-measured
 returns c =
     let m = c.before.before.before in
     let p = (start m).requires.0 in
-    rw c.refuse.ensures (short-table _ _ _ p.1 p.0 _ m.measure-file.ensures c.before.if1.true)
+    rw c.refuse.ensures (short-table _ _ _ p.1 p.0 _ m.measure_file-measured.ensures c.if-table-measured.true)
 
-returns-2 : tie.Need-returns-2
+returns-2 : tie.Need-returns-then-out-measured
 returns-2 c =
     let t = c.before.before.before in
     let m = measuring t in
-    let p = (start m).pre.0 in
-    rw c.refuse2.ensures (no_room _ _ _ p.1 p.0 _ m.measure-file.ensures t.if1.false c.before.if2.true)
+    let p = (start m).requires.0 in
+    rw c.refuse-then-out-measured.ensures (no_room _ _ _ p.1 p.0 _ m.measure_file-measured.ensures t.if-table-measured.false c.if-out-measured.true)
 
-write-all-requires : tie.Need-write-all-requires
+write-all-requires : tie.Need-write_all-requires
 write-all-requires c κs =
     let r = c.before.before in
     let t = fitting r in
     let m = measuring t in
     let s = start m in
-    let p = s.pre.0 in
-    (roomy _ s.args.out.now s.args.table.now p.1 p.0 _ m.measure-file.ensures t.if1.left r.if2.false, s.pre.1)
+    let p = s.requires.0 in
+    (roomy _ s.args.out.now s.args.table.now p.1 p.0 _ m.measure_file-measured.ensures t.if-table-measured.false r.if-out-measured.false, s.requires.1)
 
-returns-3 : tie.Need-returns-3
+returns-3 : tie.Need-returns
 returns-3 c =
     let w = c.before.before.before.before in
     let r = w.before.before.before in
     let t = fitting r in
     let m = measuring t in
-    let p = (start m).pre.0 in
-    saved _ _ _ p.1 p.0 _ m.measure-file.ensures t.if1.left r.if2.false _ _
-    w.write-all.ensures.0 w.write-all.ensures.1
+    let p = (start m).requires.0 in
+    saved _ _ _ p.1 p.0 _ m.measure_file-measured.ensures t.if-table-measured.false r.if-out-measured.false _ _
+    w.write_all.ensures.0 w.write_all.ensures.1
 
-pub save-spec : {M : Type 1} → statement M
-save-spec =
+pub save_spec : {M : Type 1} → statement M
+save_spec =
     tie.close
     (tie.spec
     (λ c κs. let s = c.before.before.before.before in ((marked_4 _ s.requires.0.0, s.requires.0.1), s.requires.1))

@@ -10,21 +10,21 @@ use Rattle.salvage.proofs.seeming.Statement.{statement}
 use Rattle.salvage.proofs.seeming.Tie as tie
 
 -- places, named by what has been done there
-abbrev start : tie.After-enum-told → tie.Start
-start c = c.before.before.before.before.before.before.before
+abbrev start : tie.In-Fine → tie.Start
+start c = c.before.before.before.before.before.before
 
-there : (c : tie.After-enum-told) → let a = (start c).args in
+there : (c : tie.In-Fine) → let a = (start c).args in
     Whole a.msb a.file.now a.at (len_at a.msb (drop a.at a.file.now))
-there c = framing-whole _ _ _ (sym c.before.before.judge-frame.ensures ∙ c.enum_told.given.1)
+there c = framing-whole _ _ _ (sym c.judge_frame.ensures ∙ c.in-Fine.is)
 
-pub seeming-spec : {M : Type 1} → statement M
-seeming-spec =
+pub seeming_spec : {M : Type 1} → statement M
+seeming_spec =
     tie.close
     (tie.spec
-    (λ c κs. omega (arith, c.before.requires))
+    (λ c κs. omega (arith, c.requires))
     (λ c κs. omega arith)
     (λ c. search rules)
-    (λ c κs. omega (arith, c.before.before.before.before.requires))
+    (λ c κs. omega (arith, c.requires))
     (λ c. search rules)
     (λ c κs. omega (arith, (there c).long, (there c).ranges))
     (λ c. search rules)

@@ -5,8 +5,11 @@ use borrow.Author.Rules.{rules}
 use Rattle.salvage.proofs.size_kept.Statement.{statement}
 use Rattle.salvage.proofs.size_kept.Tie as tie
 
-returns : tie.Need-returns
-returns c = rw c.before.if1.true (refl, omega arith)
+returns : tie.Need-returns-then-p
+returns c = rw c.if-p.true (refl, omega arith)
 
-pub size-kept-spec : {M : Type 1} → statement M
-size-kept-spec = tie.close (tie.spec (λ c. search rules) returns (λ c. search rules))
+pub size_kept_spec : {M : Type 1} → statement M
+size_kept_spec = tie.close (tie.spec
+    (λ c. search rules)
+    returns
+    (λ c. search rules))

@@ -5,8 +5,8 @@ use borrow.Author.Rules.{rules}
 use Rattle.salvage.proofs.sum_up.Statement.{statement}
 use Rattle.salvage.proofs.sum_up.Tie as tie
 
-pub sum-up-spec : {M : Type 1} → statement M
-sum-up-spec =
+pub sum_up_spec : {M : Type 1} → statement M
+sum_up_spec =
     tie.close
     (tie.spec
     (λ c κs. search rules)

@@ -15,142 +15,142 @@ use Rattle.salvage.proofs.Writes.{writing-again, writing-out, writing-table}
 use Rattle.salvage.proofs.write_all.Statement.{statement}
 use Rattle.salvage.proofs.write_all.Tie as tie
 
-abbrev invariant-loop : tie.invariant-loop
+abbrev invariant-loop : tie.invariant-loop-range
 invariant-loop file out₀ table₀ dear sums msb range₀ to₀ i₀ out table range to i = Writing file out₀ table₀ to₀ msb range to i out table
 
-abbrev decreases-loop : tie.decreases-loop
+abbrev decreases-loop : tie.decreases-loop-range
 decreases-loop file out₀ table₀ dear sums msb range₀ to₀ i₀ out table range to i = length file - range.to
 
 -- places, named by what has been done there
-abbrev marking : tie.After-slice-known3 invariant-loop decreases-loop → tie.After-store4 invariant-loop decreases-loop
+abbrev marking : tie.After-slice_known-3-1 invariant-loop decreases-loop → tie.After-store4 invariant-loop decreases-loop
 marking c = c.before.before
 
-abbrev ordering : tie.After-slice-known3 invariant-loop decreases-loop → tie.After-is-msb invariant-loop decreases-loop
+abbrev ordering : tie.After-slice_known-3-1 invariant-loop decreases-loop → tie.After-is_msb-msb invariant-loop decreases-loop
 ordering c = (marking c).before.before
 
-abbrev start : tie.After-slice-known3 invariant-loop decreases-loop → tie.Start invariant-loop decreases-loop
+abbrev start : tie.After-slice_known-3-1 invariant-loop decreases-loop → tie.Start invariant-loop decreases-loop
 start c = (ordering c).before.before.before.before.before
 
-abbrev putting : tie.At-loop invariant-loop decreases-loop → tie.After-put-kept invariant-loop decreases-loop
+abbrev putting : tie.At-loop-range invariant-loop decreases-loop → tie.After-put_kept-to invariant-loop decreases-loop
 putting c = c.before.before.before
 
-abbrev first : tie.At-loop invariant-loop decreases-loop → tie.After-piece-at invariant-loop decreases-loop
+abbrev first : tie.At-loop-range invariant-loop decreases-loop → tie.After-piece_at-range invariant-loop decreases-loop
 first c = (putting c).before.before
 
-abbrev next : tie.After-grow invariant-loop decreases-loop → tie.After-piece-at2 invariant-loop decreases-loop
+abbrev next : tie.After-grow-range invariant-loop decreases-loop → tie.After-piece_at-next invariant-loop decreases-loop
 next c = c.before.before.before.before.before.before.before.before.before
 
 -- the sums are of the order that was read
-ready : (c : tie.After-slice-known3 invariant-loop decreases-loop) →
+ready : (c : tie.After-slice_known-3-1 invariant-loop decreases-loop) →
     let a = (start c).args in
-    Ready a.dear (ordering c).is-msb.result a.file.now a.sums.now
+    Ready a.dear (ordering c).is_msb-msb.result a.file.now a.sums.now
 ready c =
     let s = start c in
-    ready_by s.args.dear s.args.file.now s.args.sums.now (ordering c).is-msb.ensures s.pre.1
+    ready_by s.args.dear s.args.file.now s.args.sums.now (ordering c).is_msb-msb.ensures s.requires.1
 
-returns : tie.Need-returns invariant-loop decreases-loop
+returns : tie.Need-returns-then-file-eq-MARKED invariant-loop decreases-loop
 unfolding mark
 returns c =
-    let none = c.if1.true in
-    let o = (ordering c.before).is-msb.ensures in
+    let none = c.if-file-eq-MARKED.true in
+    let o = (ordering c.before).is_msb-msb.ensures in
     (output-none _ _ none o _ (marking c.before).store4.ensures, table_none _ _ none o _)
 
-put-kept-requires : tie.Need-put-kept-requires invariant-loop decreases-loop
+put-kept-requires : tie.Need-put_kept-to-requires invariant-loop decreases-loop
 put-kept-requires c κs =
     let p = c.before in
     let k = p.before.before in
     let s = (start k).requires.0 in
-    let more = p.before.if1.false in
-    let o = (ordering k).is-msb.ensures in
-    let e = p.piece-at.ensures in (
+    let more = p.if-file-eq-MARKED.false in
+    let o = (ordering k).is_msb-msb.ensures in
+    let e = p.piece_at-range.ensures in (
       within_of (first-lying _ _ _ s.marked more o e) (omega arith),
       omega (arith, length-first _ _ _ s.marked more o e, s.output, (marking k).store4.auto.0),
     )
 
-loop-holds : tie.Need-loop-init invariant-loop decreases-loop
+loop-holds : tie.Need-loop-range-init invariant-loop decreases-loop
 loop-holds c =
     let u = c.before.before in
     let p = u.before.before in
     let k = p.before.before in
     let s = (start k).requires.0 in
-    writing-begin _ _ _ s.marked p.before.if1.false (ordering k).is-msb.ensures p.piece-at.ensures _ _ _
-    u.put-kept.ensures.0
+    writing-begin _ _ _ s.marked p.if-file-eq-MARKED.false (ordering k).is_msb-msb.ensures p.piece_at-range.ensures _ _ _
+    u.put_kept-to.ensures.0
     (record {
       marked = s.marked;
-      output = omega (arith, s.output, (marking k).store4.auto.0, u.put-kept.auto.1);
+      output = omega (arith, s.output, (marking k).store4.auto.0, u.put_kept-to.auto.1);
       report = s.report;
     })
 
-put-kept-requires-2 : tie.Need-put-kept-requires-2 invariant-loop decreases-loop
+put-kept-requires-2 : tie.Need-put_kept-to-requires-in-loop-range invariant-loop decreases-loop
 put-kept-requires-2 c κs =
     let q = c.before in
-    let h = q.before.if2.true in
-    let w = q.before.before.before.loop.invariant in
-    (writing-within w h _ q.piece-at2.ensures, writing-room w h _ q.piece-at2.ensures)
+    let h = q.loop-range-test.true in
+    let w = q.loop-range.invariant in
+    (writing-within w h _ q.piece_at-next.ensures, writing-room w h _ q.piece_at-next.ensures)
 
-loop-less : tie.Need-loop-smaller invariant-loop decreases-loop
+loop-less : tie.Need-loop-range-smaller invariant-loop decreases-loop
 loop-less c =
     let q = next c in
-    writing-less q.before.before.before.loop.inv q.before.if2.taken _ q.piece-at2.ensures _ c.grow.ensures
+    writing-less q.loop-range.invariant q.loop-range-test.true _ q.piece_at-next.ensures _ c.grow-range.ensures
 
-loop-again : tie.Need-loop-preserved invariant-loop decreases-loop
+loop-again : tie.Need-loop-range-preserved invariant-loop decreases-loop
 loop-again c =
     let q = next c in
-    let k = c.before.before.before.before.before.before.before.put-kept2.ensures in
-    let t = c.before.before.before.close.ensures in
-    writing-again q.before.before.before.loop.inv q.before.if2.taken _ q.piece-at2.ensures _ _ _ _ _ c.grow.ensures
+    let k = c.put_kept-to-in-loop-range.ensures in
+    let t = c.close-i.ensures in
+    writing-again q.loop-range.invariant q.loop-range-test.true _ q.piece_at-next.ensures _ _ _ _ _ c.grow-range.ensures
     k.0 k.1 t.0 t.1
 
-same-length-2 : tie.Need-same-length-2 invariant-loop decreases-loop
+same-length-2 : tie.Need-shape_of-out invariant-loop decreases-loop
 same-length-2 c =
     let l = c.before.before.before.before.before.before in
     let k = (first l).before.before in
-    omega (arith, writing-length l.loop.invariant, (putting l).put-kept.auto.1, (marking k).store4.kept.0)
+    omega (arith, writing-length l.loop-range.invariant, (putting l).put_kept-to.auto.1, (marking k).store4.kept.0)
 
-same-length-3 : tie.Need-same-length-3 invariant-loop decreases-loop
+same-length-3 : tie.Need-shape_of-table invariant-loop decreases-loop
 same-length-3 c =
     let r = c.before.before in
     let l = r.before.before.before.before in
-    omega (arith, table-length l.loop.invariant, r.put-row.auto.0)
+    omega (arith, table-length l.loop-range.invariant, r.put_row.auto.0)
 
-returns-2 : tie.Need-returns-2 invariant-loop decreases-loop
+returns-2 : tie.Need-returns invariant-loop decreases-loop
 unfolding mark
 returns-2 c =
     let r = c.before.before in
     let e = r.before.before in
     let l = e.before.before in
-    let w = l.loop.invariant in
-    let u = (putting l).put-kept.ensures in
+    let w = l.loop-range.invariant in
+    let u = (putting l).put_kept-to.ensures in
     let p = first l in
     let k = p.before.before in
-    let o = (ordering k).is-msb.ensures in (
-      output-first _ _ _ (start k).pre.0.marked p.before.if1.left o p.piece-at.ensures _ (marking k).store4.ensures
-          u.1 u.0 (writing-out w e.if2.false),
-      r.put-row.ensures ∙ writing-table w e.if2.false,
+    let o = (ordering k).is_msb-msb.ensures in (
+      output-first _ _ _ (start k).requires.0.marked p.if-file-eq-MARKED.false o p.piece_at-range.ensures _ (marking k).store4.ensures
+          u.1 u.0 (writing-out w e.loop-range-test.false),
+      r.put_row.ensures ∙ writing-table w e.loop-range-test.false,
     )
 
-pub write-all-spec : {M : Type 1} → statement M
-write-all-spec =
+pub write_all_spec : {M : Type 1} → statement M
+write_all_spec =
     tie.close
     (tie.spec
     invariant-loop
     decreases-loop
-    (λ c κs. c.before.before.before.before.requires.0.marked)
+    (λ c κs. c.requires.0.marked)
     (λ c κs.
     let s = c.before.before.before.before.before.before in
     omega (arith, length-output s.args.file.now, s.requires.0.output))
     (λ c. (marking c.before).store4.kept.0)
     returns
-    (λ c κs. (omega (arith, (start c.before).pre.0.marked, c.if1.false), ready c.before))
+    (λ c κs. (omega (arith, (start c.before).requires.0.marked, c.if-file-eq-MARKED.false), ready c.before))
     put-kept-requires
     loop-holds
-    (λ c κs. (c.if2.true, ready (first c.before.before).before.before))
+    (λ c κs. (c.loop-range-test.true, ready (first c.before.before).before.before))
     put-kept-requires-2
-    (λ c κs. writing-row c.before.before.before.before.before.before.before.before.loop.invariant)
+    (λ c κs. writing-row c.loop-range.invariant)
     (λ c κs. search rules)
     loop-less
     loop-again
-    (λ c κs. writing-row c.before.before.before.loop.invariant)
+    (λ c κs. writing-row c.loop-range.invariant)
     same-length-2
     same-length-3
     returns-2)

@@ -17,31 +17,31 @@ use Rattle.samples.proofs.count_samples.Statement.{statement}
 use Rattle.samples.proofs.count_samples.Tie as tie
 
 -- a word passes at most 65,536 samples, so that their number stays below 2^32
-abbrev invariant-loop : tie.invariant-loop
+abbrev invariant-loop : tie.invariant-loop-p
 invariant-loop part msb count₀ p₀ count p =
     (p ≤ length part) × (4 * count ≤ 65536 * p)
     × (samples_from radix count (words_from 4 msb part p) ≡ samples_from radix 0 (all_words 4 msb part))
 
-abbrev decreases-loop : tie.decreases-loop
+abbrev decreases-loop : tie.decreases-loop-p
 decreases-loop part msb count₀ p₀ count p = length part - p
 
-loop-holds : tie.Need-loop-init invariant-loop decreases-loop
-loop-holds c = let a = c.before.args in (omega arith, omega arith, ap (samples_from radix 0) (from_all 4 a.msb a.part.now))
+loop-holds : tie.Need-loop-p-init invariant-loop decreases-loop
+loop-holds c = let a = c.args in (omega arith, omega arith, ap (samples_from radix 0) (from_all 4 a.msb a.part.now))
 
-few : (c : tie.After-is-run invariant-loop decreases-loop) → bool_byte c.is-run.result * (c.before.read4.result % 65536) < 65536
-few c = passes-few 65536 (lit< tt) c.is-run.result c.before.read4.result
+few : (c : tie.After-is_run invariant-loop decreases-loop) → bool_byte c.is_run.result * (c.read4-word.result % 65536) < 65536
+few c = passes-few 65536 (lit< tt) c.is_run.result c.read4-word.result
 
-loop-again : tie.Need-loop-preserved invariant-loop decreases-loop
+loop-again : tie.Need-loop-p-preserved invariant-loop decreases-loop
 loop-again c =
     let read = c.before in
     let test = read.before in
-    let l = test.before.loop in
-    let a = test.before.before.before.args in
-    let step = next 4 (lit< tt) a.msb a.part.now l.p read.read4.result test.loop-test.true read.read4.ensures in (
+    let l = test.loop-p in
+    let a = test.args in
+    let step = next 4 (lit< tt) a.msb a.part.now l.p read.read4-word.result test.loop-p-test.true read.read4-word.ensures in (
       omega arith,
       omega (arith, few c, l.invariant.1),
-      samples-turn radix (lit< tt) l.count read.read4.result (words_from 4 a.msb a.part.now (l.p + 4)) c.is-run.result
-          c.is-run.ensures
+      samples-turn radix (lit< tt) l.count read.read4-word.result (words_from 4 a.msb a.part.now (l.p + 4)) c.is_run.result
+          c.is_run.ensures
           ∙ ap (samples_from radix l.count) (sym step)
           ∙ l.invariant.2,
     )
@@ -49,13 +49,13 @@ loop-again c =
 returns : tie.Need-returns invariant-loop decreases-loop
 unfolding samples_from
 returns c =
-    let l = c.before.loop in
-    let a = c.before.before.before.args in
-    ap (samples_from radix l.count) (sym (from_end_lem 4 a.msb a.part.now l.p (lit< tt) (omega (arith, c.loop-test.false))))
+    let l = c.loop-p in
+    let a = c.args in
+    ap (samples_from radix l.count) (sym (from_end_lem 4 a.msb a.part.now l.p (lit< tt) (omega (arith, c.loop-p-test.false))))
     ∙ l.invariant.2
 
-pub count-samples-spec : {M : Type 1} → statement M
-count-samples-spec =
+pub count_samples_spec : {M : Type 1} → statement M
+count_samples_spec =
     tie.close
     (tie.spec
     invariant-loop

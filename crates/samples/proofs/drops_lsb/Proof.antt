@@ -14,35 +14,35 @@ use Rattle.samples.proofs.Judging.{any_drop, drop-first, drop-turn, drop_all, dr
 use Rattle.samples.proofs.drops_lsb.Statement.{statement}
 use Rattle.samples.proofs.drops_lsb.Tie as tie
 
-abbrev invariant-loop : tie.invariant-loop
+abbrev invariant-loop : tie.invariant-loop-p
 invariant-loop part last₀ bad₀ p₀ last bad p =
     (p ≤ length part) × ((bad || any_drop (last + 1) (rest_of wide false part p)) ≡ dropping (all_samples wide false part))
 
-abbrev decreases-loop : tie.decreases-loop
+abbrev decreases-loop : tie.decreases-loop-p
 decreases-loop part last₀ bad₀ p₀ last bad p = length part - p
 
-returns : tie.Need-returns invariant-loop decreases-loop
+returns : tie.Need-returns-then-part-lt-PAIR invariant-loop decreases-loop
 returns c =
-    let part = c.before.before.args.part.now in
-    sym (drop-none wide false part 0 0 c.if1.true) ∙ drop_all wide false part
+    let part = c.args.part.now in
+    sym (drop-none wide false part 0 0 c.if-part-lt-PAIR.true) ∙ drop_all wide false part
 
-loop-holds : tie.Need-loop-init invariant-loop decreases-loop
+loop-holds : tie.Need-loop-p-init invariant-loop decreases-loop
 loop-holds c =
-    let part = c.before.before.before.args.part.now in
-    (search rules, drop-first wide false part 0 _ (omega (arith, c.before.if1.false)) c.read4.ensures ∙ drop_all wide false part)
+    let part = c.args.part.now in
+    (search rules, drop-first wide false part 0 _ (omega (arith, c.if-part-lt-PAIR.false)) c.read4-last.ensures ∙ drop_all wide false part)
 
-loop-again : tie.Need-loop-preserved invariant-loop decreases-loop
+loop-again : tie.Need-loop-p-preserved invariant-loop decreases-loop
 loop-again c =
-    let l = c.before.before.loop in
-    (search rules, drop-turn wide _ _ _ _ c.before.loop-test.true c.read42.ensures l.bad l.last ∙ l.invariant.1)
+    let l = c.loop-p in
+    (search rules, drop-turn wide _ _ _ _ c.loop-p-test.true c.read4-number.ensures l.bad l.last ∙ l.invariant.1)
 
-returns-2 : tie.Need-returns-2 invariant-loop decreases-loop
+returns-2 : tie.Need-returns invariant-loop decreases-loop
 returns-2 c =
-    let l = c.before.loop in
-    sym (drop-end wide _ _ _ _ (omega (arith, c.loop-test.false)) l.bad) ∙ l.invariant.1
+    let l = c.loop-p in
+    sym (drop-end wide _ _ _ _ (omega (arith, c.loop-p-test.false)) l.bad) ∙ l.invariant.1
 
-pub drops-lsb-spec : {M : Type 1} → statement M
-drops-lsb-spec =
+pub drops_lsb_spec : {M : Type 1} → statement M
+drops_lsb_spec =
     tie.close
     (tie.spec
     invariant-loop

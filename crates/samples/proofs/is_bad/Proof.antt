@@ -8,5 +8,6 @@ returns : tie.Need-returns
 unfolding is_bad
 returns c = refl
 
-pub is-bad-spec : {M : Type 1} → statement M
-is-bad-spec = tie.close (tie.spec returns)
+pub is_bad_spec : {M : Type 1} → statement M
+is_bad_spec = tie.close (tie.spec
+    returns)

@@ -27,29 +27,29 @@ few : (o : Bool) (part : List ℕ) → length part ≤ 262112 → false ≡ ltb 
 few o part h = sym (le-ltb most (length (all_samples wide o part)) (omega (arith, samples-many wide o part)))
 
 -- the place is in the part, or just behind it
-add-fault-at : tie.Need-overflow-add-fault-at
-add-fault-at c = omega (arith, c.find-drop.ensures.1, c.before.before.before.before.requires)
+add-fault-at : tie.Need-overflow_add-find_drop
+add-fault-at c = omega (arith, c.find_drop.ensures.1, c.requires)
 
-returns : tie.Need-returns
+returns : tie.Need-returns-then-drops
 unfolding judged_samples
 returns c =
     let find = c.before in
     let drops = find.before.before in
     let start = drops.before.before in
-    c.fault-at.ensures
+    c.fault_at.ensures
     ∙ (λ i. said (few start.args.msb start.args.part.now start.requires i)
-    ((sym find.before.if1.true ∙ drops.drops.ensures) i) (find.find-drop.ensures.0 i))
+    ((sym find.if-drops.true ∙ drops.drops.ensures) i) (find.find_drop.ensures.0 i))
 
-returns-2 : tie.Need-returns-2
+returns-2 : tie.Need-returns
 unfolding judged_samples
 returns-2 c =
     let start = c.before.before.before in
     let a = start.args in
     ap₂ (λ (full t : Bool). said full t (8 * first_drop 0 (all_samples wide a.msb a.part.now)))
-    (few a.msb a.part.now start.requires) (sym c.if1.false ∙ c.before.drops.ensures)
+    (few a.msb a.part.now start.requires) (sym c.if-drops.false ∙ c.drops.ensures)
 
-pub judge-pairs-spec : {M : Type 1} → statement M
-judge-pairs-spec =
+pub judge_pairs_spec : {M : Type 1} → statement M
+judge_pairs_spec =
     tie.close
     (tie.spec
     (λ c κs. search rules)

@@ -16,48 +16,48 @@ use Rattle.samples.proofs.Handing.{Handing, handing_begin, handing_as, handing_o
 use Rattle.samples.proofs.read_pairs.Statement.{statement}
 use Rattle.samples.proofs.read_pairs.Tie as tie
 
-abbrev invariant-loop : tie.invariant-loop
+abbrev invariant-loop : tie.invariant-loop-p
 invariant-loop part msb numbers₀ values₀ entry₀ p₀ numbers values entry p =
     (p ≤ length part) × (8 * entry ≤ p)
     × Handing 4 (all_samples wide msb part) (rest_of wide msb part p) numbers₀ values₀ numbers values entry
 
-abbrev decreases-loop : tie.decreases-loop
+abbrev decreases-loop : tie.decreases-loop-p
 decreases-loop part msb numbers₀ values₀ entry₀ p₀ numbers values entry p = length part - p
 
-loop-holds : tie.Need-loop-init invariant-loop decreases-loop
-loop-holds c = let a = c.before.before.args in
-    (omega arith, omega arith, handing_as (sym (rest_all wide a.msb a.part.now)) (handing_begin c.before.before.requires))
+loop-holds : tie.Need-loop-p-init invariant-loop decreases-loop
+loop-holds c = let a = c.args in
+    (omega arith, omega arith, handing_as (sym (rest_all wide a.msb a.part.now)) (handing_begin c.requires))
 
 -- the pair here is the next to be handed over
 next : (c : tie.After-read4 invariant-loop decreases-loop) →
     let head = c.before.before in
-    let a = head.before.before.before.args in
-    let l = head.loop in
+    let a = head.args in
+    let l = head.loop-p in
     Handing 4 (all_samples wide a.msb a.part.now)
     ((c.read4.result, (sample_of wide a.msb (drop l.p a.part.now)).1) ∷ rest_of wide a.msb a.part.now (l.p + 8))
     a.numbers.now a.values.now l.numbers l.values l.entry
-next c = handing_as (next_sample wide _ _ _ _ c.before.loop-test.true c.read4.ensures) c.before.before.loop.invariant.2
+next c = handing_as (next_sample wide _ _ _ _ c.loop-p-test.true c.read4.ensures) c.loop-p.invariant.2
 
-slice-write-numbers : tie.Need-slice-write-numbers invariant-loop decreases-loop
+slice-write-numbers : tie.Need-bounds-numbers-entry invariant-loop decreases-loop
 slice-write-numbers c = entry-numbers (next c)
 
-slice-set-from-values : tie.Need-slice-set-from-values invariant-loop decreases-loop
+slice-set-from-values : tie.Need-bounds-values-entry invariant-loop decreases-loop
 slice-set-from-values c = entry-values (next c.before.before)
 
-loop-again : tie.Need-loop-preserved invariant-loop decreases-loop
+loop-again : tie.Need-loop-p-preserved invariant-loop decreases-loop
 loop-again c =
     let head = c.before.before.before.before in
-    let a = head.before.before.before.args in
+    let a = head.args in
     let v = to_z-of_z {w = w32} {z = c.signed4.result} (record { sfits = c.signed4.type-inv })
     ∙ c.signed4.ensures
-    ∙ ap (signed_of 4) (c.before.read42.ensures ∙ value-at wide refl a.msb a.part.now head.loop.p) in
+    ∙ ap (signed_of 4) (c.read4-in-loop-p.ensures ∙ value-at wide refl a.msb a.part.now head.loop-p.p) in
     (omega arith, omega arith, handing_one _ _ v (next c.before.before))
 
 returns : tie.Need-returns invariant-loop decreases-loop
-returns c = handing_end (handing_as (rest_end wide _ _ _ (omega (arith, c.loop-test.false))) c.before.loop.invariant.2)
+returns c = handing_end (handing_as (rest_end wide _ _ _ (omega (arith, c.loop-p-test.false))) c.loop-p.invariant.2)
 
-pub read-pairs-spec : {M : Type 1} → statement M
-read-pairs-spec =
+pub read_pairs_spec : {M : Type 1} → statement M
+read_pairs_spec =
     tie.close
     (tie.spec
     invariant-loop
@@ -76,6 +76,6 @@ read-pairs-spec =
     (λ c. search rules)
     (λ c. search rules)
     loop-again
-    (λ c. c.before.loop.invariant.2.long_numbers)
-    (λ c. c.before.loop.invariant.2.long_values)
+    (λ c. c.loop-p.invariant.2.long_numbers)
+    (λ c. c.loop-p.invariant.2.long_values)
     returns)

@@ -20,61 +20,61 @@ use Rattle.samples.proofs.read_words.Statement.{statement}
 use Rattle.samples.proofs.read_words.Tie as tie
 
 -- a word passes at most 65,536 samples, so that the sample's number stays below 2^32
-abbrev invariant-loop : tie.invariant-loop
+abbrev invariant-loop : tie.invariant-loop-p
 invariant-loop part msb numbers₀ values₀ number₀ entry₀ p₀ numbers values number entry p =
     (p ≤ length part) × (4 * entry ≤ p) × (4 * number ≤ 65536 * p)
     × Handing 4 (decode radix (all_words 4 msb part)) (decode_from radix number (words_from 4 msb part p)) numbers₀ values₀ numbers values
     entry
 
-abbrev decreases-loop : tie.decreases-loop
+abbrev decreases-loop : tie.decreases-loop-p
 decreases-loop part msb numbers₀ values₀ number₀ entry₀ p₀ numbers values number entry p = length part - p
 
-loop-holds : tie.Need-loop-init invariant-loop decreases-loop
+loop-holds : tie.Need-loop-p-init invariant-loop decreases-loop
 loop-holds c =
-    let a = c.before.before.args in (
+    let a = c.args in (
       omega arith,
       omega arith,
       omega arith,
-      handing_as (ap (decode_from radix 0) (sym (from_all 4 a.msb a.part.now))) (handing_begin c.before.before.requires.1),
+      handing_as (ap (decode_from radix 0) (sym (from_all 4 a.msb a.part.now))) (handing_begin c.requires.1),
     )
 
 -- the sample that a value gives is the next to be handed over
-value : (c : tie.Else1 invariant-loop decreases-loop) →
+value : (c : tie.Else-is_run invariant-loop decreases-loop) →
     let read = c.before.before in
     let head = read.before.before in
-    let a = head.before.before.before.args in
-    let l = head.loop in
+    let a = head.args in
+    let l = head.loop-p in
     Handing 4 (decode radix (all_words 4 a.msb a.part.now))
-    ((l.number, read.read4.result) ∷ decode_from radix (l.number + 1) (words_from 4 a.msb a.part.now (l.p + 4)))
+    ((l.number, read.read4-word.result) ∷ decode_from radix (l.number + 1) (words_from 4 a.msb a.part.now (l.p + 4)))
     a.numbers.now a.values.now l.numbers l.values l.entry
 value c =
     let run = c.before in
     let read = run.before in
     let head = read.before.before in
-    let step = next 4 (lit< tt) _ _ _ _ read.before.loop-test.true read.read4.ensures in
-    handing_as (ap (decode_from radix head.loop.number) step
-    ∙ decode-value radix (lit< tt) _ _ _ (sym run.is-run.ensures ∙ c.if1.false))
-    head.loop.invariant.3
+    let step = next 4 (lit< tt) _ _ _ _ read.loop-p-test.true read.read4-word.ensures in
+    handing_as (ap (decode_from radix head.loop-p.number) step
+    ∙ decode-value radix (lit< tt) _ _ _ (sym run.is_run.ensures ∙ c.if-is_run.false))
+    head.loop-p.invariant.3
 
-add-number : tie.Need-overflow-add-number invariant-loop decreases-loop
-add-number c = omega (arith, c.run_length.ensures, run_short radix (lit< tt) c.before.before.before.read4.result)
+add-number : tie.Need-overflow_add-number invariant-loop decreases-loop
+add-number c = omega (arith, c.run_length-number.ensures, run_short radix (lit< tt) c.read4-word.result)
 
-slice-write-numbers : tie.Need-slice-write-numbers invariant-loop decreases-loop
+slice-write-numbers : tie.Need-bounds-numbers-entry invariant-loop decreases-loop
 slice-write-numbers c = entry-numbers (value c)
 
-slice-set-from-values : tie.Need-slice-set-from-values invariant-loop decreases-loop
+slice-set-from-values : tie.Need-bounds-values-entry invariant-loop decreases-loop
 slice-set-from-values c = entry-values (value c.before)
 
-loop-again : tie.Need-loop-preserved invariant-loop decreases-loop
+loop-again : tie.Need-loop-p-preserved invariant-loop decreases-loop
 loop-again c =
     let run = c.before in
     let read = run.before in
-    let l = read.before.before.loop in
-    let word = read.read4.result in
-    let step = next 4 (lit< tt) _ _ _ _ read.before.loop-test.true read.read4.ensures in
+    let l = read.loop-p in
+    let word = read.read4-word.result in
+    let step = next 4 (lit< tt) _ _ _ _ read.loop-p-test.true read.read4-word.ensures in
     ⊎_elim
     (λ w.
-    let d = ap (decode_from radix l.number) step ∙ decode-run radix (lit< tt) _ word _ (sym run.is-run.ensures ∙ w.0.taken) in (
+    let d = ap (decode_from radix l.number) step ∙ decode-run radix (lit< tt) _ word _ (sym run.is_run.ensures ∙ w.0.true) in (
       omega arith,
       omega (arith, w.5),
       omega (arith, w.4, w.1.ensures, run_short radix (lit< tt) word),
@@ -85,19 +85,19 @@ loop-again c =
       omega arith,
       omega (arith, w.5),
       omega (arith, w.4),
-      rw (w.2, w.3, w.4, w.5) (handing_one _ _ v (value (record { before = run; if1 = w.0 }))),
+      rw (w.2, w.3, w.4, w.5) (handing_one _ _ v (value (record { before = run; if-is_run = w.0 }))),
     ))
-    c.if1.branch
+    c.if-is_run.branch
 
 returns : tie.Need-returns invariant-loop decreases-loop
 unfolding decode_from
 returns c =
-    let l = c.before.loop in
-    handing_end (handing_as (ap (decode_from radix l.number) (from_end_lem 4 _ _ _ (lit< tt) (omega (arith, c.loop-test.false))))
+    let l = c.loop-p in
+    handing_end (handing_as (ap (decode_from radix l.number) (from_end_lem 4 _ _ _ (lit< tt) (omega (arith, c.loop-p-test.false))))
     l.invariant.3)
 
-pub read-words-spec : {M : Type 1} → statement M
-read-words-spec =
+pub read_words_spec : {M : Type 1} → statement M
+read_words_spec =
     tie.close
     (tie.spec
     invariant-loop
@@ -118,6 +118,6 @@ read-words-spec =
     (λ c. search rules)
     (λ c. search rules)
     loop-again
-    (λ c. c.before.loop.invariant.3.long_numbers)
-    (λ c. c.before.loop.invariant.3.long_values)
+    (λ c. c.loop-p.invariant.3.long_numbers)
+    (λ c. c.loop-p.invariant.3.long_values)
     returns)

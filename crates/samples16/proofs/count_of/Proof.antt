@@ -12,32 +12,32 @@ use Rattle.samples16.proofs.Laws.{minus, minus-fits}
 use Rattle.samples16.proofs.count_of.Statement.{statement}
 use Rattle.samples16.proofs.count_of.Tie as tie
 
-returns : tie.Need-returns
+returns : tie.Need-returns-then-word-lt32768
 returns c =
     let start = c.before.before in
-    let n = c.magnitude-of.result in
-    to_z_pos w32 n (omega (arith, c.magnitude-of.ensures.1))
-    ∙ ap pos c.magnitude-of.ensures.0
-    ∙ sym (count_plus start.args.word c.before.if1.true)
+    let n = c.magnitude_of.result in
+    to_z_pos w32 n (omega (arith, c.magnitude_of.ensures.1))
+    ∙ ap pos c.magnitude_of.ensures.0
+    ∙ sym (count_plus start.args.word c.if-word-lt32768.true)
 
 -- as much below nothing
-below : (c : tie.After-magnitude-of2) → pos 0 -ℤ to_z w32 c.magnitude-of2.result ≡ negated c.magnitude-of2.result
+below : (c : tie.After-magnitude_of-2) → pos 0 -ℤ to_z w32 c.magnitude_of-2.result ≡ negated c.magnitude_of-2.result
 below c =
-    let n = c.magnitude-of2.result in
-    ap (λ z. pos 0 -ℤ z) (to_z_pos w32 n (omega (arith, c.magnitude-of2.ensures.1))) ∙ minus n
+    let n = c.magnitude_of-2.result in
+    ap (λ z. pos 0 -ℤ z) (to_z_pos w32 n (omega (arith, c.magnitude_of-2.ensures.1))) ∙ minus n
 
-sub-result : tie.Need-overflow-sub-result
-sub-result c = subst (SFits w32) (sym (below c)) (minus-fits c.magnitude-of2.result c.magnitude-of2.ensures.1)
+sub-result : tie.Need-overflow_sub-result
+sub-result c = subst (SFits w32) (sym (below c)) (minus-fits c.magnitude_of-2.result c.magnitude_of-2.ensures.1)
 
-returns-2 : tie.Need-returns-2
+returns-2 : tie.Need-returns
 returns-2 c =
     to_z-of_z w32 _ (sub-result c)
     ∙ below c
-    ∙ ap negated c.magnitude-of2.ensures.0
-    ∙ sym (count-minus c.before.before.args.word c.before.if1.false)
+    ∙ ap negated c.magnitude_of-2.ensures.0
+    ∙ sym (count-minus c.args.word c.if-word-lt32768.false)
 
-pub count-of-spec : {M : Type 1} → statement M
-count-of-spec =
+pub count_of_spec : {M : Type 1} → statement M
+count_of_spec =
     tie.close
     (tie.spec
     (λ c κs. search rules)

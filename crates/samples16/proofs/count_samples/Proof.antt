@@ -17,31 +17,31 @@ use Rattle.samples16.proofs.count_samples.Statement.{statement}
 use Rattle.samples16.proofs.count_samples.Tie as tie
 
 -- a word passes at most 256 samples, so that their number stays below 2^32
-abbrev invariant-loop : tie.invariant-loop
+abbrev invariant-loop : tie.invariant-loop-p
 invariant-loop part msb count₀ p₀ count p =
     (p ≤ length part) × (2 * count ≤ 256 * p)
     × (samples_from 256 count (words_from 2 msb part p) ≡ samples_from 256 0 (all_words 2 msb part))
 
-abbrev decreases-loop : tie.decreases-loop
+abbrev decreases-loop : tie.decreases-loop-p
 decreases-loop part msb count₀ p₀ count p = length part - p
 
-loop-holds : tie.Need-loop-init invariant-loop decreases-loop
-loop-holds c = let a = c.before.args in (omega arith, omega arith, ap (samples_from 256 0) (from_all 2 a.msb a.part.now))
+loop-holds : tie.Need-loop-p-init invariant-loop decreases-loop
+loop-holds c = let a = c.args in (omega arith, omega arith, ap (samples_from 256 0) (from_all 2 a.msb a.part.now))
 
-few : (c : tie.After-is-run invariant-loop decreases-loop) → bool_byte c.is-run.result * (c.before.read2.result % 256) < 256
-few c = passes-few 256 (lit< tt) c.is-run.result c.before.read2.result
+few : (c : tie.After-is_run invariant-loop decreases-loop) → bool_byte c.is_run.result * (c.read2-word.result % 256) < 256
+few c = passes-few 256 (lit< tt) c.is_run.result c.read2-word.result
 
-loop-again : tie.Need-loop-preserved invariant-loop decreases-loop
+loop-again : tie.Need-loop-p-preserved invariant-loop decreases-loop
 loop-again c =
     let read = c.before in
     let test = read.before in
-    let l = test.before.loop in
-    let a = test.before.before.before.args in
-    let step = next 2 (lit< tt) a.msb a.part.now l.p read.read2.result test.loop-test.true read.read2.ensures in (
+    let l = test.loop-p in
+    let a = test.args in
+    let step = next 2 (lit< tt) a.msb a.part.now l.p read.read2-word.result test.loop-p-test.true read.read2-word.ensures in (
       omega arith,
       omega (arith, few c, l.invariant.1),
-      samples-turn 256 (lit< tt) l.count read.read2.result (words_from 2 a.msb a.part.now (l.p + 2)) c.is-run.result
-          c.is-run.ensures
+      samples-turn 256 (lit< tt) l.count read.read2-word.result (words_from 2 a.msb a.part.now (l.p + 2)) c.is_run.result
+          c.is_run.ensures
           ∙ ap (samples_from 256 l.count) (sym step)
           ∙ l.invariant.2,
     )
@@ -49,13 +49,13 @@ loop-again c =
 returns : tie.Need-returns invariant-loop decreases-loop
 unfolding samples_from
 returns c =
-    let l = c.before.loop in
-    let a = c.before.before.before.args in
-    ap (samples_from 256 l.count) (sym (from_end_lem 2 a.msb a.part.now l.p (lit< tt) (omega (arith, c.loop-test.false))))
+    let l = c.loop-p in
+    let a = c.args in
+    ap (samples_from 256 l.count) (sym (from_end_lem 2 a.msb a.part.now l.p (lit< tt) (omega (arith, c.loop-p-test.false))))
     ∙ l.invariant.2
 
-pub count-samples-spec : {M : Type 1} → statement M
-count-samples-spec =
+pub count_samples_spec : {M : Type 1} → statement M
+count_samples_spec =
     tie.close
     (tie.spec
     invariant-loop

@@ -14,11 +14,15 @@ of-kind : (c : tie.Start) (angles : Bool) → c.args.angles ≡ angles →
     dropping (all_samples (plain_by angles) a.msb a.part.now) ≡ dropping (all_samples (plain_by a.angles) a.msb a.part.now)
 of-kind c angles e = let a = c.args in ap (λ (b : Bool). dropping (all_samples (plain_by b) a.msb a.part.now)) (sym e)
 
-returns : tie.Need-returns
-returns c = c.drops-triples.ensures ∙ of-kind c.before.before.before _ c.before.if1.true
+returns : tie.Need-returns-then-angles
+returns c = c.drops_triples.ensures ∙ of-kind c.before.before.before _ c.if-angles.true
 
-returns-2 : tie.Need-returns-2
-returns-2 c = c.drops-pairs.ensures ∙ of-kind c.before.before.before _ c.before.if1.false
+returns-2 : tie.Need-returns
+returns-2 c = c.drops_pairs.ensures ∙ of-kind c.before.before.before _ c.if-angles.false
 
-pub drops-spec : {M : Type 1} → statement M
-drops-spec = tie.close (tie.spec (λ c κs. search rules) returns (λ c κs. search rules) returns-2)
+pub drops_spec : {M : Type 1} → statement M
+drops_spec = tie.close (tie.spec
+    (λ c κs. search rules)
+    returns
+    (λ c κs. search rules)
+    returns-2)

@@ -18,67 +18,67 @@ use Rattle.samples16.proofs.Ranks.{rise_turn}
 use Rattle.samples16.proofs.drops_pairs.Statement.{statement}
 use Rattle.samples16.proofs.drops_pairs.Tie as tie
 
-abbrev invariant-loop : tie.invariant-loop
+abbrev invariant-loop : tie.invariant-loop-p
 invariant-loop part msb last₀ rises₀ p₀ last rises p =
     (4 ≤ p) × (p ≤ length part) × (p % 4 ≡ 0) × (rises ≤ p / 4 - 1) × (last ≡ rank_of msb (word_at 2 msb part (p - 4)))
     × ((not (eqb rises (p / 4 - 1)) || any_drop (word_at 2 msb part (p - 4) + 1) (rest_of narrow msb part p))
     ≡ dropping (all_samples narrow msb part))
 
-abbrev decreases-loop : tie.decreases-loop
+abbrev decreases-loop : tie.decreases-loop-p
 decreases-loop part msb last₀ rises₀ p₀ last rises p = length part - p
 
-returns : tie.Need-returns invariant-loop decreases-loop
+returns : tie.Need-returns-then-part-lt-PAIR invariant-loop decreases-loop
 returns c =
-    let a = c.before.before.args in
-    sym (drop-none narrow a.msb a.part.now 0 0 c.if1.true) ∙ drop_all narrow a.msb a.part.now
+    let a = c.args in
+    sym (drop-none narrow a.msb a.part.now 0 0 c.if-part-lt-PAIR.true) ∙ drop_all narrow a.msb a.part.now
 
-loop-holds : tie.Need-loop-init invariant-loop decreases-loop
+loop-holds : tie.Need-loop-p-init invariant-loop decreases-loop
 loop-holds c =
-    let a = c.before.before.before.args in (
+    let a = c.args in (
       omega arith,
-      omega (arith, c.before.if1.false),
+      omega (arith, c.if-part-lt-PAIR.false),
       refl,
       omega arith,
-      c.rank.ensures,
-      drop-first narrow a.msb a.part.now 0 _ (omega (arith, c.before.if1.false)) refl
+      c.rank-last.ensures,
+      drop-first narrow a.msb a.part.now 0 _ (omega (arith, c.if-part-lt-PAIR.false)) refl
           ∙ drop_all narrow a.msb a.part.now,
     )
 
 -- at most one more has risen
-one : (c : tie.After-rank2 invariant-loop decreases-loop) → bool_byte (ltb c.before.before.loop.last c.rank2.result) ≤ 1
-one c = counts-one (ltb c.before.before.loop.last c.rank2.result)
+one : (c : tie.After-rank-next invariant-loop decreases-loop) → bool_byte (ltb c.loop-p.last c.rank-next.result) ≤ 1
+one c = counts-one (ltb c.loop-p.last c.rank-next.result)
 
-add-rises : tie.Need-overflow-add-rises invariant-loop decreases-loop
+add-rises : tie.Need-overflow_add-rises invariant-loop decreases-loop
 add-rises c =
     let head = c.before.before in
-    omega (arith, one c, head.loop.invariant.1, head.loop.invariant.3, head.before.before.before.before.requires)
+    omega (arith, one c, head.loop-p.invariant.1, head.loop-p.invariant.3, head.requires)
 
-loop-again : tie.Need-loop-preserved invariant-loop decreases-loop
+loop-again : tie.Need-loop-p-preserved invariant-loop decreases-loop
 loop-again c =
     let head = c.before.before in
-    let l = head.loop in
-    let a = head.before.before.before.before.args in
+    let l = head.loop-p in
+    let a = head.args in
     let back : l.p + 4 - 4 ≡ l.p = omega arith in
     let passed : (l.p + 4) / 4 - 1 ≡ l.p / 4 - 1 + 1 = omega arith in (
       omega arith,
-      omega (arith, c.before.loop-test.true),
+      omega (arith, c.loop-p-test.true),
       omega (arith, l.invariant.2),
       omega (arith, one c, l.invariant.3, passed),
-      rw back c.rank2.ensures,
-      rw (back, passed, l.invariant.4, c.rank2.ensures)
-          (rise_turn narrow a.msb a.part.now l.p _ c.before.loop-test.true refl l.rises (l.p / 4 - 1) _ l.invariant.3
+      rw back c.rank-next.ensures,
+      rw (back, passed, l.invariant.4, c.rank-next.ensures)
+          (rise_turn narrow a.msb a.part.now l.p _ c.loop-p-test.true refl l.rises (l.p / 4 - 1) _ l.invariant.3
           ∙ l.invariant.5),
     )
 
-returns-2 : tie.Need-returns-2 invariant-loop decreases-loop
+returns-2 : tie.Need-returns invariant-loop decreases-loop
 returns-2 c =
-    let l = c.before.loop in
-    let a = c.before.before.before.before.before.args in
-    let all : length a.part.now / 4 - 1 ≡ l.p / 4 - 1 = omega (arith, l.invariant.2, c.loop-test.false) in
-    rw all (sym (drop-end narrow _ _ _ _ (omega (arith, c.loop-test.false)) (not (eqb l.rises (l.p / 4 - 1)))) ∙ l.invariant.5)
+    let l = c.loop-p in
+    let a = c.args in
+    let all : length a.part.now / 4 - 1 ≡ l.p / 4 - 1 = omega (arith, l.invariant.2, c.loop-p-test.false) in
+    rw all (sym (drop-end narrow _ _ _ _ (omega (arith, c.loop-p-test.false)) (not (eqb l.rises (l.p / 4 - 1)))) ∙ l.invariant.5)
 
-pub drops-pairs-spec : {M : Type 1} → statement M
-drops-pairs-spec =
+pub drops_pairs_spec : {M : Type 1} → statement M
+drops_pairs_spec =
     tie.close
     (tie.spec
     invariant-loop

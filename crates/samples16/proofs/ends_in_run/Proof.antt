@@ -15,9 +15,13 @@ returns c =
     let read = c.before in
     let start = read.before.before in
     let a = start.args in
-    c.is-run.ensures
+    c.is_run.ensures
     ∙ ap (λ (w : ℕ). is_run 256 w) read.read2.ensures
     ∙ ends_last 256 2 (length a.part.now / 2 - 1) (lit< tt) a.msb a.part.now (omega (arith, start.requires))
 
-pub ends-in-run-spec : {M : Type 1} → statement M
-ends-in-run-spec = tie.close (tie.spec (λ c. search rules) (λ c κs. search rules) (λ c κs. search rules) returns)
+pub ends_in_run_spec : {M : Type 1} → statement M
+ends_in_run_spec = tie.close (tie.spec
+    (λ c. search rules)
+    (λ c κs. search rules)
+    (λ c κs. search rules)
+    returns)

@@ -16,61 +16,61 @@ use Rattle.samples16.proofs.Laws.{outside}
 use Rattle.samples16.proofs.find_bad.Statement.{statement}
 use Rattle.samples16.proofs.find_bad.Tie as tie
 
-abbrev invariant-loop : tie.invariant-loop
+abbrev invariant-loop : tie.invariant-loop-at
 invariant-loop part msb encoded most at₀ at =
     (at ≤ length part)
     × (at + 2 * first_bad (words_by encoded) (words_from 2 msb part at) ≡ 2 * first_bad (words_by encoded) (all_words 2 msb part))
 
-abbrev decreases-loop : tie.decreases-loop
+abbrev decreases-loop : tie.decreases-loop-at
 decreases-loop part msb encoded most at₀ at = length part - at
 
-loop-holds : tie.Need-loop-init invariant-loop decreases-loop
+loop-holds : tie.Need-loop-at-init invariant-loop decreases-loop
 loop-holds c =
-    let a = c.before.before.args in
+    let a = c.args in
     (search rules, omega (arith, ap (first_bad (words_by a.encoded)) (from_all 2 a.msb a.part.now)))
 
 -- whether the word here is outside the limits
-bad-here : (c : tie.After-is-bad invariant-loop decreases-loop) →
+bad-here : (c : tie.After-is_bad invariant-loop decreases-loop) →
     let read = c.before in
-    c.is-bad.result ≡ is_bad (words_by read.before.before.before.before.before.args.encoded) read.read2.result
+    c.is_bad.result ≡ is_bad (words_by read.args.encoded) read.read2.result
 bad-here c =
     let read = c.before in
     let known = read.before.before.before in
-    outside known.before.before.args.encoded read.read2.result _ _ c.is-bad.ensures known.most-bad.ensures
+    outside known.args.encoded read.read2.result _ _ c.is_bad.ensures known.most_bad-most.ensures
 
-returns : tie.Need-returns invariant-loop decreases-loop
+returns : tie.Need-returns-then-is_bad invariant-loop decreases-loop
 returns c =
     let bad = c.before in
     let read = bad.before in
     let head = read.before.before in
-    let a = head.before.before.before.args in
-    let l = head.loop in
+    let a = head.args in
+    let l = head.loop-at in
     let here =
-    bad-there 2 (lit< tt) a.msb a.part.now l.at read.read2.result read.before.loop-test.true read.read2.ensures
-    (words_by a.encoded) (sym (bad-here bad) ∙ c.if1.true) in
+    bad-there 2 (lit< tt) a.msb a.part.now l.at read.read2.result read.loop-at-test.true read.read2.ensures
+    (words_by a.encoded) (sym (bad-here bad) ∙ c.if-is_bad.true) in
     (omega (arith, here, l.invariant.1), omega (arith, l.invariant.0))
 
-loop-again : tie.Need-loop-preserved invariant-loop decreases-loop
+loop-again : tie.Need-loop-at-preserved invariant-loop decreases-loop
 loop-again c =
     let bad = c.before in
     let read = bad.before in
     let head = read.before.before in
-    let a = head.before.before.before.args in
-    let l = head.loop in
+    let a = head.args in
+    let l = head.loop-at in
     let later =
-    bad-behind 2 (lit< tt) a.msb a.part.now l.at read.read2.result read.before.loop-test.true read.read2.ensures
-    (words_by a.encoded) (sym (bad-here bad) ∙ c.if1.false) in
+    bad-behind 2 (lit< tt) a.msb a.part.now l.at read.read2.result read.loop-at-test.true read.read2.ensures
+    (words_by a.encoded) (sym (bad-here bad) ∙ c.if-is_bad.false) in
     (search rules, omega (arith, later, l.invariant.1))
 
-returns-2 : tie.Need-returns-2 invariant-loop decreases-loop
+returns-2 : tie.Need-returns invariant-loop decreases-loop
 returns-2 c =
-    let a = c.before.before.before.before.args in
-    let l = c.before.loop in
-    let none = bad-none 2 (lit< tt) a.msb a.part.now l.at c.loop-test.false (words_by a.encoded) in
+    let a = c.args in
+    let l = c.loop-at in
+    let none = bad-none 2 (lit< tt) a.msb a.part.now l.at c.loop-at-test.false (words_by a.encoded) in
     (omega (arith, none, l.invariant.1), omega (arith, l.invariant.0))
 
-pub find-bad-spec : {M : Type 1} → statement M
-find-bad-spec =
+pub find_bad_spec : {M : Type 1} → statement M
+find_bad_spec =
     tie.close
     (tie.spec
     invariant-loop

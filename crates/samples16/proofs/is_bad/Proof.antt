@@ -3,5 +3,6 @@ use mathlib.Core.Path.{refl}
 use Rattle.samples16.proofs.is_bad.Statement.{statement}
 use Rattle.samples16.proofs.is_bad.Tie as tie
 
-pub is-bad-spec : {M : Type 1} → statement M
-is-bad-spec = tie.close (tie.spec (λ c. refl))
+pub is_bad_spec : {M : Type 1} → statement M
+is_bad_spec = tie.close (tie.spec
+    (λ c. refl))

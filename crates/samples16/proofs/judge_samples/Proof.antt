@@ -25,49 +25,49 @@ abbrev said : Bool → Bool → ℕ → Verdict
 said full t p = judged ((full ⇒ 11 byte 0) ∷ (t ⇒ 23 byte (first_sample + p)) ∷ [])
 
 -- the code counts as many samples as there are
-many : (c : tie.After-sample-bytes) →
-    let a = c.before.before.args in
-    length a.part.now / c.sample-bytes.result ≡ length (all_samples (plain_by a.angles) a.msb a.part.now)
+many : (c : tie.After-sample_bytes) →
+    let a = c.args in
+    length a.part.now / c.sample_bytes.result ≡ length (all_samples (plain_by a.angles) a.msb a.part.now)
 many c =
-    let a = c.before.before.args in
-    ap (λ (n : ℕ). length a.part.now / n) c.sample-bytes.ensures.0
+    let a = c.args in
+    ap (λ (n : ℕ). length a.part.now / n) c.sample_bytes.ensures.0
     ∙ sym (samples-many (plain_by a.angles) a.msb a.part.now)
 
 -- what they say of these samples
-all_said : (c : tie.After-sample-bytes) (full t : Bool) (p : ℕ) →
-    let a = c.before.before.args in
+all_said : (c : tie.After-sample_bytes) (full t : Bool) (p : ℕ) →
+    let a = c.args in
     let f = plain_by a.angles in
     let s = all_samples f a.msb a.part.now in
-    full ≡ ltb most (length a.part.now / c.sample-bytes.result) → t ≡ dropping s → p ≡ sample_bytes f * first_drop 0 s
+    full ≡ ltb most (length a.part.now / c.sample_bytes.result) → t ≡ dropping s → p ≡ sample_bytes f * first_drop 0 s
     → said full t p ≡ judged_samples f a.msb a.part.now
 unfolding judged_samples
 all_said c full t p l d e = λ i. said ((l ∙ ap (ltb most) (many c)) i) (d i) (e i)
 
-returns : tie.Need-returns
+returns : tie.Need-returns-then-part-sample_bytes-gt-MOST
 returns c =
     let rule = c.before in
-    c.fault.ensures ∙ all_said rule.before true _ _ (sym (lt-ltb most _ rule.if1.true)) refl refl
+    c.fault.ensures ∙ all_said rule.before true _ _ (sym (lt-ltb most _ rule.if-part-sample_bytes-gt-MOST.true)) refl refl
 
 -- the place is in the part, or just behind it
-add-fault-at : tie.Need-overflow-add-fault-at
-add-fault-at c = omega (arith, c.find-drop.ensures.1, c.before.before.before.before.before.before.requires)
+add-fault-at : tie.Need-overflow_add-find_drop
+add-fault-at c = omega (arith, c.find_drop.ensures.1, c.requires)
 
-returns-2 : tie.Need-returns-2
+returns-2 : tie.Need-returns-then-drops
 returns-2 c =
     let find = c.before in
     let drops = find.before.before in
     let few = drops.before in
-    c.fault-at.ensures
-    ∙ all_said few.before false true _ (sym (le-ltb most _ few.if1.false)) (sym find.before.if2.true ∙ drops.drops.ensures)
-    find.find-drop.ensures.0
+    c.fault_at.ensures
+    ∙ all_said few.before false true _ (sym (le-ltb most _ few.if-part-sample_bytes-gt-MOST.false)) (sym find.if-drops.true ∙ drops.drops.ensures)
+    find.find_drop.ensures.0
 
-returns-3 : tie.Need-returns-3
+returns-3 : tie.Need-returns
 returns-3 c =
     let few = c.before.before in
-    all_said few.before false false _ (sym (le-ltb most _ few.if1.false)) (sym c.if2.false ∙ c.before.drops.ensures) refl
+    all_said few.before false false _ (sym (le-ltb most _ few.if-part-sample_bytes-gt-MOST.false)) (sym c.if-drops.false ∙ c.drops.ensures) refl
 
-pub judge-samples-spec : {M : Type 1} → statement M
-judge-samples-spec =
+pub judge_samples_spec : {M : Type 1} → statement M
+judge_samples_spec =
     tie.close
     (tie.spec
     (λ c κs. search rules)

@@ -20,115 +20,115 @@ use Rattle.samples16.proofs.Laws.{bad-held, ruled, said-words, words-many}
 use Rattle.samples16.proofs.judge_words.Statement.{statement}
 use Rattle.samples16.proofs.judge_words.Tie as tie
 
-words-end-requires : tie.Need-words-end-requires
-words-end-requires c κs = let start = c.before.before in (start.requires.0, (start.requires.1.0, c.look.ensures.0))
+words-end-requires : tie.Need-words_end-end-requires
+words-end-requires c κs = let start = c.before.before in (start.requires.0, (start.requires.1.0, c.look-seen.ensures.0))
 
 -- the words that are held, and their values
-abbrev these : tie.After-words-end → List ℕ
+abbrev these : tie.After-words_end-end → List ℕ
 these c =
-    let a = c.before.before.before.args in
+    let a = c.args in
     held_words narrow a.count (all_words 2 a.msb a.part.now)
 
-abbrev lettered : tie.After-words-end → Family
-lettered c = words_by c.before.before.before.args.encoded
+abbrev lettered : tie.After-words_end-end → Family
+lettered c = words_by c.args.encoded
 
-sub-values : tie.Need-overflow-sub-values
-sub-values c = omega (arith, c.words-end.ensures.1.1)
+sub-values : tie.Need-overflow_sub-values
+sub-values c = omega (arith, c.words_end-end.ensures.1.1)
 
-valued : (c : tie.After-words-end) →
-    let a = c.before.before.before.args in
-    c.before.look.result.values - bool_byte (ltb c.words-end.result (length a.part.now)) ≡ values 256 (these c)
-valued c = omega (arith, c.words-end.ensures.1.1)
+valued : (c : tie.After-words_end-end) →
+    let a = c.args in
+    c.look-seen.result.values - bool_byte (ltb c.words_end-end.result (length a.part.now)) ≡ values 256 (these c)
+valued c = omega (arith, c.words_end-end.ensures.1.1)
 
 -- they end where the code says
-ended : (c : tie.After-words-end) → 2 * length (these c) ≡ c.words-end.result
+ended : (c : tie.After-words_end-end) → 2 * length (these c) ≡ c.words_end-end.result
 ended c =
-    let a = c.before.before.before.args in
-    let near = c.words-end.ensures.1.0 in
-    let many = words-many a.msb c.words-end.result a.part.now near.0 in
-    omega (arith, many, near.2, ap length c.words-end.ensures.0)
+    let a = c.args in
+    let near = c.words_end-end.ensures.1.0 in
+    let many = words-many a.msb c.words_end-end.result a.part.now near.0 in
+    omega (arith, many, near.2, ap length c.words_end-end.ensures.0)
 
 -- the first bad one of them, as it is looked for
-placed : (c : tie.After-find-bad) →
+placed : (c : tie.After-find_bad-at) →
     let w = c.before.before.before.before in
-    c.find-bad.result ≡ 2 * first_bad (lettered w) (these w)
+    c.find_bad-at.result ≡ 2 * first_bad (lettered w) (these w)
 placed c =
     let w = c.before.before.before.before in
-    let a = w.before.before.before.args in
-    let whole : w.words-end.result - 0 ≡ w.words-end.result = omega arith in
-    c.find-bad.ensures.0
+    let a = w.args in
+    let whole : w.words_end-end.result - 0 ≡ w.words_end-end.result = omega arith in
+    c.find_bad-at.ensures.0
     ∙ ap (λ (ws : List ℕ). 2 * first_bad (lettered w) ws)
-    (ap (λ (n : ℕ). all_words 2 a.msb (take n a.part.now)) whole ∙ w.words-end.ensures.0)
+    (ap (λ (n : ℕ). all_words 2 a.msb (take n a.part.now)) whole ∙ w.words_end-end.ensures.0)
 
 -- what the rules say
-said : (c : tie.After-words-end) (full bad other : Bool) (p : ℕ) → full ≡ ltb most (values 256 (these c))
+said : (c : tie.After-words_end-end) (full bad other : Bool) (p : ℕ) → full ≡ ltb most (values 256 (these c))
     → bad ≡ any_bad (lettered c) (these c) → p ≡ 2 * first_bad (lettered c) (these c)
-    → other ≡ not (eqb c.before.before.before.args.count (values 256 (these c)))
-    → let a = c.before.before.before.args in
+    → other ≡ not (eqb c.args.count (values 256 (these c)))
+    → let a = c.args in
     ruled full bad p other ≡ judged_words (lettered c) a.msb a.count a.part.now
 said c full bad other p f b h o =
-    let a = c.before.before.before.args in
+    let a = c.args in
     (λ i. ruled (f i) (b i) (h i) (o i)) ∙ said-words a.encoded a.msb a.count a.part.now (these c) refl
 
 -- at most as many values as a ping holds
-few : (c : tie.Else1) → false ≡ ltb most (values 256 (these c.before))
-few c = sym (le-ltb most _ c.if1.false) ∙ ap (ltb most) (valued c.before)
+few : (c : tie.Else-values-gt-MOST) → false ≡ ltb most (values 256 (these c.before))
+few c = sym (le-ltb most _ c.if-values-gt-MOST.false) ∙ ap (ltb most) (valued c.before)
 
 -- none of them is bad: none of all is, or the first stands behind them
-good : (c : tie.Joined2) → false ≡ any_bad (lettered c.before.before) (these c.before.before)
+good : (c : tie.Joined-seen) → false ≡ any_bad (lettered c.before.before) (these c.before.before)
 good c =
     let w = c.before.before in
-    let a = w.before.before.before.args in
+    let a = w.args in
     ⊎_elim
     (λ x.
-    let found : tie.After-find-bad-arg =
-    record { before = record { before = c.before; if2 = x.0 }; find-bad-arg = x.1 } in
-    let p = placed (record { before = found; find-bad = x.2 }) in
-    sym (le-ltb (first_bad (lettered w) (these w)) (length (these w)) (omega (arith, x.3.left, p, ended w))))
-    (λ x. sym (bad-held (lettered w) a.count (all_words 2 a.msb a.part.now) (sym w.before.look.ensures.1.0 ∙ x.left)))
-    c.if2.branch
+    let found : tie.After-find_bad-arg-1 =
+    record { before = record { before = c.before; if-seen = x.0 }; find_bad-arg-1 = x.1 } in
+    let p = placed (record { before = found; find_bad-at = x.2 }) in
+    sym (le-ltb (first_bad (lettered w) (these w)) (length (these w)) (omega (arith, x.3.false, p, ended w))))
+    (λ x. sym (bad-held (lettered w) a.count (all_words 2 a.msb a.part.now) (sym w.look-seen.ensures.1.0 ∙ x.false)))
+    c.if-seen.branch
 
-returns : tie.Need-returns
+returns : tie.Need-returns-then-values-gt-MOST
 returns c =
     let w = c.before.before in
     c.fault.ensures
-    ∙ said w true _ _ _ (sym (lt-ltb most _ c.before.if1.true) ∙ ap (ltb most) (valued w)) refl refl refl
+    ∙ said w true _ _ _ (sym (lt-ltb most _ c.if-values-gt-MOST.true) ∙ ap (ltb most) (valued w)) refl refl refl
 
 -- the place is in the part
-add-fault-at : tie.Need-overflow-add-fault-at
+add-fault-at : tie.Need-overflow_add-at
 add-fault-at c =
     let w = c.before.before.before.before.before in
-    omega (arith, c.if3.true, w.words-end.ensures.1.0, w.before.before.before.requires)
+    omega (arith, c.if-at-end.true, w.words_end-end.ensures.1.0, w.requires)
 
-returns-2 : tie.Need-returns-2
+returns-2 : tie.Need-returns-then-at-end
 returns-2 c =
     let find = c.before.before in
     let rule = find.before.before.before in
     let w = rule.before in
     let p = placed find in
-    let there = lt-ltb (first_bad (lettered w) (these w)) (length (these w)) (omega (arith, c.before.if3.true, p, ended w)) in
-    c.fault-at.ensures ∙ said w false true _ _ (few rule) (sym there) p refl
+    let there = lt-ltb (first_bad (lettered w) (these w)) (length (these w)) (omega (arith, c.if-at-end.true, p, ended w)) in
+    c.fault_at.ensures ∙ said w false true _ _ (few rule) (sym there) p refl
 
-returns-3 : tie.Need-returns-3
+returns-3 : tie.Need-returns-then-count-values
 returns-3 c =
     let rule = c.before in
     let join = rule.before in
     let w = join.before.before in
-    let a = w.before.before.before.args in
-    c.fault-at2.ensures
+    let a = w.args in
+    c.fault_at-then-count-values.ensures
     ∙ said w false false true _ (few join.before) (good join) refl
-    (sym (ap not (ne_eqb _ _ rule.if4.true)) ∙ ap (λ (n : ℕ). not (eqb a.count n)) (valued w))
+    (sym (ap not (ne_eqb _ _ rule.if-count-values.true)) ∙ ap (λ (n : ℕ). not (eqb a.count n)) (valued w))
 
-returns-4 : tie.Need-returns-4
+returns-4 : tie.Need-returns
 returns-4 c =
     let join = c.before in
     let w = join.before.before in
-    let a = w.before.before.before.args in
+    let a = w.args in
     said w false false false _ (few join.before) (good join) refl
-    (sym (ap not (eq-eqb _ _ c.if4.false)) ∙ ap (λ (n : ℕ). not (eqb a.count n)) (valued w))
+    (sym (ap not (eq-eqb _ _ c.if-count-values.false)) ∙ ap (λ (n : ℕ). not (eqb a.count n)) (valued w))
 
-pub judge-words-spec : {M : Type 1} → statement M
-judge-words-spec =
+pub judge_words_spec : {M : Type 1} → statement M
+judge_words_spec =
     tie.close
     (tie.spec
     (λ c κs. search rules)
@@ -140,7 +140,7 @@ judge-words-spec =
     returns
     (λ c. search rules)
     (λ c. search rules)
-    (λ c. c.before.before.words-end.ensures.1.0.0)
+    (λ c. c.words_end-end.ensures.1.0.0)
     (λ c κs. search rules)
     add-fault-at
     (λ c κs. search rules)

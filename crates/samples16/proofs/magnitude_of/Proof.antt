@@ -5,14 +5,14 @@ use Rattle.samples16.proofs.Laws.{size_small, size_large}
 use Rattle.samples16.proofs.magnitude_of.Statement.{statement}
 use Rattle.samples16.proofs.magnitude_of.Tie as tie
 
-returns : tie.Need-returns
-returns c = (size_small c.before.args.word c.if1.true, omega arith)
+returns : tie.Need-returns-then-exponent-eq0
+returns c = (size_small c.args.word c.if-exponent-eq0.true, omega arith)
 
-returns-2 : tie.Need-returns-2
-returns-2 c = size_large c.before.args.word c.before.requires (omega (arith, c.if1.false))
+returns-2 : tie.Need-returns
+returns-2 c = size_large c.args.word c.requires (omega (arith, c.if-exponent-eq0.false))
 
-pub magnitude-of-spec : {M : Type 1} → statement M
-magnitude-of-spec =
+pub magnitude_of_spec : {M : Type 1} → statement M
+magnitude_of_spec =
     tie.close
     (tie.spec
     (λ c. search rules)

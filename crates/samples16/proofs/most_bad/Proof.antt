@@ -10,13 +10,15 @@ use Rattle.samples16.proofs.most_bad.Tie as tie
 last : Bool → ℕ
 last b = (measures_of (words_by b)).last
 
-returns : tie.Need-returns
+returns : tie.Need-returns-then-encoded
 unfolding last
-returns c = sym (ap last c.if1.true)
+returns c = sym (ap last c.if-encoded.true)
 
-returns-2 : tie.Need-returns-2
+returns-2 : tie.Need-returns-else-encoded
 unfolding last
-returns-2 c = sym (ap last c.if1.false)
+returns-2 c = sym (ap last c.if-encoded.false)
 
-pub most-bad-spec : {M : Type 1} → statement M
-most-bad-spec = tie.close (tie.spec returns returns-2)
+pub most_bad_spec : {M : Type 1} → statement M
+most_bad_spec = tie.close (tie.spec
+    returns
+    returns-2)

@@ -16,19 +16,24 @@ of-order : (c : tie.Start) (msb : Bool) → c.args.msb ≡ msb →
     rank_of msb (num_of msb at) ≡ rank_of a.msb (num_of a.msb at)
 of-order c msb e = let a = c.args in ap (λ (o : Bool). rank_of o (num_of o (take 2 (drop a.at a.part.now)))) (sym e)
 
-returns : tie.Need-returns
+returns : tie.Need-returns-then-msb
 returns c =
     let read = c.before in
     let start = read.before.before in
-    rank_turned _ _ _ (λ i. (read.before.shared-slice-known.given i).fits) start.requires read.read4.ensures
-    ∙ of-order start _ c.if1.true
+    rank_turned _ _ _ (λ i. (read.shared_slice_known-1.given i).fits) start.requires read.read4-front.ensures
+    ∙ of-order start _ c.if-msb.true
 
-returns-2 : tie.Need-returns-2
+returns-2 : tie.Need-returns
 returns-2 c =
     let read = c.before in
     let start = read.before.before in
-    rank_plain _ _ _ (λ i. (read.before.shared-slice-known.given i).fits) start.requires read.read4.ensures
-    ∙ of-order start _ c.if1.false
+    rank_plain _ _ _ (λ i. (read.shared_slice_known-1.given i).fits) start.requires read.read4-front.ensures
+    ∙ of-order start _ c.if-msb.false
 
-pub rank-spec : {M : Type 1} → statement M
-rank-spec = tie.close (tie.spec (λ c κs. search rules) (λ c. search rules) (λ c. search rules) returns returns-2)
+pub rank_spec : {M : Type 1} → statement M
+rank_spec = tie.close (tie.spec
+    (λ c κs. search rules)
+    (λ c. search rules)
+    (λ c. search rules)
+    returns
+    returns-2)

@@ -24,66 +24,66 @@ use Rattle.samples16.proofs.read_words.Statement.{statement}
 use Rattle.samples16.proofs.read_words.Tie as tie
 
 -- a word passes at most 256 samples, so that the sample's number stays below 2^32
-abbrev invariant-loop : tie.invariant-loop
+abbrev invariant-loop : tie.invariant-loop-p
 invariant-loop part msb encoded numbers₀ values₀ number₀ entry₀ p₀ numbers values number entry p =
     (p ≤ length part) × (2 * entry ≤ p) × (2 * number ≤ 256 * p)
     × Handing (handed_bytes (words_by encoded)) (samples_in (words_by encoded) (all_words 2 msb part))
     (revalued (meant (words_by encoded)) (decode_from 256 number (words_from 2 msb part p))) numbers₀ values₀ numbers values entry
 
-abbrev decreases-loop : tie.decreases-loop
+abbrev decreases-loop : tie.decreases-loop-p
 decreases-loop part msb encoded numbers₀ values₀ number₀ entry₀ p₀ numbers values number entry p = length part - p
 
-loop-holds : tie.Need-loop-init invariant-loop decreases-loop
+loop-holds : tie.Need-loop-p-init invariant-loop decreases-loop
 loop-holds c =
-    let a = c.before.before.args in (
+    let a = c.args in (
       omega arith,
       omega arith,
       omega arith,
       handing_as (samples-words a.encoded (all_words 2 a.msb a.part.now)
           ∙ ap (λ (ws : List ℕ). revalued (meant (words_by a.encoded)) (decode_from 256 0 ws)) (sym (from_all 2 a.msb a.part.now)))
-          (handing_begin c.before.before.requires.1),
+          (handing_begin c.requires.1),
     )
 
 -- the sample that a value gives is the next to be handed over
-value : (c : tie.Else1 invariant-loop decreases-loop) →
+value : (c : tie.Else-is_run invariant-loop decreases-loop) →
     let read = c.before.before in
     let head = read.before.before in
-    let a = head.before.before.before.args in
-    let l = head.loop in
+    let a = head.args in
+    let l = head.loop-p in
     let f = words_by a.encoded in
     Handing (handed_bytes f) (samples_in f (all_words 2 a.msb a.part.now))
-    ((l.number, meant f read.read2.result)
+    ((l.number, meant f read.read2-word.result)
     ∷ revalued (meant f) (decode_from 256 (l.number + 1) (words_from 2 a.msb a.part.now (l.p + 2))))
     a.numbers.now a.values.now l.numbers l.values l.entry
 value c =
     let run = c.before in
     let read = run.before in
     let head = read.before.before in
-    let step = next 2 (lit< tt) _ _ _ _ read.before.loop-test.true read.read2.ensures in
-    handing_as (ap (revalued (meant (words_by head.before.before.before.args.encoded)))
-    (ap (decode_from 256 head.loop.number) step ∙ decode-value 256 (lit< tt) _ _ _ (sym run.is-run.ensures ∙ c.if1.false)))
-    head.loop.invariant.3
+    let step = next 2 (lit< tt) _ _ _ _ read.loop-p-test.true read.read2-word.ensures in
+    handing_as (ap (revalued (meant (words_by head.args.encoded)))
+    (ap (decode_from 256 head.loop-p.number) step ∙ decode-value 256 (lit< tt) _ _ _ (sym run.is_run.ensures ∙ c.if-is_run.false)))
+    head.loop-p.invariant.3
 
-add-number : tie.Need-overflow-add-number invariant-loop decreases-loop
-add-number c = omega (arith, c.run_length.ensures, run_short 256 (lit< tt) c.before.before.before.read2.result)
+add-number : tie.Need-overflow_add-number invariant-loop decreases-loop
+add-number c = omega (arith, c.run_length.ensures, run_short 256 (lit< tt) c.read2-word.result)
 
-slice-write-numbers : tie.Need-slice-write-numbers invariant-loop decreases-loop
+slice-write-numbers : tie.Need-bounds-numbers-entry invariant-loop decreases-loop
 slice-write-numbers c = entry-numbers (value c)
 
-slice-set-from-values : tie.Need-slice-set-from-values invariant-loop decreases-loop
+slice-set-from-values : tie.Need-bounds-values-entry invariant-loop decreases-loop
 slice-set-from-values c = entry-values (value c.before)
 
-loop-again : tie.Need-loop-preserved invariant-loop decreases-loop
+loop-again : tie.Need-loop-p-preserved invariant-loop decreases-loop
 loop-again c =
     let run = c.before in
     let read = run.before in
-    let l = read.before.before.loop in
-    let word = read.read2.result in
-    let step = next 2 (lit< tt) _ _ _ _ read.before.loop-test.true read.read2.ensures in
+    let l = read.loop-p in
+    let word = read.read2-word.result in
+    let step = next 2 (lit< tt) _ _ _ _ read.loop-p-test.true read.read2-word.ensures in
     ⊎_elim
     (λ w.
-    let d = ap (revalued (meant (words_by read.before.before.before.before.before.args.encoded)))
-    (ap (decode_from 256 l.number) step ∙ decode-run 256 (lit< tt) _ word _ (sym run.is-run.ensures ∙ w.0.taken)) in (
+    let d = ap (revalued (meant (words_by read.args.encoded)))
+    (ap (decode_from 256 l.number) step ∙ decode-run 256 (lit< tt) _ word _ (sym run.is_run.ensures ∙ w.0.true)) in (
       omega arith,
       omega (arith, w.5),
       omega (arith, w.4, w.1.ensures, run_short 256 (lit< tt) word),
@@ -94,20 +94,20 @@ loop-again c =
       omega arith,
       omega (arith, w.5),
       omega (arith, w.4),
-      rw (w.2, w.3, w.4, w.5) (handing_one _ _ v (value (record { before = run; if1 = w.0 }))),
+      rw (w.2, w.3, w.4, w.5) (handing_one _ _ v (value (record { before = run; if-is_run = w.0 }))),
     ))
-    c.if1.branch
+    c.if-is_run.branch
 
 returns : tie.Need-returns invariant-loop decreases-loop
 unfolding decode_from
 returns c =
-    let l = c.before.loop in
-    let a = c.before.before.before.before.args in
-    let end = from_end_lem 2 a.msb a.part.now l.p (lit< tt) (omega (arith, c.loop-test.false)) in
+    let l = c.loop-p in
+    let a = c.args in
+    let end = from_end_lem 2 a.msb a.part.now l.p (lit< tt) (omega (arith, c.loop-p-test.false)) in
     handing_end (handing_as (ap (λ (ws : List ℕ). revalued (meant (words_by a.encoded)) (decode_from 256 l.number ws)) end) l.invariant.3)
 
-pub read-words-spec : {M : Type 1} → statement M
-read-words-spec =
+pub read_words_spec : {M : Type 1} → statement M
+read_words_spec =
     tie.close
     (tie.spec
     invariant-loop
@@ -129,6 +129,6 @@ read-words-spec =
     (λ c. search rules)
     (λ c. search rules)
     loop-again
-    (λ c. c.before.loop.invariant.3.long_numbers)
-    (λ c. c.before.loop.invariant.3.long_values)
+    (λ c. c.loop-p.invariant.3.long_numbers)
+    (λ c. c.loop-p.invariant.3.long_values)
     returns)

@@ -9,5 +9,7 @@ returns : tie.Need-returns
 unfolding run_length
 returns c = refl
 
-pub run-length-spec : {M : Type 1} → statement M
-run-length-spec = tie.close (tie.spec (λ c. search rules) returns)
+pub run_length_spec : {M : Type 1} → statement M
+run_length_spec = tie.close (tie.spec
+    (λ c. search rules)
+    returns)

@@ -11,13 +11,15 @@ use Rattle.samples16.proofs.sample_bytes.Tie as tie
 bytes : Bool → ℕ
 bytes b = sample_bytes (plain_by b)
 
-returns : tie.Need-returns
+returns : tie.Need-returns-then-angles
 unfolding bytes
-returns c = (sym (ap bytes c.if1.true), (omega arith, omega arith))
+returns c = (sym (ap bytes c.if-angles.true), (omega arith, omega arith))
 
-returns-2 : tie.Need-returns-2
+returns-2 : tie.Need-returns-else-angles
 unfolding bytes
-returns-2 c = (sym (ap bytes c.if1.false), (omega arith, omega arith))
+returns-2 c = (sym (ap bytes c.if-angles.false), (omega arith, omega arith))
 
-pub sample-bytes-spec : {M : Type 1} → statement M
-sample-bytes-spec = tie.close (tie.spec returns returns-2)
+pub sample_bytes_spec : {M : Type 1} → statement M
+sample_bytes_spec = tie.close (tie.spec
+    returns
+    returns-2)

@@ -17,49 +17,49 @@ use Rattle.samples16.proofs.Laws.{outside}
 use Rattle.samples16.proofs.see.Statement.{statement}
 use Rattle.samples16.proofs.see.Tie as tie
 
-abbrev invariant-loop : tie.invariant-loop
+abbrev invariant-loop : tie.invariant-loop-p
 invariant-loop part msb encoded most found₀ bad₀ p₀ found bad p =
     (p ≤ length part) × (found ≤ p) × (bad ≤ p)
     × (found + values 256 (words_from 2 msb part p) ≡ values 256 (all_words 2 msb part))
     × ((not (eqb bad 0) || any_bad (words_by encoded) (words_from 2 msb part p)) ≡ any_bad (words_by encoded) (all_words 2 msb part))
 
-abbrev decreases-loop : tie.decreases-loop
+abbrev decreases-loop : tie.decreases-loop-p
 decreases-loop part msb encoded most found₀ bad₀ p₀ found bad p = length part - p
 
-loop-holds : tie.Need-loop-init invariant-loop decreases-loop
-loop-holds c = let a = c.before.before.args in rw (from_all 2 a.msb a.part.now) (search rules)
+loop-holds : tie.Need-loop-p-init invariant-loop decreases-loop
+loop-holds c = let a = c.args in rw (from_all 2 a.msb a.part.now) (search rules)
 
-add-values : tie.Need-overflow-add-values invariant-loop decreases-loop
-add-values c = omega (arith, counts-one (not c.is-run.result))
+add-values : tie.Need-overflow_add-values invariant-loop decreases-loop
+add-values c = omega (arith, counts-one (not c.is_run.result))
 
-add-bad : tie.Need-overflow-add-bad invariant-loop decreases-loop
-add-bad c = omega (arith, counts-one c.is-bad.result)
+add-bad : tie.Need-overflow_add-bad invariant-loop decreases-loop
+add-bad c = omega (arith, counts-one c.is_bad.result)
 
-loop-again : tie.Need-loop-preserved invariant-loop decreases-loop
+loop-again : tie.Need-loop-p-preserved invariant-loop decreases-loop
 loop-again c =
     let run = c.before in
     let read = run.before in
-    let t = read.before.loop-test.true in
-    let e = read.read2.ensures in
+    let t = read.loop-p-test.true in
+    let e = read.read2-word.ensures in
     let head = read.before.before in
-    let l = head.loop in
-    let a = head.before.before.before.args in
+    let l = head.loop-p in
+    let a = head.args in
     let f = words_by a.encoded in
-    let bad = outside a.encoded read.read2.result _ _ c.is-bad.ensures head.before.most-bad.ensures in (
+    let bad = outside a.encoded read.read2-word.result _ _ c.is_bad.ensures head.most_bad-most.ensures in (
       search rules,
-      omega (arith, counts-one (not run.is-run.result)),
-      omega (arith, counts-one c.is-bad.result),
-      values-turn 2 (lit< tt) _ _ _ _ t e 256 run.is-run.result run.is-run.ensures l.values ∙ l.invariant.3,
-      ap (λ (b : Bool). b || any_bad f (words_from 2 a.msb a.part.now (l.p + 2))) (some_more l.bad c.is-bad.result)
-          ∙ bad-turn 2 (lit< tt) _ _ _ _ t e f (not (eqb l.bad 0)) c.is-bad.result bad
+      omega (arith, counts-one (not run.is_run.result)),
+      omega (arith, counts-one c.is_bad.result),
+      values-turn 2 (lit< tt) _ _ _ _ t e 256 run.is_run.result run.is_run.ensures l.values ∙ l.invariant.3,
+      ap (λ (b : Bool). b || any_bad f (words_from 2 a.msb a.part.now (l.p + 2))) (some_more l.bad c.is_bad.result)
+          ∙ bad-turn 2 (lit< tt) _ _ _ _ t e f (not (eqb l.bad 0)) c.is_bad.result bad
           ∙ l.invariant.4,
     )
 
 returns : tie.Need-returns invariant-loop decreases-loop
 returns c =
-    let l = c.before.loop in
-    let a = c.before.before.before.before.args in
-    let left = c.loop-test.false in (
+    let l = c.loop-p in
+    let a = c.args in
+    let left = c.loop-p-test.false in (
       sym (values-end 2 (lit< tt) _ _ _ left 256 l.values) ∙ l.invariant.3,
       (
         sym (bad-end 2 (lit< tt) _ _ _ left (words_by a.encoded) (not (eqb l.bad 0))) ∙ l.invariant.4,
@@ -67,8 +67,8 @@ returns c =
       ),
     )
 
-pub see-spec : {M : Type 1} → statement M
-see-spec =
+pub see_spec : {M : Type 1} → statement M
+see_spec =
     tie.close
     (tie.spec
     invariant-loop

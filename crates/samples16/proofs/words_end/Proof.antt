@@ -15,34 +15,34 @@ use Rattle.samples16.proofs.words_end.Statement.{statement}
 use Rattle.samples16.proofs.words_end.Tie as tie
 
 -- the test
-space : (c : tie.After-is-run) →
-    let a = c.before.before.before.args in
-    (not c.is-run.result && eqb (a.count + 1) a.found) ≡ has_space narrow a.count (all_words 2 a.msb a.part.now)
+space : (c : tie.After-is_run) →
+    let a = c.args in
+    (not c.is_run.result && eqb (a.count + 1) a.found) ≡ has_space narrow a.count (all_words 2 a.msb a.part.now)
 space c =
     let start = c.before.before.before in
     let a = start.args in
-    ap (λ (n : ℕ). not c.is-run.result && eqb (a.count + 1) n) start.requires.1.1
-    ∙ space-tested a.msb a.part.now a.count start.requires.0 start.requires.1.0 c.is-run.result
-    (c.is-run.ensures ∙ ap (λ (w : ℕ). is_run 256 w) c.before.read2.ensures)
+    ap (λ (n : ℕ). not c.is_run.result && eqb (a.count + 1) n) start.requires.1.1
+    ∙ space-tested a.msb a.part.now a.count start.requires.0 start.requires.1.0 c.is_run.result
+    (c.is_run.ensures ∙ ap (λ (w : ℕ). is_run 256 w) c.read2.ensures)
 
-returns : tie.Need-returns
+returns : tie.Need-returns-then-is_run-count
 returns c =
     let start = c.before.before.before.before in
     let a = start.args in
-    let one_more = eqb-true (a.count + 1) a.found (both_true (not c.before.is-run.result) _ c.if1.true).1 in
+    let one_more = eqb-true (a.count + 1) a.found (both_true (not c.is_run.result) _ c.if-is_run-count.true).1 in
     let e = ends-before a.msb a.part.now a.count start.requires.0 start.requires.1.0 (sym (one_more ∙ start.requires.1.1))
-    (sym (space c.before) ∙ c.if1.true) in
+    (sym (space c.before) ∙ c.if-is_run-count.true) in
     (e.these, (e.near, e.counted ∙ sym start.requires.1.1))
 
-returns-2 : tie.Need-returns-2
+returns-2 : tie.Need-returns
 returns-2 c =
     let start = c.before.before.before.before in
     let a = start.args in
-    let e = ends-behind a.msb a.part.now a.count start.requires.0 start.requires.1.0 (sym (space c.before) ∙ c.if1.false) in
+    let e = ends-behind a.msb a.part.now a.count start.requires.0 start.requires.1.0 (sym (space c.before) ∙ c.if-is_run-count.false) in
     (e.these, (e.near, e.counted ∙ sym start.requires.1.1))
 
-pub words-end-spec : {M : Type 1} → statement M
-words-end-spec =
+pub words_end_spec : {M : Type 1} → statement M
+words_end_spec =
     tie.close
     (tie.spec
     (λ c. search rules)

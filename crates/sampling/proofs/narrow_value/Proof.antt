@@ -11,9 +11,12 @@ use Rattle.sampling.proofs.narrow_value.Tie as tie
 
 returns : tie.Need-returns
 returns c =
-    let a = c.before.before.args in
-    word-valued (words_by a.encoded) (radix-by a.encoded) a.word c.before.is-run.ensures
-    (to_z-of_z {w = w32} {z = c.value_of_lem.result} (record { sfits = c.value_of_lem.type-inv }) ∙ c.value_of_lem.ensures)
+    let a = c.args in
+    word-valued (words_by a.encoded) (radix-by a.encoded) a.word c.is_run.ensures
+    (to_z-of_z {w = w32} {z = c.value_of.result} (record { sfits = c.value_of.type-inv }) ∙ c.value_of.ensures)
 
-pub narrow-value-spec : {M : Type 1} → statement M
-narrow-value-spec = tie.close (tie.spec (λ c κs. search rules) (λ c κs. search rules) returns)
+pub narrow_value_spec : {M : Type 1} → statement M
+narrow_value_spec = tie.close (tie.spec
+    (λ c κs. search rules)
+    (λ c κs. search rules)
+    returns)

@@ -8,21 +8,21 @@ use Rattle.sampling.proofs.Walking.{radix-by, run-passed, value-passed}
 use Rattle.sampling.proofs.narrow_word.Statement.{statement}
 use Rattle.sampling.proofs.narrow_word.Tie as tie
 
-returns : tie.Need-returns
+returns : tie.Need-returns-then-is_run
 returns c =
     let run = c.before.before in
-    let b = run.before.args.encoded in
-    run-passed (words_by b) (radix-by b) _ _ (sym run.is-run.ensures ∙ c.before.if1.true) c.run_length.ensures _
+    let b = run.args.encoded in
+    run-passed (words_by b) (radix-by b) _ _ (sym run.is_run.ensures ∙ c.if-is_run.true) c.run_length.ensures _
 
-returns-2 : tie.Need-returns-2
+returns-2 : tie.Need-returns
 returns-2 c =
     let run = c.before.before in
-    let b = run.before.args.encoded in
-    value-passed (words_by b) (radix-by b) _ _ (sym run.is-run.ensures ∙ c.before.if1.false)
-    (to_z-of_z {w = w32} {z = c.value_of_lem.result} (record { sfits = c.value_of_lem.type-inv }) ∙ c.value_of_lem.ensures)
+    let b = run.args.encoded in
+    value-passed (words_by b) (radix-by b) _ _ (sym run.is_run.ensures ∙ c.if-is_run.false)
+    (to_z-of_z {w = w32} {z = c.value_of.result} (record { sfits = c.value_of.type-inv }) ∙ c.value_of.ensures)
 
-pub narrow-word-spec : {M : Type 1} → statement M
-narrow-word-spec =
+pub narrow_word_spec : {M : Type 1} → statement M
+narrow_word_spec =
     tie.close
     (tie.spec
     (λ c κs. search rules)

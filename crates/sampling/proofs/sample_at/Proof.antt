@@ -20,23 +20,23 @@ use Rattle.sampling.proofs.sample_at.Statement.{statement}
 use Rattle.sampling.proofs.sample_at.Tie as tie
 
 -- ---- the shapes of the types, the last of which is left behind the arms
-pairs : (m : tie.At-match-keys1) → shape_of m.before.before.args.code ≡ uncompressed wide
-pairs m = arm_u wide refl m.match.keys1
+pairs : (m : tie.In-10000) → shape_of m.args.code ≡ uncompressed wide
+pairs m = arm_u wide refl m.in-10000.is
 
-words : (m : tie.At-match-keys2) → shape_of m.before.before.args.code ≡ compressed wide
-words m = arm_c wide refl m.match.keys2
+words : (m : tie.In-10010) → shape_of m.args.code ≡ compressed wide
+words m = arm_c wide refl m.in-10010.is
 
-pairs16 : (m : tie.At-match-keys3) → shape_of m.before.before.args.code ≡ uncompressed narrow
-pairs16 m = arm_u narrow refl m.match.keys3
+pairs16 : (m : tie.In-10030) → shape_of m.args.code ≡ uncompressed narrow
+pairs16 m = arm_u narrow refl m.in-10030.is
 
-words16 : (m : tie.At-match-keys4) → shape_of m.before.before.args.code ≡ compressed narrow
-words16 m = arm_c narrow refl m.match.keys4
+words16 : (m : tie.In-10040) → shape_of m.args.code ≡ compressed narrow
+words16 m = arm_c narrow refl m.in-10040.is
 
-codes16 : (m : tie.At-match-rest) → shape_of m.before.before.args.code ≡ compressed encoded
+codes16 : (m : tie.In_default) → shape_of m.args.code ≡ compressed encoded
 unfolding listings
 codes16 m =
     let s = m.before.before in
-    arm_c encoded refl (last_code valued s.args.code 10050 (10040 ∷ 10030 ∷ 10010 ∷ 10000 ∷ []) refl m.match.rest s.requires.0)
+    arm_c encoded refl (last_code valued s.args.code 10050 (10040 ∷ 10030 ∷ 10010 ∷ 10000 ∷ []) refl m.in_default.in_default-own.rest s.requires.0)
 
 -- ---- what is read lies within
 room : (s : tie.Start) {q : Shape} → shape_of s.args.code ≡ q → s.args.at + width_of q ≤ length s.args.held.now
@@ -45,65 +45,65 @@ room s e = subst (λ (q : Shape). s.args.at + width_of q ≤ length s.args.held.
 read4-requires : tie.Need-read4-requires
 read4-requires m κs = omega (arith, room m.before.before (pairs m))
 
-read4-requires-2 : tie.Need-read4-requires-2
+read4-requires-2 : tie.Need-read4-requires-in-10000
 read4-requires-2 c κs = let m = c.before in omega (arith, room m.before.before (pairs m))
 
-read4-requires-3 : tie.Need-read4-requires-3
+read4-requires-3 : tie.Need-read4-requires-in-10010
 read4-requires-3 m κs = omega (arith, room m.before.before (words m))
 
 read2-requires : tie.Need-read2-requires
 read2-requires m κs = omega (arith, room m.before.before (pairs16 m))
 
-read2-requires-2 : tie.Need-read2-requires-2
+read2-requires-2 : tie.Need-read2-requires-in-10030
 read2-requires-2 c κs = let m = c.before in omega (arith, room m.before.before (pairs16 m))
 
-read2-requires-3 : tie.Need-read2-requires-3
+read2-requires-3 : tie.Need-read2-requires-in-10040
 read2-requires-3 m κs = omega (arith, room m.before.before (words16 m))
 
-read2-requires-4 : tie.Need-read2-requires-4
+read2-requires-4 : tie.Need-read2-requires-in_default
 read2-requires-4 m κs = omega (arith, room m.before.before (codes16 m))
 
 -- ---- a value of two bytes, read through its bits
 held : (c : tie.After-signed2) → to_z w16 (of_z w16 c.signed2.result) ≡ c.signed2.result
 held c = to_z-of_z w16 c.signed2.result (record { sfits = c.signed2.type-inv })
 
-cast-t17 : tie.Need-overflow-cast-t17
+cast-t17 : tie.Need-overflow_cast-result-in-10030
 cast-t17 c = subst (SFits w32) (sym (held c)) (record { sfits = widens c.signed2.result c.signed2.type-inv })
 
 -- ---- what stands there
-returns : tie.Need-returns
+returns : tie.Need-returns-in-10000
 returns c =
     let n = c.before.before in
     let m = n.before in
     let v = to_z-of_z w32 c.signed4.result (record { sfits = c.signed4.type-inv })
     ∙ c.signed4.ensures
-    ∙ ap (signed_of 4) c.before.read42.ensures in
+    ∙ ap (signed_of 4) c.read4-in-10000.ensures in
     plain-stepped wide _ _ _ _ (pairs m) refl (room m.before.before (pairs m)) n.read4.ensures v
 
-returns-2 : tie.Need-returns-2
+returns-2 : tie.Need-returns-in-10010
 returns-2 c =
     let m = c.before.before in
-    word-stepped wide _ _ _ _ (words m) (room m.before.before (words m)) c.before.read43.ensures c.wide_word.ensures
+    word-stepped wide _ _ _ _ (words m) (room m.before.before (words m)) c.read4-in-10010.ensures c.wide_word.ensures
 
-returns-3 : tie.Need-returns-3
+returns-3 : tie.Need-returns-in-10030
 returns-3 c =
     let n = c.before.before in
     let m = n.before in
-    let v = to_z-of_z w32 _ (cast-t17 c) ∙ held c ∙ c.signed2.ensures ∙ ap (signed_of 2) c.before.read22.ensures in
+    let v = to_z-of_z w32 _ (cast-t17 c) ∙ held c ∙ c.signed2.ensures ∙ ap (signed_of 2) c.read2-in-10030.ensures in
     plain-stepped narrow _ _ _ _ (pairs16 m) refl (room m.before.before (pairs16 m)) n.read2.ensures v
 
-returns-4 : tie.Need-returns-4
+returns-4 : tie.Need-returns-in-10040
 returns-4 c =
     let m = c.before.before in
-    word-stepped narrow _ _ _ _ (words16 m) (room m.before.before (words16 m)) c.before.read23.ensures c.narrow-word.ensures
+    word-stepped narrow _ _ _ _ (words16 m) (room m.before.before (words16 m)) c.read2-in-10040.ensures c.narrow_word.ensures
 
-returns-5 : tie.Need-returns-5
+returns-5 : tie.Need-returns-in_default
 returns-5 c =
     let m = c.before.before in
-    word-stepped encoded _ _ _ _ (codes16 m) (room m.before.before (codes16 m)) c.before.read24.ensures c.narrow-word2.ensures
+    word-stepped encoded _ _ _ _ (codes16 m) (room m.before.before (codes16 m)) c.read2-in_default.ensures c.narrow_word-in_default.ensures
 
-pub sample-at-spec : {M : Type 1} → statement M
-sample-at-spec =
+pub sample_at_spec : {M : Type 1} → statement M
+sample_at_spec =
     tie.close
     (tie.spec
     read4-requires

@@ -10,27 +10,32 @@ use Rattle.sampling.proofs.span_of.Statement.{statement}
 use Rattle.sampling.proofs.span_of.Tie as tie
 
 -- the shape that is left behind the arms
-words16 : (m : tie.At-match-rest) → (b : Bool) × (shape_of m.before.before.args.code ≡ compressed (words_by b))
-words16 m = let s = m.before.before in narrow-left s.args.code s.requires.1 m.match.rest
+words16 : (m : tie.In_default) → (b : Bool) × (shape_of m.args.code ≡ compressed (words_by b))
+words16 m = let s = m.before.before in narrow-left s.args.code s.requires.1 m.in_default.in_default-own.rest
 
-words-end-requires : tie.Need-words-end-requires
-words-end-requires m κs = words-asked m.before.before.requires.0 _ (words16 m).1
+words-end-requires : tie.Need-words_end-requires
+words-end-requires m κs = words-asked m.requires.0 _ (words16 m).1
 
-returns : tie.Need-returns
-returns m = span-plain _ _ wide (arm_u wide refl m.match.keys1)
+returns : tie.Need-returns-in-10000
+returns m = span-plain _ _ wide (arm_u wide refl m.in-10000.is)
 
-returns-2 : tie.Need-returns-2
+returns-2 : tie.Need-returns-in-10010
 returns-2 m =
-    let e = arm_c wide refl m.match.keys2 in
-    span-wide _ _ e (words-asked m.before.before.requires.0 wide e).0
+    let e = arm_c wide refl m.in-10010.is in
+    span-wide _ _ e (words-asked m.requires.0 wide e).0
 
-returns-3 : tie.Need-returns-3
-returns-3 m = span-plain _ _ narrow (arm_u narrow refl m.match.keys3)
+returns-3 : tie.Need-returns-in-10030
+returns-3 m = span-plain _ _ narrow (arm_u narrow refl m.in-10030.is)
 
-returns-4 : tie.Need-returns-4
+returns-4 : tie.Need-returns-in_default
 returns-4 c =
     let q = words16 c.before in
-    span-narrow _ _ q.0 q.1 _ c.words-end.ensures.1 c.words-end.ensures.0
+    span-narrow _ _ q.0 q.1 _ c.words_end.ensures.1 c.words_end.ensures.0
 
-pub span-of-spec : {M : Type 1} → statement M
-span-of-spec = tie.close (tie.spec words-end-requires returns returns-2 returns-3 returns-4)
+pub span_of_spec : {M : Type 1} → statement M
+span_of_spec = tie.close (tie.spec
+    words-end-requires
+    returns
+    returns-2
+    returns-3
+    returns-4)

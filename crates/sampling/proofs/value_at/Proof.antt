@@ -20,23 +20,23 @@ use Rattle.sampling.proofs.value_at.Statement.{statement}
 use Rattle.sampling.proofs.value_at.Tie as tie
 
 -- ---- the shapes of the types, the last of which is left behind the arms
-pairs : (m : tie.At-match-keys1) → shape_of m.before.before.args.code ≡ uncompressed wide
-pairs m = arm_u wide refl m.match.keys1
+pairs : (m : tie.In-10000) → shape_of m.args.code ≡ uncompressed wide
+pairs m = arm_u wide refl m.in-10000.is
 
-words : (m : tie.At-match-keys2) → shape_of m.before.before.args.code ≡ compressed wide
-words m = arm_c wide refl m.match.keys2
+words : (m : tie.In-10010) → shape_of m.args.code ≡ compressed wide
+words m = arm_c wide refl m.in-10010.is
 
-pairs16 : (m : tie.At-match-keys3) → shape_of m.before.before.args.code ≡ uncompressed narrow
-pairs16 m = arm_u narrow refl m.match.keys3
+pairs16 : (m : tie.In-10030) → shape_of m.args.code ≡ uncompressed narrow
+pairs16 m = arm_u narrow refl m.in-10030.is
 
-words16 : (m : tie.At-match-keys4) → shape_of m.before.before.args.code ≡ compressed narrow
-words16 m = arm_c narrow refl m.match.keys4
+words16 : (m : tie.In-10040) → shape_of m.args.code ≡ compressed narrow
+words16 m = arm_c narrow refl m.in-10040.is
 
-codes16 : (m : tie.At-match-rest) → shape_of m.before.before.args.code ≡ compressed encoded
+codes16 : (m : tie.In_default) → shape_of m.args.code ≡ compressed encoded
 unfolding listings
 codes16 m =
     let s = m.before.before in
-    arm_c encoded refl (last_code valued s.args.code 10050 (10040 ∷ 10030 ∷ 10010 ∷ 10000 ∷ []) refl m.match.rest s.requires.0)
+    arm_c encoded refl (last_code valued s.args.code 10050 (10040 ∷ 10030 ∷ 10010 ∷ 10000 ∷ []) refl m.in_default.in_default-own.rest s.requires.0)
 
 -- ---- what is read lies within
 room : (s : tie.Start) {q : Shape} → shape_of s.args.code ≡ q → s.args.at + width_of q ≤ length s.args.held.now
@@ -45,57 +45,57 @@ room s e = subst (λ (q : Shape). s.args.at + width_of q ≤ length s.args.held.
 read4-requires : tie.Need-read4-requires
 read4-requires m κs = omega (arith, room m.before.before (pairs m))
 
-read4-requires-2 : tie.Need-read4-requires-2
+read4-requires-2 : tie.Need-read4-requires-in-10010
 read4-requires-2 m κs = omega (arith, room m.before.before (words m))
 
 read2-requires : tie.Need-read2-requires
 read2-requires m κs = omega (arith, room m.before.before (pairs16 m))
 
-read2-requires-2 : tie.Need-read2-requires-2
+read2-requires-2 : tie.Need-read2-requires-in-10040
 read2-requires-2 m κs = omega (arith, room m.before.before (words16 m))
 
-read2-requires-3 : tie.Need-read2-requires-3
+read2-requires-3 : tie.Need-read2-requires-in_default
 read2-requires-3 m κs = omega (arith, room m.before.before (codes16 m))
 
 -- ---- a value of two bytes, read through its bits
 held : (c : tie.After-signed2) → to_z w16 (of_z w16 c.signed2.result) ≡ c.signed2.result
 held c = to_z-of_z w16 c.signed2.result (record { sfits = c.signed2.type-inv })
 
-cast-t13 : tie.Need-overflow-cast-t13
+cast-t13 : tie.Need-overflow_cast-result
 cast-t13 c = subst (SFits w32) (sym (held c)) (record { sfits = widens c.signed2.result c.signed2.type-inv })
 
 -- ---- what stands there
-returns : tie.Need-returns
+returns : tie.Need-returns-in-10000
 returns c =
     let m = c.before.before in
     let v = to_z-of_z w32 c.signed4.result (record { sfits = c.signed4.type-inv })
     ∙ c.signed4.ensures
-    ∙ ap (signed_of 4) c.before.read4.ensures in
+    ∙ ap (signed_of 4) c.read4.ensures in
     plain-valued wide _ _ _ (pairs m) refl (room m.before.before (pairs m)) v
 
-returns-2 : tie.Need-returns-2
+returns-2 : tie.Need-returns-in-10010
 returns-2 c =
     let m = c.before.before in
-    word-there wide _ _ _ (words m) (room m.before.before (words m)) c.before.read42.ensures c.wide_value.ensures
+    word-there wide _ _ _ (words m) (room m.before.before (words m)) c.read4-in-10010.ensures c.wide_value.ensures
 
-returns-3 : tie.Need-returns-3
+returns-3 : tie.Need-returns-in-10030
 returns-3 c =
     let m = c.before.before in
-    let v = to_z-of_z w32 _ (cast-t13 c) ∙ held c ∙ c.signed2.ensures ∙ ap (signed_of 2) c.before.read2.ensures in
+    let v = to_z-of_z w32 _ (cast-t13 c) ∙ held c ∙ c.signed2.ensures ∙ ap (signed_of 2) c.read2.ensures in
     plain-valued narrow _ _ _ (pairs16 m) refl (room m.before.before (pairs16 m)) v
 
-returns-4 : tie.Need-returns-4
+returns-4 : tie.Need-returns-in-10040
 returns-4 c =
     let m = c.before.before in
-    word-there narrow _ _ _ (words16 m) (room m.before.before (words16 m)) c.before.read22.ensures c.narrow-value.ensures
+    word-there narrow _ _ _ (words16 m) (room m.before.before (words16 m)) c.read2-in-10040.ensures c.narrow_value.ensures
 
-returns-5 : tie.Need-returns-5
+returns-5 : tie.Need-returns-in_default
 returns-5 c =
     let m = c.before.before in
-    word-there encoded _ _ _ (codes16 m) (room m.before.before (codes16 m)) c.before.read23.ensures c.narrow-value2.ensures
+    word-there encoded _ _ _ (codes16 m) (room m.before.before (codes16 m)) c.read2-in_default.ensures c.narrow_value-in_default.ensures
 
-pub value-at-spec : {M : Type 1} → statement M
-value-at-spec =
+pub value_at_spec : {M : Type 1} → statement M
+value_at_spec =
     tie.close
     (tie.spec
     (λ c. search rules)

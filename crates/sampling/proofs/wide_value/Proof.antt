@@ -12,8 +12,11 @@ use Rattle.sampling.proofs.wide_value.Tie as tie
 returns : tie.Need-returns
 unfolding meant
 returns c =
-    word-valued wide refl c.before.before.args.word c.before.is-run.ensures
+    word-valued wide refl c.args.word c.is_run.ensures
     (to_z-of_z {w = w32} {z = c.signed4.result} (record { sfits = c.signed4.type-inv }) ∙ c.signed4.ensures)
 
-pub wide-value-spec : {M : Type 1} → statement M
-wide-value-spec = tie.close (tie.spec (λ c κs. search rules) (λ c κs. search rules) returns)
+pub wide_value_spec : {M : Type 1} → statement M
+wide_value_spec = tie.close (tie.spec
+    (λ c κs. search rules)
+    (λ c κs. search rules)
+    returns)

@@ -13,23 +13,23 @@ use Rattle.sampling.proofs.Walking.{run-passed, value-passed}
 use Rattle.sampling.proofs.wide_word.Statement.{statement}
 use Rattle.sampling.proofs.wide_word.Tie as tie
 
-add-t5 : tie.Need-overflow-add-t5
-add-t5 c = omega (arith, c.run_length.ensures, run_short radix (lit< tt) c.before.before.before.args.word)
+add-t5 : tie.Need-overflow_add-result
+add-t5 c = omega (arith, c.run_length.ensures, run_short radix (lit< tt) c.args.word)
 
-returns : tie.Need-returns
+returns : tie.Need-returns-then-is_run
 returns c =
     let run = c.before.before in
-    run-passed wide refl _ _ (sym run.is-run.ensures ∙ c.before.if1.true) c.run_length.ensures _
+    run-passed wide refl _ _ (sym run.is_run.ensures ∙ c.if-is_run.true) c.run_length.ensures _
 
-returns-2 : tie.Need-returns-2
+returns-2 : tie.Need-returns
 unfolding meant
 returns-2 c =
     let run = c.before.before in
-    value-passed wide refl _ _ (sym run.is-run.ensures ∙ c.before.if1.false)
+    value-passed wide refl _ _ (sym run.is_run.ensures ∙ c.if-is_run.false)
     (to_z-of_z {w = w32} {z = c.signed4.result} (record { sfits = c.signed4.type-inv }) ∙ c.signed4.ensures)
 
-pub wide-word-spec : {M : Type 1} → statement M
-wide-word-spec =
+pub wide_word_spec : {M : Type 1} → statement M
+wide_word_spec =
     tie.close
     (tie.spec
     (λ c κs. search rules)

@@ -14,56 +14,56 @@ use Rattle.settings.proofs.Fills.{counting-again}
 use Rattle.settings.proofs.count_pings.Statement.{statement}
 use Rattle.settings.proofs.count_pings.Tie as tie
 
-abbrev invariant-loop : tie.invariant-loop
+abbrev invariant-loop : tie.invariant-loop-at
 invariant-loop file msb n₀ at₀ n at = Counting file msb at n
 
-abbrev decreases-loop : tie.decreases-loop
+abbrev decreases-loop : tie.decreases-loop-at
 decreases-loop file msb n₀ at₀ n at = length file - at
 
 -- places, named by what has been done there
-abbrev start : tie.In-loop invariant-loop decreases-loop → tie.Start invariant-loop decreases-loop
+abbrev start : tie.In-loop-at invariant-loop decreases-loop → tie.Start invariant-loop decreases-loop
 start c = c.before.before.before.before
 
-abbrev inside : tie.After-one-if invariant-loop decreases-loop → tie.In-loop invariant-loop decreases-loop
+abbrev inside : tie.After-one_if-n invariant-loop decreases-loop → tie.In-loop-at invariant-loop decreases-loop
 inside c = c.before.before.before.before
 
 -- the tuple where the loop stands
-there : (c : tie.In-loop invariant-loop decreases-loop) → let o = c.before.before.is-msb.result in
+there : (c : tie.In-loop-at invariant-loop decreases-loop) → let o = c.is_msb-msb.result in
     let f = (start c).args.file.now in
-    Whole o f c.before.loop.at (len_at o (drop c.before.loop.at f))
-there c = counting-whole _ _ _ _ c.before.loop.invariant c.loop-test.true
+    Whole o f c.loop-at.at (len_at o (drop c.loop-at.at f))
+there c = counting-whole _ _ _ _ c.loop-at.invariant c.loop-at-test.true
 
-add-n : tie.Need-overflow-add-n invariant-loop decreases-loop
+add-n : tie.Need-overflow_add-n invariant-loop decreases-loop
 add-n c =
     let l = inside c in
-    let inv = l.before.loop.inv in
-    omega (arith, c.one-if.ensures.1, inv.few, counting-within _ _ _ _ inv, accepted-small _ (start l).pre)
+    let inv = l.loop-at.invariant in
+    omega (arith, c.one_if-n.ensures.1, inv.few, counting-within _ _ _ _ inv, accepted-small _ (start l).requires)
 
-add_at : tie.Need-overflow-add-at invariant-loop decreases-loop
+add_at : tie.Need-overflow_add-at invariant-loop decreases-loop
 add_at c =
     let l = inside c in
-    omega (arith, (there l).fits, c.before.before.before.length_at.ensures, accepted-small _ (start l).pre)
+    omega (arith, (there l).fits, c.length_at-whole.ensures, accepted-small _ (start l).requires)
 
-loop-less : tie.Need-loop-smaller invariant-loop decreases-loop
+loop-less : tie.Need-loop-at-smaller invariant-loop decreases-loop
 loop-less c =
     let l = inside c in
-    counting-less _ _ _ _ l.before.loop.inv l.loop-test.taken _ c.before.before.before.length_at.ensures
+    counting-less _ _ _ _ l.loop-at.invariant l.loop-at-test.true _ c.length_at-whole.ensures
 
-loop-again : tie.Need-loop-preserved invariant-loop decreases-loop
+loop-again : tie.Need-loop-at-preserved invariant-loop decreases-loop
 loop-again c =
     let l = inside c in
-    let one = c.one-if.ensures in
-    counting-again _ _ _ _ l.before.loop.inv l.loop-test.taken _ _ c.before.before.before.length_at.ensures
-    (one.0 ∙ ap (λ (b : Bool). cond b 1 0) (c.before.is-ping.ensures ∙ ap is_ping c.before.before.kind_at.ensures)) one.1
+    let one = c.one_if-n.ensures in
+    counting-again _ _ _ _ l.loop-at.invariant l.loop-at-test.true _ _ c.length_at-whole.ensures
+    (one.0 ∙ ap (λ (b : Bool). cond b 1 0) (c.is_ping.ensures ∙ ap is_ping c.kind_at.ensures)) one.1
 
-pub count-pings-spec : {M : Type 1} → statement M
-count-pings-spec =
+pub count_pings_spec : {M : Type 1} → statement M
+count_pings_spec =
     tie.close
     (tie.spec
     invariant-loop
     decreases-loop
-    (λ c κs. accepted_4 _ c.before.requires)
-    (λ c. counting-begin _ _ c.before.before.requires c.is-msb.ensures)
+    (λ c κs. accepted_4 _ c.requires)
+    (λ c. counting-begin _ _ c.requires c.is_msb-msb.ensures)
     (λ c κs. omega (arith, (there c).long, (there c).ranges))
     (λ c κs. omega (arith, (there c.before).long, (there c.before).fits))
     (λ c κs. search rules)
@@ -72,4 +72,4 @@ count-pings-spec =
     add_at
     loop-less
     loop-again
-    (λ c. counting-done _ _ _ _ c.before.loop.invariant c.loop-test.false))
+    (λ c. counting-done _ _ _ _ c.loop-at.invariant c.loop-at-test.false))

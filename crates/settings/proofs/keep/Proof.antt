@@ -7,14 +7,14 @@ use Rattle.settings.proofs.keep.Statement.{statement}
 use Rattle.settings.proofs.keep.Tie as tie
 
 -- there is room for a channel that is declared
-room : (c : tie.After-role) → c.before.before.args.h.channels < most_channels
-room c = rw c.role.given.1 at c.before.before.requires.1
+room : (c : tie.In-Declares-2) → c.args.h.channels < most_channels
+room c = rw c.role-1.given.1 at c.requires.1
 
-returns-5 : tie.Need-returns-5
+returns-5 : tie.Need-returns-in-Declares
 returns-5 c =
     let put = c.before.before in
-    let e = put.before.before.before.role.given.1 in
-    rw e (refl, (put.put-channel.ensures.1, (put.put-channel.ensures.0, refl)))
+    let e = put.in-Declares.is in
+    rw e (refl, (put.put_channel.ensures.1, (put.put_channel.ensures.0, refl)))
 
 pub keep_spec : {M : Type 1} → statement M
 keep_spec =
@@ -38,13 +38,13 @@ keep_spec =
     (λ c. search rules)
     (λ c. search rules)
     (λ c. search rules)
-    (λ c κs. (room c.before.before, c.before.before.before.before.requires.0.0))
+    (λ c κs. (room c.before, c.requires.0.0))
     (λ c κs. room c.before.before.before.before)
     (λ c. search rules)
     (λ c. search rules)
-    (λ c. rw c.enum_told.given.1 (refl, (tt, (refl, refl))))
-    (λ c. rw c.before.enum-told2.given.1 (refl, (tt, (refl, refl))))
-    (λ c. rw c.before.enum-told3.given.1 (refl, (tt, (refl, refl))))
-    (λ c. rw c.enum-told4.given.1 (refl, (tt, (refl, refl))))
+    (λ c. rw c.in-Ping.is (refl, (tt, (refl, refl))))
+    (λ c. rw c.in-Threshold.is (refl, (tt, (refl, refl))))
+    (λ c. rw c.in-Attitude.is (refl, (tt, (refl, refl))))
+    (λ c. rw c.in-ForAll.is (refl, (tt, (refl, refl))))
     returns-5
-    (λ c. rw c.enum-told5.given.1 (refl, (tt, (refl, refl)))))
+    (λ c. rw c.in-Other.is (refl, (tt, (refl, refl)))))

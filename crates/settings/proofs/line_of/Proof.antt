@@ -3,8 +3,8 @@ use borrow.Author.Rules.{rules}
 use Rattle.settings.proofs.line_of.Statement.{statement}
 use Rattle.settings.proofs.line_of.Tie as tie
 
-pub line-of-spec : {M : Type 1} → statement M
-line-of-spec =
+pub line_of_spec : {M : Type 1} → statement M
+line_of_spec =
     tie.close
     (tie.spec
     (λ c. search rules)
@@ -16,9 +16,9 @@ line-of-spec =
     (λ c. search rules)
     (λ c. search rules)
     (λ c. search rules)
-    (λ c. rw c.before.before.role.given.1 c.find-near.ensures)
-    (λ c. rw c.before.before.role2.given.1 c.find-near2.ensures)
-    (λ c. rw c.before.before.role3.given.1 c.find-near3.ensures)
+    (λ c. rw c.in-Ping.is c.find_near.ensures)
+    (λ c. rw c.in-Threshold.is c.find_near-in-Threshold.ensures)
+    (λ c. rw c.in-Attitude.is c.find_near-in-Attitude.ensures)
     (λ c. search rules)
     (λ c. search rules)
     (λ c. search rules))

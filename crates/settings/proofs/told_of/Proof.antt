@@ -4,11 +4,11 @@ use borrow.Author.Rules.{rules}
 use Rattle.settings.proofs.told_of.Statement.{statement}
 use Rattle.settings.proofs.told_of.Tie as tie
 
-returns : tie.Need-returns
-returns c = rw (c.before.before.enum_told.given.1, c.Later-of.ensures) refl
+returns : tie.Need-returns-in-Ping
+returns c = rw (c.in-Ping.is, c.later_of.ensures) refl
 
-pub told-of-spec : {M : Type 1} → statement M
-told-of-spec =
+pub told_of_spec : {M : Type 1} → statement M
+told_of_spec =
     tie.close
     (tie.spec
     (λ c. search rules)

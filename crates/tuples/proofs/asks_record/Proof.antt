@@ -7,19 +7,22 @@ use lib.Dec.{eqb}
 use Rattle.tuples.proofs.asks_record.Statement.{statement}
 use Rattle.tuples.proofs.asks_record.Tie as tie
 
-returns : tie.Need-returns
+returns : tie.Need-returns-then-not-is_record
 returns c =
-    let a = c.before.before.args in
+    let a = c.args in
     ap (λ (b : Bool). b && eqb a.code a.asked)
-    (sym (not-true _ c.if1.true)
-    ∙ c.before.is-record.ensures)
+    (sym (not-true _ c.if-not-is_record.true)
+    ∙ c.is_record.ensures)
 
-returns-2 : tie.Need-returns-2
+returns-2 : tie.Need-returns
 returns-2 c =
-    let a = c.before.before.args in
+    let a = c.args in
     ap (λ (b : Bool). b && eqb a.code a.asked)
-    (sym (not-false _ c.if1.false)
-    ∙ c.before.is-record.ensures)
+    (sym (not-false _ c.if-not-is_record.false)
+    ∙ c.is_record.ensures)
 
-pub asks-record-spec : {M : Type 1} → statement M
-asks-record-spec = tie.close (tie.spec (λ c κs. search rules) returns returns-2)
+pub asks_record_spec : {M : Type 1} → statement M
+asks_record_spec = tie.close (tie.spec
+    (λ c κs. search rules)
+    returns
+    returns-2)

@@ -5,21 +5,21 @@ use Rattle.tuples.proofs.Reading.{four, at-end, not_found, found-by}
 use Rattle.tuples.proofs.find.Statement.{statement}
 use Rattle.tuples.proofs.find.Tie as tie
 
-is-msb-requires : tie.Need-is-msb-requires
-is-msb-requires c κs = four (found-by _ _ _ _ _ _ (sym c.before.before.before.forward.ensures.is ∙ c.before.length.given.1))
+is-msb-requires : tie.Need-is_msb-requires
+is-msb-requires c κs = four (found-by _ _ _ _ _ _ (sym c.forward.ensures.is ∙ c.in-Tuple.is))
 
-returns : tie.Need-returns
+returns : tie.Need-returns-in-Tuple
 returns c =
     record {
-      msb = c.is-msb.ensures;
-      found = found-by _ _ _ _ _ _ (sym c.before.before.before.before.forward.ensures.is ∙ c.before.before.length.given.1);
+      msb = c.is_msb.ensures;
+      found = found-by _ _ _ _ _ _ (sym c.forward.ensures.is ∙ c.in-Tuple.is);
     }
 
-returns-2 : tie.Need-returns-2
-returns-2 c asked = at-end asked _ _ (sym c.before.before.forward.ensures.is ∙ c.enum_told.given.1)
+returns-2 : tie.Need-returns-in-End
+returns-2 c asked = at-end asked _ _ (sym c.forward.ensures.is ∙ c.in-End.is)
 
-returns-3 : tie.Need-returns-3
-returns-3 c asked = not_found asked _ _ _ _ (sym c.before.before.before.forward.ensures.is ∙ c.before.code.given.1)
+returns-3 : tie.Need-returns-in-Refused
+returns-3 c asked = not_found asked _ _ _ _ (sym c.forward.ensures.is ∙ c.in-Refused.is)
 
 pub find_spec : {M : Type 1} → statement M
 find_spec =

@@ -12,11 +12,11 @@ use Rattle.tuples.proofs.is_angled.Tie as tie
 arm : {k n : ℕ} → k ≡ n → is_angled n ≡ true → true ≡ is_angled k
 arm e h = sym h ∙ sym (ap is_angled e)
 
-pub is-angled-spec : {M : Type 1} → statement M
+pub is_angled_spec : {M : Type 1} → statement M
 unfolding listing_of among listings
-is-angled-spec =
+is_angled_spec =
     tie.close
     (tie.spec
-    (λ c. arm c.match.keys1 refl)
-    (λ c. arm c.match.keys2 refl)
-    (λ c. sym (no_code angled c.before.args.code c.match.rest)))
+    (λ c. arm c.in-10001.is refl)
+    (λ c. arm c.in-10031.is refl)
+    (λ c. sym (no_code angled c.args.code c.in_default.in_default-own.rest)))

@@ -29,17 +29,21 @@ by_place k (uncompressed f) e l = absurd (true≢false e)
 by_place k (compressed f) e l = absurd (true≢false e)
 by_place k unlisted e l = le-ltb (place_in k) listed (omega arith)
 
-returns : tie.Need-returns
+returns : tie.Need-returns-then-is_ping
 unfolding is_ping
-returns c = sampled (shape_of c.before.before.args.code) (sym c.before.is-ping.ensures ∙ c.if1.true)
+returns c = sampled (shape_of c.args.code) (sym c.is_ping.ensures ∙ c.if-is_ping.true)
 
-returns-2 : tie.Need-returns-2
+returns-2 : tie.Need-returns
 unfolding is_ping
 returns-2 c =
     let ping = c.before.before in
-    let k = ping.before.args.code in
-    ap (λ (i : ℕ). ltb i listed) c.listing-of.ensures
-    ∙ by_place k (shape_of k) (sym ping.is-ping.ensures ∙ c.before.if1.false) (tabled k)
+    let k = ping.args.code in
+    ap (λ (i : ℕ). ltb i listed) c.listing_of.ensures
+    ∙ by_place k (shape_of k) (sym ping.is_ping.ensures ∙ c.if-is_ping.false) (tabled k)
 
-pub is-record-spec : {M : Type 1} → statement M
-is-record-spec = tie.close (tie.spec (λ c κs. search rules) returns (λ c κs. search rules) returns-2)
+pub is_record_spec : {M : Type 1} → statement M
+is_record_spec = tie.close (tie.spec
+    (λ c κs. search rules)
+    returns
+    (λ c κs. search rules)
+    returns-2)

@@ -12,14 +12,14 @@ use Rattle.tuples.proofs.is_valued.Tie as tie
 arm : {k n : ℕ} → k ≡ n → is_valued n ≡ true → true ≡ is_valued k
 arm e h = sym h ∙ sym (ap is_valued e)
 
-pub is-valued-spec : {M : Type 1} → statement M
+pub is_valued_spec : {M : Type 1} → statement M
 unfolding listing_of among listings
-is-valued-spec =
+is_valued_spec =
     tie.close
     (tie.spec
-    (λ c. arm c.match.keys1 refl)
-    (λ c. arm c.match.keys2 refl)
-    (λ c. arm c.match.keys3 refl)
-    (λ c. arm c.match.keys4 refl)
-    (λ c. arm c.match.keys5 refl)
-    (λ c. sym (no_code valued c.before.args.code c.match.rest)))
+    (λ c. arm c.in-10000.is refl)
+    (λ c. arm c.in-10010.is refl)
+    (λ c. arm c.in-10030.is refl)
+    (λ c. arm c.in-10040.is refl)
+    (λ c. arm c.in-10050.is refl)
+    (λ c. sym (no_code valued c.args.code c.in_default.in_default-own.rest)))

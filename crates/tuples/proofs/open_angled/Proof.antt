@@ -5,17 +5,17 @@ use Rattle.tuples.specs.Readers.{is_angled}
 use Rattle.tuples.proofs.open_angled.Statement.{statement}
 use Rattle.tuples.proofs.open_angled.Tie as tie
 
-open-found-requires : tie.Need-open-found-requires
-open-found-requires c κs = let d = c.before.before in rw d.msb.given.1 at d.before.before.find.ensures
+open-found-requires : tie.Need-open_found-requires
+open-found-requires c κs = let d = c.before in rw d.in-Tuple.is at d.find.ensures
 
-returns : tie.Need-returns
-returns c = rw c.before.code.given.1 at c.before.before.before.find.ensures is_angled
+returns : tie.Need-returns-in-Refused
+returns c = rw c.in-Refused.is at c.find.ensures is_angled
 
-returns-2 : tie.Need-returns-2
-returns-2 c = c.open-found.ensures is_angled (sym c.before.is-angled.ensures)
+returns-2 : tie.Need-returns-in-Tuple
+returns-2 c = c.open_found.ensures is_angled (sym c.is_angled.ensures)
 
-pub open-angled-spec : {M : Type 1} → statement M
-open-angled-spec =
+pub open_angled_spec : {M : Type 1} → statement M
+open_angled_spec =
     tie.close
     (tie.spec
     (λ c κs. search rules)

@@ -5,17 +5,17 @@ use Rattle.layout.specs.Types.{is_ping}
 use Rattle.tuples.proofs.open_ping.Statement.{statement}
 use Rattle.tuples.proofs.open_ping.Tie as tie
 
-open-found-requires : tie.Need-open-found-requires
-open-found-requires c κs = let d = c.before.before in rw d.msb.given.1 at d.before.before.find.ensures
+open-found-requires : tie.Need-open_found-requires
+open-found-requires c κs = let d = c.before in rw d.in-Tuple.is at d.find.ensures
 
-returns : tie.Need-returns
-returns c = rw c.before.code.given.1 at c.before.before.before.find.ensures is_ping
+returns : tie.Need-returns-in-Refused
+returns c = rw c.in-Refused.is at c.find.ensures is_ping
 
-returns-2 : tie.Need-returns-2
-returns-2 c = c.open-found.ensures is_ping (sym c.before.is-ping.ensures)
+returns-2 : tie.Need-returns-in-Tuple
+returns-2 c = c.open_found.ensures is_ping (sym c.is_ping.ensures)
 
-pub open-ping-spec : {M : Type 1} → statement M
-open-ping-spec =
+pub open_ping_spec : {M : Type 1} → statement M
+open_ping_spec =
     tie.close
     (tie.spec
     (λ c κs. search rules)

@@ -5,22 +5,22 @@ use Rattle.tuples.specs.Readers.{records_of}
 use Rattle.tuples.proofs.open_record.Statement.{statement}
 use Rattle.tuples.proofs.open_record.Tie as tie
 
-open-found-requires : tie.Need-open-found-requires
-open-found-requires c κs = let d = c.before.before in rw d.msb.given.1 at d.before.before.find.ensures
+open-found-requires : tie.Need-open_found-requires
+open-found-requires c κs = let d = c.before in rw d.in-Tuple.is at d.find.ensures
 
-returns : tie.Need-returns
+returns : tie.Need-returns-in-Refused
 returns c =
-    rw c.before.code.given.1 at c.before.before.before.find.ensures
-    (records_of c.before.before.before.before.before.args.asked)
+    rw c.in-Refused.is at c.find.ensures
+    (records_of c.args.asked)
 
-returns-2 : tie.Need-returns-2
+returns-2 : tie.Need-returns-in-Tuple
 returns-2 c =
     let asked = c.before in
-    let found = asked.before.before.before.before in
-    c.open-found.ensures (records_of found.before.before.args.asked) (sym asked.asks-record.ensures)
+    let found = asked.before.before in
+    c.open_found.ensures (records_of found.args.asked) (sym asked.asks_record.ensures)
 
-pub open-record-spec : {M : Type 1} → statement M
-open-record-spec =
+pub open_record_spec : {M : Type 1} → statement M
+open_record_spec =
     tie.close
     (tie.spec
     (λ c κs. search rules)

@@ -5,17 +5,17 @@ use Rattle.tuples.specs.Readers.{is_valued}
 use Rattle.tuples.proofs.open_valued.Statement.{statement}
 use Rattle.tuples.proofs.open_valued.Tie as tie
 
-open-found-requires : tie.Need-open-found-requires
-open-found-requires c κs = let d = c.before.before in rw d.msb.given.1 at d.before.before.find.ensures
+open-found-requires : tie.Need-open_found-requires
+open-found-requires c κs = let d = c.before in rw d.in-Tuple.is at d.find.ensures
 
-returns : tie.Need-returns
-returns c = rw c.before.code.given.1 at c.before.before.before.find.ensures is_valued
+returns : tie.Need-returns-in-Refused
+returns c = rw c.in-Refused.is at c.find.ensures is_valued
 
-returns-2 : tie.Need-returns-2
-returns-2 c = c.open-found.ensures is_valued (sym c.before.is-valued.ensures)
+returns-2 : tie.Need-returns-in-Tuple
+returns-2 c = c.open_found.ensures is_valued (sym c.is_valued.ensures)
 
-pub open-valued-spec : {M : Type 1} → statement M
-open-valued-spec =
+pub open_valued_spec : {M : Type 1} → statement M
+open_valued_spec =
     tie.close
     (tie.spec
     (λ c κs. search rules)

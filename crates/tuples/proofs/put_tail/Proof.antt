@@ -11,10 +11,10 @@ returns c =
     let pattern = tail.before in
     let start = pattern.before.before.before in
     let read = pattern-read w32 4 start.args.attribute _ start.ranges.attribute.sfits pattern.pattern4.ensures in
-    rw (tail.close-frame.ensures, read)
+    rw (tail.close_frame.ensures, read)
 
-pub put-tail-spec : {M : Type 1} → statement M
-put-tail-spec =
+pub put_tail_spec : {M : Type 1} → statement M
+put_tail_spec =
     tie.close
     (tie.spec
     (λ c. search rules)

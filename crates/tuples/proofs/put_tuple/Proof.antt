@@ -19,27 +19,27 @@ use Rattle.tuples.proofs.put_tuple.Statement.{statement}
 use Rattle.tuples.proofs.put_tuple.Tie as tie
 
 -- ---- places: back to the function's start, from where the listing is known, the fields are written, the characters and the tail
-abbrev start : tie.After-listing-of → tie.Start
+abbrev start : tie.After-listing_of → tie.Start
 start l = l.before.before.before.before.before
 
-abbrev rowing : tie.After-write-row-arg → tie.After-row
+abbrev rowing : tie.After-write_row-arg-1 → tie.After-row-row
 rowing c = c.before.before.before.before.before.before
 
-abbrev before-copy : tie.After-copy-arg → tie.Start
+abbrev before-copy : tie.After-copy-arg-1 → tie.Start
 before-copy c = start (rowing c.before.before.before.before).before
 
-abbrev before-tail : tie.After-put-tail-arg → tie.Start
+abbrev before-tail : tie.After-put_tail-arg-1 → tie.Start
 before-tail c = before-copy c.before.before.before.before
 
 -- the row of the code's table is the type's
-rowed : (c : tie.After-row) → fields_of c.row.result ≡ fields_in (shape_of (start c.before).args.code)
+rowed : (c : tie.After-row-row) → fields_of c.row-row.result ≡ fields_in (shape_of (start c.before).args.code)
 rowed c =
     let d = start c.before in
     let a = d.args in
     ap fields_of
-    (c.row.ensures
-    ∙ ap (λ (i : ℕ). get_or row_codes i []) c.before.listing-of.ensures)
-    ∙ row-there a.msb a.numbers.now a.remark.now a.behind.now a.whole (pattern_of 4 a.attribute) a.code d.pre.0
+    (c.row-row.ensures
+    ∙ ap (λ (i : ℕ). get_or row_codes i []) c.listing_of.ensures)
+    ∙ row-there a.msb a.numbers.now a.remark.now a.behind.now a.whole (pattern_of 4 a.attribute) a.code d.requires.0
 
 -- how many bytes it has
 small : (d : tie.Start)
@@ -51,20 +51,20 @@ small d =
     let a = d.args in
     sizes a.msb a.numbers.now a.remark.now a.behind.now a.whole (pattern_of 4 a.attribute) a.code d.requires.0
 
-row-requires : tie.Need-row-requires
+row-requires : tie.Need-row-row-requires
 row-requires c κs =
     let d = start c in
     let a = d.args in
-    rw c.listing-of.ensures
+    rw c.listing_of.ensures
     (handed-rowed a.msb a.numbers.now a.remark.now a.behind.now a.whole (pattern_of 4 a.attribute) a.code
-    d.pre.0)
+    d.requires.0)
 
-open-frame-requires : tie.Need-open-frame-requires
+open-frame-requires : tie.Need-open_frame-requires
 open-frame-requires c κs =
     let z = small (start c.before.before) in
     (omega (arith, z.0), (omega (arith, z.0), omega (arith, z.1)))
 
-write-row-requires : tie.Need-write-row-requires
+write-row-requires : tie.Need-write_row-requires
 write-row-requires c κs =
     let z = small (start (rowing c).before) in
     rw (rowed (rowing c)) (z.2, omega (arith, z.0))
@@ -72,7 +72,7 @@ write-row-requires c κs =
 copy-requires : tie.Need-copy-requires
 copy-requires c κs = let z = small (before-copy c) in (omega arith, omega (arith, z.0))
 
-put-tail-requires : tie.Need-put-tail-requires
+put-tail-requires : tie.Need-put_tail-requires
 put-tail-requires c κs = let z = small (before-tail c) in (omega (arith, z.0), omega arith, omega (arith, z.1))
 
 returns : tie.Need-returns
@@ -85,19 +85,19 @@ returns c =
     let d = start r.before in
     let a = d.args in
     rw (
-      tail.put-tail.ensures,
+      tail.put_tail.ensures,
       copied.copy.ensures,
-      wrote.write-row.ensures,
-      opened.open-frame.ensures,
+      wrote.write_row.ensures,
+      opened.open_frame.ensures,
       rowed r,
       to_z-of_z {w = w32} {z = a.attribute} d.fits.attribute,
       take-length a.behind.now,
     )
-    (put a.msb a.numbers.now a.remark.now a.behind.now a.whole (pattern_of 4 a.attribute) a.code d.pre.0
-    a.out.now)
+    (put a.msb a.numbers.now a.remark.now a.behind.now a.whole (pattern_of 4 a.attribute) a.code d.requires.0
+    a.out-1.now)
 
-pub put-tuple-spec : {M : Type 1} → statement M
-put-tuple-spec =
+pub put_tuple_spec : {M : Type 1} → statement M
+put_tuple_spec =
     tie.close
     (tie.spec
     (λ c κs. search rules)

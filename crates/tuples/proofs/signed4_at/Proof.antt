@@ -11,7 +11,10 @@ returns : tie.Need-returns
 returns c =
     to_z-of_z {w = w32} {z = c.signed4.result} (record { sfits = c.signed4.type-inv })
     ∙ c.signed4.ensures
-    ∙ ap (signed_of 4) c.before.read4.ensures
+    ∙ ap (signed_of 4) c.read4.ensures
 
-pub signed4-at-spec : {M : Type 1} → statement M
-signed4-at-spec = tie.close (tie.spec (λ c κs. search rules) (λ c κs. search rules) returns)
+pub signed4_at_spec : {M : Type 1} → statement M
+signed4_at_spec = tie.close (tie.spec
+    (λ c κs. search rules)
+    (λ c κs. search rules)
+    returns)

@@ -26,26 +26,32 @@ many : (d : tie.Start) → length (bytes d) ≡ d.args.whole
 many d = let a = d.args in
     length-plain a.msb a.numbers.now a.remark.now a.behind.now a.whole (pattern_of 4 a.attribute) a.code d.requires
 
-returns : tie.Need-returns
+returns : tie.Need-returns-then-out-whole
 returns c =
     let short = c.before in
     let d = short.before.before.before.before.before in
-    rw c.refuse.ensures (no_room (bytes d) d.args.out.now d.args.whole (many d) short.if1.true)
+    rw c.refuse.ensures (no_room (bytes d) d.args.out.now d.args.whole (many d) short.if-out-whole.true)
 
-returns-2 : tie.Need-returns-2
+returns-2 : tie.Need-returns
 returns-2 c =
     let put = c.before.before.before in
     let fits = put.before.before in
     let d = fits.before.before.before.before.before in
     let a = d.args in
     rw c.accept.ensures
-    (with_room (bytes d) a.out.now a.whole (many d) fits.if1.false _
-    (put.put-tuple.ensures
-    ∙ ap (λ (z : ℤ). sets a.out.now 0
+    (with_room (bytes d) a.out-1.now a.whole (many d) fits.if-out-whole.false _
+    (put.put_tuple.ensures
+    ∙ ap (λ (z : ℤ). sets a.out-1.now 0
     (plain_bytes a.msb a.code
     (handed_values (shape_of a.code) a.numbers.now a.remark.now a.behind.now (pattern_of 4 z))))
     (to_z-of_z {w = w32} {z = a.attribute} d.ranges.attribute)))
 
-pub write-tuple-spec : {M : Type 1} → statement M
-write-tuple-spec =
-    tie.close (tie.spec (λ c κs. search rules) returns (λ c κs. search rules) (λ c κs. search rules) (λ c. search rules) returns-2)
+pub write_tuple_spec : {M : Type 1} → statement M
+write_tuple_spec =
+    tie.close (tie.spec
+    (λ c κs. search rules)
+    returns
+    (λ c κs. search rules)
+    (λ c κs. search rules)
+    (λ c. search rules)
+    returns-2)

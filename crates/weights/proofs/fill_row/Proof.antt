@@ -60,20 +60,20 @@ module _ (o : Bool) (f t : List ℕ) (g : ℕ) (k : Kind) (b : ℕ) (l : g < row
             (fill-next o f t g k b j (sum + w) l n.few more s.filled));
       }
 
-abbrev invariant-loop : tie.invariant-loop
+abbrev invariant-loop : tie.invariant-loop-from
 invariant-loop file msb kind base row sums₀ block bytes ahead at₀ sum₀ from₀ sums at sum from = Stands msb file sums row kind base at sum from
 
-abbrev decreases-loop : tie.decreases-loop
+abbrev decreases-loop : tie.decreases-loop-from
 decreases-loop file msb kind base row sums₀ block bytes ahead at₀ sum₀ from₀ sums at sum from = length file - from
 
 -- places, named by what has been done there
-abbrev known : tie.At-loop invariant-loop decreases-loop → tie.After-ahead-of invariant-loop decreases-loop
+abbrev known : tie.At-loop-from invariant-loop decreases-loop → tie.After-ahead_of-ahead invariant-loop decreases-loop
 known c = c.before
 
-abbrev start : tie.At-loop invariant-loop decreases-loop → tie.Start invariant-loop decreases-loop
+abbrev start : tie.At-loop-from invariant-loop decreases-loop → tie.Start invariant-loop decreases-loop
 start c = c.before.before.before.before.before.before
 
-loop-holds : tie.Need-loop-init invariant-loop decreases-loop
+loop-holds : tie.Need-loop-from-init invariant-loop decreases-loop
 loop-holds c =
     let s = c.before.before.before.before.before in
     let a = s.args in
@@ -81,63 +81,63 @@ loop-holds c =
     begin a.msb a.file.now a.sums.now a.row a.kind a.base p.1.0.0 (omega (arith, p.0, p.1.0)) p.1.1.1.1
 
 -- the block that the loop comes to
-next : (c : tie.In-loop invariant-loop decreases-loop) →
-    let l = c.before.loop in
+next : (c : tie.In-loop-from invariant-loop decreases-loop) →
+    let l = c.loop-from in
     let a = (start c.before).args in
     Next a.kind a.base (l.at - entries * a.row) l.from (length a.file.now)
 next c =
-    let l = c.before.loop in
+    let l = c.loop-from in
     let a = (start c.before).args in
     let k = known c.before in
     next-block a.kind a.base (l.at - entries * a.row) l.from (length a.file.now) l.invariant.place l.invariant.within
-    (start c.before).pre.0.1
-    (omega (arith, c.loop-test.true, k.before.bytes-of.ensures, k.ahead_of_lem.ensures))
+    (start c.before).requires.0.1
+    (omega (arith, c.loop-from-test.true, k.bytes_of-bytes.ensures, k.ahead_of-ahead.ensures))
 
 -- what it weighs
-weight : (c : tie.After-weigh invariant-loop decreases-loop) →
-    let l = c.before.before.loop in
+weight : (c : tie.After-weigh-sum invariant-loop decreases-loop) →
+    let l = c.loop-from in
     let a = (start c.before.before).args in
-    (c.weigh.result ≡ weight_at a.kind a.msb a.file.now l.from (block_by a.kind))
-    × (c.weigh.result ≤ 32766 * block_by a.kind)
+    (c.weigh-sum.result ≡ weight_at a.kind a.msb a.file.now l.from (block_by a.kind))
+    × (c.weigh-sum.result ≤ 32766 * block_by a.kind)
 weight c =
-    let l = c.before.before.loop in
+    let l = c.loop-from in
     let a = (start c.before.before).args in
-    let block = (known c.before.before).before.before.Block-of.ensures in
-    (c.weigh.ensures.0 ∙ ap (weight_at a.kind a.msb a.file.now l.from) block, omega (arith, c.weigh.ensures.1, block))
+    let block = (known c.before.before).block_of-block.ensures in
+    (c.weigh-sum.ensures.0 ∙ ap (weight_at a.kind a.msb a.file.now l.from) block, omega (arith, c.weigh-sum.ensures.1, block))
 
-loop-again : tie.Need-loop-preserved invariant-loop decreases-loop
+loop-again : tie.Need-loop-from-preserved invariant-loop decreases-loop
 loop-again c =
-    let l = c.before.before.loop in
+    let l = c.loop-from in
     let s = start c.before.before in
     let a = s.args in
     let w = weight c in
-    again a.msb a.file.now l.sums a.row a.kind a.base s.pre.1.0.0 l.at l.sum l.from _ _
+    again a.msb a.file.now l.sums a.row a.kind a.base s.requires.1.0.0 l.at l.sum l.from _ _
     l.invariant (next c.before)
-    (known c.before.before).before.bytes-of.ensures w.0 w.1
+    (known c.before.before).bytes_of-bytes.ensures w.0 w.1
 
 returns : tie.Need-returns invariant-loop decreases-loop
 returns c =
-    let l = c.before.loop in
+    let l = c.loop-from in
     let s = start c.before in
     let a = s.args in
     let k = known c.before in
     let j = l.at - entries * a.row in
-    fill_end a.msb a.file.now l.sums a.row a.kind a.base j s.pre.1.1.0 s.pre.1.1.1.0
+    fill_end a.msb a.file.now l.sums a.row a.kind a.base j s.requires.1.1.0 s.requires.1.1.1.0
     (no_block a.kind a.base j l.from (length a.file.now) l.invariant.place
-    (omega (arith, c.loop-test.false, k.before.bytes-of.ensures, k.ahead_of_lem.ensures)))
+    (omega (arith, c.loop-from-test.false, k.bytes_of-bytes.ensures, k.ahead_of-ahead.ensures)))
     l.invariant.filled
 
 -- the next entry is there
-there : (c : tie.In-loop invariant-loop decreases-loop) →
-    let l = c.before.loop in
+there : (c : tie.In-loop-from invariant-loop decreases-loop) →
+    let l = c.loop-from in
     (l.at + 1 < length l.sums) × (l.at + 1 < 10000)
 there c =
-    let l = c.before.loop in
+    let l = c.loop-from in
     let s = start c.before in
-    omega (arith, (next c).few, l.invariant.behind, l.invariant.filled.before.long, s.pre.1.0)
+    omega (arith, (next c).few, l.invariant.behind, l.invariant.filled.before.long, s.requires.1.0)
 
-pub fill-row-spec : {M : Type 1} → statement M
-fill-row-spec =
+pub fill_row_spec : {M : Type 1} → statement M
+fill_row_spec =
     tie.close
     (tie.spec
     invariant-loop
@@ -145,27 +145,27 @@ fill-row-spec =
     (λ c κs. search rules)
     (λ c κs. search rules)
     (λ c κs. search rules)
-    (λ c. let p = c.before.before.before.before.before.requires in omega (arith, p.1.0))
-    (λ c. let p = c.before.before.before.before.before.requires in omega (arith, p.1.0))
-    (λ c. let p = c.before.before.before.before.before.requires in omega (arith, p.1.0, p.1.1.1.1.long))
+    (λ c. let p = c.requires in omega (arith, p.1.0))
+    (λ c. let p = c.requires in omega (arith, p.1.0))
+    (λ c. let p = c.requires in omega (arith, p.1.0, p.1.1.1.1.long))
     loop-holds
-    (λ c. let k = known c in omega (arith, k.before.bytes-of.ensures, k.ahead_of_lem.ensures, span (start c).args.kind))
-    (λ c. c.loop.invariant.within)
+    (λ c. let k = known c in omega (arith, k.bytes_of-bytes.ensures, k.ahead_of-ahead.ensures, span (start c).args.kind))
+    (λ c. c.loop-from.invariant.within)
     (λ c κs.
-    let block = (known c.before).before.before.Block-of.ensures in
+    let block = (known c.before).block_of-block.ensures in
     let a = (start c.before).args in (
-      subst (λ (n : ℕ). There a.kind c.before.loop.from n (length a.file.now)) (sym block) (next c).there,
+      subst (λ (n : ℕ). There a.kind c.before.loop-from.from n (length a.file.now)) (sym block) (next c).there,
       omega (arith, block),
     ))
-    (λ c. let l = c.before.before.loop in
+    (λ c. let l = c.loop-from in
     omega (arith, l.invariant.few, (weight c).1, span (start c.before.before).args.kind, there c.before))
     (λ c. let k = known c.before.before in
-    omega (arith, (next c.before).within, k.before.bytes-of.ensures, (start c.before.before).pre.0))
+    omega (arith, (next c.before).within, k.bytes_of-bytes.ensures, (start c.before.before).requires.0))
     (λ c. omega (arith, there c.before))
     (λ c. omega (arith, there c.before))
     (λ c. omega (arith, there c.before))
     (λ c. let k = known c.before.before in
-    omega (arith, (next c.before).within, k.before.bytes-of.ensures, span (start c.before.before).args.kind))
+    omega (arith, (next c.before).within, k.bytes_of-bytes.ensures, span (start c.before.before).args.kind))
     loop-again
-    (λ c. let s = start c.before in c.before.loop.invariant.filled.before.long ∙ sym s.pre.1.1.1.1.long)
+    (λ c. let s = start c.before in c.loop-from.invariant.filled.before.long ∙ sym s.requires.1.1.1.1.long)
     returns)

@@ -12,8 +12,8 @@ use Rattle.weights.proofs.row_of.Tie as tie
 arm : {k m : Kind} {at g : ℕ} → k ≡ m → RowOf m at g → RowOf k at g
 arm {at = at} {g = g} e r = subst (λ (k : Kind). RowOf k at g) (sym e) r
 
-pub row-of-spec : {M : Type 1} → statement M
-row-of-spec =
+pub row_of_spec : {M : Type 1} → statement M
+row_of_spec =
     tie.close
     (tie.spec
     (λ c. search rules)
@@ -24,9 +24,9 @@ row-of-spec =
     (λ c. search rules)
     (λ c. search rules)
     (λ c. search rules)
-    (λ c. arm c.enum_told.given.1 (row_c32 _ c.before.before.requires))
-    (λ c. arm c.enum-told2.given.1 (row_c16 _ c.before.before.requires))
-    (λ c. arm c.enum-told3.given.1 (row_ce16 _ c.before.before.requires))
-    (λ c. arm c.enum-told4.given.1 (row-pairs _ c.before.before.requires))
-    (λ c. arm c.enum-told5.given.1 (row_shorts _ c.before.before.requires))
-    (λ c. arm c.enum-told6.given.1 (row-triples _ c.before.before.requires)))
+    (λ c. arm c.in-C32.is (row_c32 _ c.requires))
+    (λ c. arm c.in-C16.is (row_c16 _ c.requires))
+    (λ c. arm c.in-CE16.is (row_ce16 _ c.requires))
+    (λ c. arm c.in-Pairs.is (row-pairs _ c.requires))
+    (λ c. arm c.in-Shorts.is (row_shorts _ c.requires))
+    (λ c. arm c.in-Triples.is (row-triples _ c.requires)))

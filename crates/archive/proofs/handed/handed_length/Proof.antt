@@ -3,8 +3,10 @@ use borrow.Author.Rules.{rules}
 use Rattle.archive.proofs.handed.handed_length.Statement.{statement}
 use Rattle.archive.proofs.handed.handed_length.Tie as tie
 
-returns : tie.Need-returns
-returns c = rw c.if1.true
+returns : tie.Need-returns-then-has_length
+returns c = rw c.if-has_length.true
 
-pub handed-length-spec : {M : Type 1} → statement M
-handed-length-spec = tie.close (tie.spec returns (λ c. search rules))
+pub handed_length_spec : {M : Type 1} → statement M
+handed_length_spec = tie.close (tie.spec
+    returns
+    (λ c. search rules))

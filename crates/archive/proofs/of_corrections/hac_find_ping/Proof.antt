@@ -21,53 +21,53 @@ abbrev telling : Found → List ℕ
 telling = told found_numbers found_fields
 
 -- places, named by what has been done there
-abbrev start : tie.After-slice-known → tie.Start
+abbrev start : tie.After-slice_known-1 → tie.Start
 start c = c.before.before.before
 
-abbrev asked : tie.After-find-ping → tie.Start
+abbrev asked : tie.After-find_ping → tie.Start
 asked c = start c.before.before
 
 -- what the call promises
 abbrev promise : tie.Start → Found → Type 0
 promise s = PingFound s.args.deposit.now s.args.corrections.now (record { 0 = s.args.channel }) s.args.number
 
-returns : tie.Need-returns
-returns c = let s = start c.before in alone-untold 2 telling (promise s) s.args.answer.now c.if1.true
+returns : tie.Need-returns-then-answer-lt-FOUND
+returns c = let s = start c.before in alone-untold 2 telling (promise s) s.args.answer.now c.if-answer-lt-FOUND.true
 
-returns-2 : tie.Need-returns-2
+returns-2 : tie.Need-returns-in-Corrected
 returns-2 c =
     let t = c.before.before in
-    let g = t.before.before.before in
-    let q = g.before.before in
+    let g = t.before.before in
+    let q = g.before in
     let s = asked q in
-    alone-told 2 telling (promise s) s.args.answer.now q.find-ping.result _ _ _ q.before.if1.false (omega arith)
-    q.find-ping.ensures (ap telling g.from.given.1) t.tell-part.ensures.0 t.tell-part.ensures.1
+    alone-told 2 telling (promise s) s.args.answer.now q.find_ping.result _ _ _ q.if-answer-lt-FOUND.false (omega arith)
+    q.find_ping.ensures (ap telling g.in-Corrected.is) t.tell_part.ensures.0 t.tell_part.ensures.1
 
-returns-3 : tie.Need-returns-3
+returns-3 : tie.Need-returns-in-Deposited
 returns-3 c =
     let t = c.before.before in
-    let g = t.before.before.before in
-    let q = g.before.before in
+    let g = t.before.before in
+    let q = g.before in
     let s = asked q in
-    alone-told 2 telling (promise s) s.args.answer.now q.find-ping.result _ _ _ q.before.if1.false (omega arith)
-    q.find-ping.ensures (ap telling g.from2.given.1) t.tell-part2.ensures.0 t.tell-part2.ensures.1
+    alone-told 2 telling (promise s) s.args.answer.now q.find_ping.result _ _ _ q.if-answer-lt-FOUND.false (omega arith)
+    q.find_ping.ensures (ap telling g.in-Deposited.is) t.tell_part-in-Deposited.ensures.0 t.tell_part-in-Deposited.ensures.1
 
-returns-4 : tie.Need-returns-4
+returns-4 : tie.Need-returns-in-Refused
 returns-4 c =
     let t = c.before.before in
     let x = t.before.before in
-    let g = x.before.before.before in
-    let q = g.before.before in
+    let g = x.before.before in
+    let q = g.before in
     let s = asked q in
     let e = x.refuse.ensures in
-    let m = g.mark.given.0.0 in
-    alone-told 2 telling (promise s) s.args.answer.now q.find-ping.result _ _ _ q.before.if1.false (omega arith)
-    q.find-ping.ensures (ap telling g.mark.given.1)
-    (t.tell-found.ensures.0 ∙ ap (λ (y : Answer). (numbers y).code) e)
-    (t.tell-found.ensures.1 ∙ ap (λ (y : Answer). sets s.args.answer.now 0 (five y ++ (m ∷ []))) e)
+    let m = g.in-Refused.mark in
+    alone-told 2 telling (promise s) s.args.answer.now q.find_ping.result _ _ _ q.if-answer-lt-FOUND.false (omega arith)
+    q.find_ping.ensures (ap telling g.in-Refused.is)
+    (t.tell_found.ensures.0 ∙ ap (λ (y : Answer). (numbers y).code) e)
+    (t.tell_found.ensures.1 ∙ ap (λ (y : Answer). sets s.args.answer.now 0 (five y ++ (m ∷ []))) e)
 
-pub hac-find-ping-spec : {M : Type 1} → statement M
-hac-find-ping-spec =
+pub hac_find_ping_spec : {M : Type 1} → statement M
+hac_find_ping_spec =
     tie.close
     (tie.spec
     returns

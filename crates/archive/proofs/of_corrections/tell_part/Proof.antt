@@ -14,13 +14,18 @@ returns : tie.Need-returns
 returns c =
     let t = c.before.before in
     let x = t.before.before in
-    let a = x.before.before.before.args in
+    let a = x.args in
     let e = x.accept.ensures in (
-      t.tell-found.ensures.0 ∙ ap (λ (y : Answer). (numbers y).code) e,
-      t.tell-found.ensures.1 ∙ ap (λ (y : Answer). sets a.answer.now 0 (five y ++ (a.mark ∷ a.from ∷ []))) e,
+      t.tell_found.ensures.0 ∙ ap (λ (y : Answer). (numbers y).code) e,
+      t.tell_found.ensures.1 ∙ ap (λ (y : Answer). sets a.answer-1.now 0 (five y ++ (a.mark ∷ a.from ∷ []))) e,
     )
 
-pub tell-part-spec : {M : Type 1} → statement M
-tell-part-spec =
+pub tell_part_spec : {M : Type 1} → statement M
+tell_part_spec =
     tie.close
-    (tie.spec (λ c κs. search rules) (λ c. search rules) (λ c κs. search rules) (λ c. search rules) returns)
+    (tie.spec
+    (λ c κs. search rules)
+    (λ c. search rules)
+    (λ c κs. search rules)
+    (λ c. search rules)
+    returns)

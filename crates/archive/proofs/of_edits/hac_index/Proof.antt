@@ -10,22 +10,22 @@ use Rattle.archive.proofs.Saying.{untold, answer-told}
 use Rattle.archive.proofs.of_edits.hac_index.Statement.{statement}
 use Rattle.archive.proofs.of_edits.hac_index.Tie as tie
 
-returns : tie.Need-returns
+returns : tie.Need-returns-then-answer-lt-HEAD
 returns c =
-    let a = c.before.before.before.before.args in
-    untold 0 five (Indexed a.file.now a.out.now) a.answer.now a.out.now c.if1.true
+    let a = c.args in
+    untold 0 five (Indexed a.file.now a.out-1.now) a.answer-1.now a.out-1.now c.if-answer-lt-HEAD.true
 
-returns-2 : tie.Need-returns-2
+returns-2 : tie.Need-returns
 returns-2 c =
     let t = c.before.before in
     let k = t.before.before.before in
     let e = k.before.before.before in
-    let a = e.before.before.before.before.args in
-    answer-told (Indexed a.file.now a.out.now) a.answer.now a.out.now k.index.result _ _ _
-    e.if1.false k.index.ensures t.tell-answer.ensures
+    let a = e.args in
+    answer-told (Indexed a.file.now a.out-1.now) a.answer-1.now a.out-1.now k.index.result _ _ _
+    e.if-answer-lt-HEAD.false k.index.ensures t.tell_answer.ensures
 
-pub hac-index-spec : {M : Type 1} → statement M
-hac-index-spec =
+pub hac_index_spec : {M : Type 1} → statement M
+hac_index_spec =
     tie.close
     (tie.spec
     returns

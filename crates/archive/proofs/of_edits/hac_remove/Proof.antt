@@ -10,22 +10,22 @@ use Rattle.archive.proofs.Saying.{untold, answer-told}
 use Rattle.archive.proofs.of_edits.hac_remove.Statement.{statement}
 use Rattle.archive.proofs.of_edits.hac_remove.Tie as tie
 
-returns : tie.Need-returns
+returns : tie.Need-returns-then-answer-lt-HEAD
 returns c =
-    let a = c.before.before.before.before.args in
-    untold 0 five (Removed a.file.now a.place a.out.now) a.answer.now a.out.now c.if1.true
+    let a = c.args in
+    untold 0 five (Removed a.file.now a.place a.out-1.now) a.answer-1.now a.out-1.now c.if-answer-lt-HEAD.true
 
-returns-2 : tie.Need-returns-2
+returns-2 : tie.Need-returns
 returns-2 c =
     let t = c.before.before in
     let k = t.before.before.before in
     let e = k.before.before.before in
-    let a = e.before.before.before.before.args in
-    answer-told (Removed a.file.now a.place a.out.now) a.answer.now a.out.now k.remove.result _ _ _
-    e.if1.false k.remove.ensures t.tell-answer.ensures
+    let a = e.args in
+    answer-told (Removed a.file.now a.place a.out-1.now) a.answer-1.now a.out-1.now k.remove.result _ _ _
+    e.if-answer-lt-HEAD.false k.remove.ensures t.tell_answer.ensures
 
-pub hac-remove-spec : {M : Type 1} → statement M
-hac-remove-spec =
+pub hac_remove_spec : {M : Type 1} → statement M
+hac_remove_spec =
     tie.close
     (tie.spec
     returns

@@ -12,31 +12,31 @@ use Rattle.archive.proofs.of_energy.hac_energies.Statement.{statement}
 use Rattle.archive.proofs.of_energy.hac_energies.Tie as tie
 
 -- places, named by what has been done there
-abbrev start : tie.After-slice-known4 → tie.Start
+abbrev start : tie.After-slice_known-4-1 → tie.Start
 start c = c.before.before.before.before.before
 
-abbrev asking : tie.After-energies → tie.Else1
+abbrev asking : tie.After-energies → tie.Else-answer-lt-HEAD
 asking c = c.before.before.before.before.before
 
-abbrev told : tie.After-tell-answer → tie.After-energies
+abbrev told : tie.After-tell_answer → tie.After-energies
 told c = c.before.before.before.before.before.before.before
 
-returns : tie.Need-returns
+returns : tie.Need-returns-then-answer-lt-HEAD
 returns c =
     let a = (start c.before).args in
-    untold 0 five _ a.answer.now (a.places.now, a.energies.now, a.codes.now) c.if1.true
+    untold 0 five _ a.answer-1.now (a.places-1.now, a.energies.now, a.codes-1.now) c.if-answer-lt-HEAD.true
 
-returns-2 : tie.Need-returns-2
+returns-2 : tie.Need-returns
 returns-2 c =
     let t = c.before.before in
     let k = told t in
     let e = asking k in
     let a = (start e.before).args in
-    answer-told _ a.answer.now (a.places.now, a.energies.now, a.codes.now) k.energies.result _ _ _ e.if1.left
-    k.energies.ensures t.tell-answer.ensures
+    answer-told _ a.answer-1.now (a.places-1.now, a.energies.now, a.codes-1.now) k.energies.result _ _ _ e.if-answer-lt-HEAD.false
+    k.energies.ensures t.tell_answer.ensures
 
-pub hac-energies-spec : {M : Type 1} → statement M
-hac-energies-spec =
+pub hac_energies_spec : {M : Type 1} → statement M
+hac_energies_spec =
     tie.close
     (tie.spec
     returns

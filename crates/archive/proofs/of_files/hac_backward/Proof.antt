@@ -11,24 +11,29 @@ use Rattle.archive.proofs.Steps.{step-short}
 use Rattle.archive.proofs.of_files.hac_backward.Statement.{statement}
 use Rattle.archive.proofs.of_files.hac_backward.Tie as tie
 
-returns : tie.Need-returns
+returns : tie.Need-returns-then-answer-lt-STEP
 returns c =
-    let a = c.before.before.before.args in
-    alone-untold 4 (told step_numbers step_fields) (SteppedBackward a.file.now a.place) a.answer.now c.if1.true
+    let a = c.args in
+    alone-untold 4 (told step_numbers step_fields) (SteppedBackward a.file.now a.place) a.answer-1.now c.if-answer-lt-STEP.true
 
-returns-2 : tie.Need-returns-2
+returns-2 : tie.Need-returns
 returns-2 c =
     let t = c.before.before in
     let k = t.before in
     let e = k.before.before in
-    let a = e.before.before.before.args in
+    let a = e.args in
     let s = k.backward.result in
-    alone-told 4 (told step_numbers step_fields) (SteppedBackward a.file.now a.place) a.answer.now s
+    alone-told 4 (told step_numbers step_fields) (SteppedBackward a.file.now a.place) a.answer-1.now s
     (told step_numbers step_fields s) _ _
-    e.if1.false (step-short s) k.backward.ensures refl t.tell-step.ensures.0 t.tell-step.ensures.1
+    e.if-answer-lt-STEP.false (step-short s) k.backward.ensures refl t.tell_step.ensures.0 t.tell_step.ensures.1
 
-pub hac-backward-spec : {M : Type 1} → statement M
-hac-backward-spec = tie.close (tie.spec returns (λ c κs. search rules) (λ c κs. search rules) (λ c. search rules) returns-2)
+pub hac_backward_spec : {M : Type 1} → statement M
+hac_backward_spec = tie.close (tie.spec
+    returns
+    (λ c κs. search rules)
+    (λ c κs. search rules)
+    (λ c. search rules)
+    returns-2)
 
 pub hac-backward-settled : (f : List ℕ) (p : ℕ) (lent : List ℕ) {c d : ℕ} {left right : List ℕ}
     → SaidAlone 4 (told step_numbers step_fields) (SteppedBackward f p) lent c left

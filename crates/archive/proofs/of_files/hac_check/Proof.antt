@@ -10,20 +10,25 @@ use Rattle.archive.proofs.Saying.{alone-untold, alone-answer}
 use Rattle.archive.proofs.of_files.hac_check.Statement.{statement}
 use Rattle.archive.proofs.of_files.hac_check.Tie as tie
 
-returns : tie.Need-returns
-returns c = let a = c.before.before.before.args in alone-untold 0 five (Checked a.file.now) a.answer.now c.if1.true
+returns : tie.Need-returns-then-answer-lt-HEAD
+returns c = let a = c.args in alone-untold 0 five (Checked a.file.now) a.answer-1.now c.if-answer-lt-HEAD.true
 
-returns-2 : tie.Need-returns-2
+returns-2 : tie.Need-returns
 returns-2 c =
     let t = c.before.before in
     let k = t.before in
     let e = k.before.before in
-    let a = e.before.before.before.args in
-    alone-answer (Checked a.file.now) a.answer.now k.check.result _ _ e.if1.false k.check.ensures
-    t.tell-answer.ensures
+    let a = e.args in
+    alone-answer (Checked a.file.now) a.answer-1.now k.check.result _ _ e.if-answer-lt-HEAD.false k.check.ensures
+    t.tell_answer.ensures
 
-pub hac-check-spec : {M : Type 1} → statement M
-hac-check-spec = tie.close (tie.spec returns (λ c κs. search rules) (λ c κs. search rules) (λ c. search rules) returns-2)
+pub hac_check_spec : {M : Type 1} → statement M
+hac_check_spec = tie.close (tie.spec
+    returns
+    (λ c κs. search rules)
+    (λ c κs. search rules)
+    (λ c. search rules)
+    returns-2)
 
 pub hac-check-settled : (f lent : List ℕ) {c d : ℕ} {left right : List ℕ}
     → SaidAlone 0 five (Checked f) lent c left → SaidAlone 0 five (Checked f) lent d right → (c ≡ d) × (left ≡ right)

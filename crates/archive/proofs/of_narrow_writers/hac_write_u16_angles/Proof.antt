@@ -16,12 +16,12 @@ use Rattle.archive.proofs.Pings.{of_same}
 use Rattle.archive.proofs.of_narrow_writers.hac_write_u16_angles.Statement.{statement}
 use Rattle.archive.proofs.of_narrow_writers.hac_write_u16_angles.Tie as tie
 
-returns : tie.Need-returns
+returns : tie.Need-returns-then-answer-lt-HEAD
 returns c =
-    let a = c.before.before.before.before.args in
-    untold 0 five _ a.answer.now a.out.now c.if1.true
+    let a = c.args in
+    untold 0 five _ a.answer-1.now a.out-1.now c.if-answer-lt-HEAD.true
 
-returns-2 : tie.Need-returns-2
+returns-2 : tie.Need-returns
 returns-2 c =
     let t = c.before.before in
     let k = t.before.before.before in
@@ -29,17 +29,17 @@ returns-2 c =
     let e = g.before in
     let s = e.before.before.before.before in
     let a = s.args in
-    answer-told _ a.answer.now a.out.now k.write-u16-angles.result _ _ _ e.if1.false
+    answer-told _ a.answer-1.now a.out-1.now k.write_u16_angles.result _ _ _ e.if-answer-lt-HEAD.false
     (of_same
     (λ (h : PingHeader) (z : ℤ).
-    WrittenA narrow_angles a.msb h z a.numbers.now a.alongship.now a.athwartship.now a.out.now
-    k.write-u16-angles.result k.write-u16-angles.new.1.1.1.1.1.1.0)
+    WrittenA narrow_angles a.msb h z a.numbers.now a.alongship.now a.athwartship.now a.out-1.now
+    k.write_u16_angles.result k.write_u16_angles.new.1.1.1.1.1.1.0)
     (header_with a.time-fraction a.time-cpu a.software-channel-identifier a.transmitter-mode a.ping-number)
-    s.ranges.detected-bottom-range s.ranges.tuple-attribute g.header_of.ensures k.write-u16-angles.ensures)
-    t.tell-answer.ensures
+    s.ranges.detected-bottom-range s.ranges.tuple-attribute g.header_of-header.ensures k.write_u16_angles.ensures)
+    t.tell_answer.ensures
 
-pub hac-write-u16-angles-spec : {M : Type 1} → statement M
-hac-write-u16-angles-spec =
+pub hac_write_u16_angles_spec : {M : Type 1} → statement M
+hac_write_u16_angles_spec =
     tie.close
     (tie.spec
     returns

@@ -12,23 +12,23 @@ use Rattle.archive.proofs.Saying.{untold, answer-told}
 use Rattle.archive.proofs.of_pings.hac_read_angles.Statement.{statement}
 use Rattle.archive.proofs.of_pings.hac_read_angles.Tie as tie
 
-returns : tie.Need-returns
+returns : tie.Need-returns-then-answer-lt-HEAD
 returns c =
-    let a = c.before.before.before.before.args in
-    untold 0 five _ a.answer.now (a.numbers.now, a.alongship.now, a.athwartship.now) c.if1.true
+    let a = c.args in
+    untold 0 five _ a.answer-1.now (a.numbers-1.now, a.alongship-1.now, a.athwartship-1.now) c.if-answer-lt-HEAD.true
 
-returns-2 : tie.Need-returns-2
+returns-2 : tie.Need-returns
 returns-2 c =
     let t = c.before.before in
     let k = t.before.before.before.before.before in
     let e = k.before.before.before.before.before in
-    let a = e.before.before.before.before.args in
-    answer-told _ a.answer.now (a.numbers.now, a.alongship.now, a.athwartship.now) k.read-angles.result _ _ _ e.if1.false
-    k.read-angles.ensures
-    t.tell-answer.ensures
+    let a = e.args in
+    answer-told _ a.answer-1.now (a.numbers-1.now, a.alongship-1.now, a.athwartship-1.now) k.read_angles.result _ _ _ e.if-answer-lt-HEAD.false
+    k.read_angles.ensures
+    t.tell_answer.ensures
 
-pub hac-read-angles-spec : {M : Type 1} → statement M
-hac-read-angles-spec =
+pub hac_read_angles_spec : {M : Type 1} → statement M
+hac_read_angles_spec =
     tie.close
     (tie.spec
     returns

@@ -15,40 +15,40 @@ use Rattle.archive.proofs.Pings.{two-told}
 use Rattle.archive.proofs.of_pings.hac_read_ping.Statement.{statement}
 use Rattle.archive.proofs.of_pings.hac_read_ping.Tie as tie
 
-returns : tie.Need-returns
+returns : tie.Need-returns-then-answer-lt-PING
 returns c =
-    let a = c.before.before.before.args in
-    alone-untold 11 (told ping_numbers read_fields) (PingAt a.file.now a.place) a.answer.now c.if1.true
+    let a = c.args in
+    alone-untold 11 (told ping_numbers read_fields) (PingAt a.file.now a.place) a.answer-1.now c.if-answer-lt-PING.true
 
-returns-2 : tie.Need-returns-2
+returns-2 : tie.Need-returns-in-Read
 returns-2 c =
     let t = c.before.before in
     let k = t.before.before in
-    let g = k.before in
-    let q = g.before.before in
-    let a = q.before.before.before.before.args in
-    let x = g.header.given.0 in
-    alone-told 11 (told ping_numbers read_fields) (PingAt a.file.now a.place) a.answer.now q.read-ping.result _ _ _
-    q.before.if1.false (omega (arith, two-told x.1.1.1.1.0)) q.read-ping.ensures
-    (ap (told ping_numbers read_fields) g.header.given.1
+    let g = k in
+    let q = g.before in
+    let a = q.args in
+    let x = g.in-Read.header.given.0 in
+    alone-told 11 (told ping_numbers read_fields) (PingAt a.file.now a.place) a.answer-1.now q.read_ping.result _ _ _
+    q.if-answer-lt-PING.false (omega (arith, two-told x.1.1.1.1.0)) q.read_ping.ensures
+    (ap (told ping_numbers read_fields) g.in-Read.is
     ∙ (λ i.
     told ping_numbers read_fields
-    (Read x.0 (sym (to_z-of_z {w = w32} {z = x.1.0} (record { sfits = k.known-told.given.1.0.1 })) i) x.1.1.0
+    (Read x.0 (sym (to_z-of_z {w = w32} {z = x.1.0} (record { sfits = k.in-Read.known_told-1-own.given.1.0.1 })) i) x.1.1.0
     x.1.1.1.0 x.1.1.1.1.0)))
-    t.tell-ping.ensures.0 t.tell-ping.ensures.1
+    t.tell_ping.ensures.0 t.tell_ping.ensures.1
 
-returns-3 : tie.Need-returns-3
+returns-3 : tie.Need-returns-in-Refused
 returns-3 c =
     let t = c.before.before in
-    let g = t.before.before.before in
-    let q = g.before.before in
-    let a = q.before.before.before.before.args in
-    alone-told 11 (told ping_numbers read_fields) (PingAt a.file.now a.place) a.answer.now q.read-ping.result _ _ _
-    q.before.if1.false (omega arith) q.read-ping.ensures (ap (told ping_numbers read_fields) g.code.given.1)
-    t.tell-refusal.ensures.0 t.tell-refusal.ensures.1
+    let g = t.before.before in
+    let q = g.before in
+    let a = q.args in
+    alone-told 11 (told ping_numbers read_fields) (PingAt a.file.now a.place) a.answer-1.now q.read_ping.result _ _ _
+    q.if-answer-lt-PING.false (omega arith) q.read_ping.ensures (ap (told ping_numbers read_fields) g.in-Refused.is)
+    t.tell_refusal.ensures.0 t.tell_refusal.ensures.1
 
-pub hac-read-ping-spec : {M : Type 1} → statement M
-hac-read-ping-spec =
+pub hac_read_ping_spec : {M : Type 1} → statement M
+hac_read_ping_spec =
     tie.close
     (tie.spec
     returns

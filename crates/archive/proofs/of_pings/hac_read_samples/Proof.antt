@@ -12,23 +12,23 @@ use Rattle.archive.proofs.Saying.{untold, answer-told}
 use Rattle.archive.proofs.of_pings.hac_read_samples.Statement.{statement}
 use Rattle.archive.proofs.of_pings.hac_read_samples.Tie as tie
 
-returns : tie.Need-returns
+returns : tie.Need-returns-then-answer-lt-HEAD
 returns c =
-    let a = c.before.before.before.before.args in
-    untold 0 five _ a.answer.now (a.numbers.now, a.values.now) c.if1.true
+    let a = c.args in
+    untold 0 five _ a.answer-1.now (a.numbers-1.now, a.values-1.now) c.if-answer-lt-HEAD.true
 
-returns-2 : tie.Need-returns-2
+returns-2 : tie.Need-returns
 returns-2 c =
     let t = c.before.before in
     let k = t.before.before.before.before in
     let e = k.before.before.before.before in
-    let a = e.before.before.before.before.args in
-    answer-told _ a.answer.now (a.numbers.now, a.values.now) k.read-samples.result _ _ _ e.if1.false
-    k.read-samples.ensures
-    t.tell-answer.ensures
+    let a = e.args in
+    answer-told _ a.answer-1.now (a.numbers-1.now, a.values-1.now) k.read_samples.result _ _ _ e.if-answer-lt-HEAD.false
+    k.read_samples.ensures
+    t.tell_answer.ensures
 
-pub hac-read-samples-spec : {M : Type 1} → statement M
-hac-read-samples-spec =
+pub hac_read_samples_spec : {M : Type 1} → statement M
+hac_read_samples_spec =
     tie.close
     (tie.spec
     returns

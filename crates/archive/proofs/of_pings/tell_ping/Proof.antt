@@ -14,13 +14,13 @@ use Rattle.archive.proofs.of_pings.tell_ping.Statement.{statement}
 use Rattle.archive.proofs.of_pings.tell_ping.Tie as tie
 
 -- the function's start
-abbrev start : tie.After-struct-told → tie.Start
+abbrev start : tie.After-struct_told-1 → tie.Start
 start s = s.before.before.before.before.before.before.before
 
 returns : tie.Need-returns
 returns c =
     let t = c.before.before in
-    let e = t.before.before.accept.ensures in
+    let e = t.accept.ensures in
     let n = t.before.before.before.before in
     let w = n.before in
     let k = w.before in
@@ -29,11 +29,11 @@ returns c =
     let s = p.before in
     let a = (start s).args in
     let h = a.header in
-    let both = (λ j. w.has-number.ensures j ∷ n.length-number.ensures j ∷ []) ∙ both_told a.ping-length in (
-      t.tell-found.ensures.0 ∙ ap (λ (y : Answer). (numbers y).code) e,
-      t.tell-found.ensures.1
+    let both = (λ j. w.has_number.ensures j ∷ n.length_number.ensures j ∷ []) ∙ both_told a.ping-length in (
+      t.tell_found.ensures.0 ∙ ap (λ (y : Answer). (numbers y).code) e,
+      t.tell_found.ensures.1
           ∙ (λ i.
-          sets a.answer.now 0
+          sets a.answer-1.now 0
           (five (e i)
           ++ (h.time_fraction
           ∷ h.time_cpu
@@ -42,16 +42,16 @@ returns c =
           ∷ h.ping_number
           ∷ (p.pattern4.ensures
           ∙ ap (pattern_of 4) (to_z-of_z {w = w32} {z = h.detected_bottom_range}
-          (record { sfits = s.struct_told.given.1.1.1.1.1.0.1 })))
+          (record { sfits = s.struct_told-1.given.1.1.1.1.1.0.1 })))
           i
-          ∷ (b.pattern42.ensures ∙ ap (pattern_of 4) (to_z-of_z {w = w32} {z = a.attribute} (start s).ranges.attribute)) i
-          ∷ k.kind-number.ensures i
+          ∷ (b.pattern4-2.ensures ∙ ap (pattern_of 4) (to_z-of_z {w = w32} {z = a.attribute} (start s).ranges.attribute)) i
+          ∷ k.kind_number.ensures i
           ∷ a.values
           ∷ both i))),
     )
 
-pub tell-ping-spec : {M : Type 1} → statement M
-tell-ping-spec =
+pub tell_ping_spec : {M : Type 1} → statement M
+tell_ping_spec =
     tie.close
     (tie.spec
     (λ c. search rules)

@@ -13,31 +13,31 @@ use Rattle.archive.proofs.of_readings.hac_readings.Statement.{statement}
 use Rattle.archive.proofs.of_readings.hac_readings.Tie as tie
 
 -- places, named by what has been done there
-abbrev start : tie.After-slice-known3 → tie.Start
+abbrev start : tie.After-slice_known-3-1 → tie.Start
 start c = c.before.before.before.before
 
-abbrev asking : tie.After-readings → tie.Else1
+abbrev asking : tie.After-readings → tie.Else-answer-lt-HEAD
 asking c = c.before.before.before.before
 
-abbrev told : tie.After-tell-answer → tie.After-readings
+abbrev told : tie.After-tell_answer → tie.After-readings
 told c = c.before.before.before.before.before
 
-returns : tie.Need-returns
+returns : tie.Need-returns-then-answer-lt-HEAD
 returns c =
     let a = (start c.before).args in
-    untold 0 five _ a.answer.now (a.cases.now, a.doubles.now) c.if1.true
+    untold 0 five _ a.answer-1.now (a.cases-1.now, a.doubles-1.now) c.if-answer-lt-HEAD.true
 
-returns-2 : tie.Need-returns-2
+returns-2 : tie.Need-returns
 returns-2 c =
     let t = c.before.before in
     let k = told t in
     let e = asking k in
     let a = (start e.before).args in
-    answer-told _ a.answer.now (a.cases.now, a.doubles.now) k.readings.result _ _ _ e.if1.left
-    k.readings.ensures t.tell-answer.ensures
+    answer-told _ a.answer-1.now (a.cases-1.now, a.doubles-1.now) k.readings.result _ _ _ e.if-answer-lt-HEAD.false
+    k.readings.ensures t.tell_answer.ensures
 
-pub hac-readings-spec : {M : Type 1} → statement M
-hac-readings-spec =
+pub hac_readings_spec : {M : Type 1} → statement M
+hac_readings_spec =
     tie.close
     (tie.spec
     returns

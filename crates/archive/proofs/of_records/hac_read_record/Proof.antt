@@ -15,43 +15,43 @@ use Rattle.archive.proofs.Saying.{untold, told_as}
 use Rattle.archive.proofs.of_records.hac_read_record.Statement.{statement}
 use Rattle.archive.proofs.of_records.hac_read_record.Tie as tie
 
-returns : tie.Need-returns
+returns : tie.Need-returns-then-answer-lt-RECORD
 returns c =
-    let a = c.before.before.before.before.args in
-    untold 2 (told answer_numbers row_fields) (RowAt a.code a.file.now a.place a.numbers.now) a.answer.now a.numbers.now
-    c.if1.true
+    let a = c.args in
+    untold 2 (told answer_numbers row_fields) (RowAt a.code-1 a.file.now a.place a.numbers-1.now) a.answer-1.now a.numbers-1.now
+    c.if-answer-lt-RECORD.true
 
-returns-2 : tie.Need-returns-2
+returns-2 : tie.Need-returns-in-Read
 returns-2 c =
     let t = c.before.before in
-    let e = t.before.before.accept.ensures in
-    let g = t.before.before.before.before.before in
-    let q = g.before.before.before.before in
+    let e = t.accept.ensures in
+    let g = t.before.before.before.before in
+    let q = g.before.before.before in
     let b = q.before.before in
-    let a = b.before.before.before.before.args in
-    let x = g.text.given.0.0 in
-    told_as 2 (told answer_numbers row_fields) (RowAt a.code a.file.now a.place a.numbers.now) a.answer.now
-    a.numbers.now
-    q.read-row.result (five (accepting 1 0) ++ (x.place ∷ x.length ∷ [])) _ _ _ b.if1.false (omega arith) q.read-row.ensures
-    (ap (told answer_numbers row_fields) g.text.given.1)
-    (t.tell-found.ensures.0 ∙ ap (λ (y : Answer). (numbers y).code) e)
-    (t.tell-found.ensures.1 ∙ ap (λ (y : Answer). sets a.answer.now 0 (five y ++ (x.place ∷ x.length ∷ []))) e)
+    let a = b.args in
+    let x = g.in-Read.text in
+    told_as 2 (told answer_numbers row_fields) (RowAt a.code-1 a.file.now a.place a.numbers-1.now) a.answer-1.now
+    a.numbers-1.now
+    q.read_row.result (five (accepting 1 0) ++ (x.place ∷ x.length ∷ [])) _ _ _ b.if-answer-lt-RECORD.false (omega arith) q.read_row.ensures
+    (ap (told answer_numbers row_fields) g.in-Read.is)
+    (t.tell_found.ensures.0 ∙ ap (λ (y : Answer). (numbers y).code-1) e)
+    (t.tell_found.ensures.1 ∙ ap (λ (y : Answer). sets a.answer-1.now 0 (five y ++ (x.place ∷ x.length ∷ []))) e)
 
-returns-3 : tie.Need-returns-3
+returns-3 : tie.Need-returns-in-Refused
 returns-3 c =
     let t = c.before.before in
-    let g = t.before.before.before in
-    let q = g.before.before.before.before in
+    let g = t.before.before in
+    let q = g.before.before.before in
     let b = q.before.before in
-    let a = b.before.before.before.before.args in
-    told_as 2 (told answer_numbers row_fields) (RowAt a.code a.file.now a.place a.numbers.now) a.answer.now
-    a.numbers.now
-    q.read-row.result _ _ _ _ b.if1.false (omega arith) q.read-row.ensures
-    (ap (told answer_numbers row_fields) g.code.given.1)
-    t.tell-refusal.ensures.0 t.tell-refusal.ensures.1
+    let a = b.args in
+    told_as 2 (told answer_numbers row_fields) (RowAt a.code-1 a.file.now a.place a.numbers-1.now) a.answer-1.now
+    a.numbers-1.now
+    q.read_row.result _ _ _ _ b.if-answer-lt-RECORD.false (omega arith) q.read_row.ensures
+    (ap (told answer_numbers row_fields) g.in-Refused.is)
+    t.tell_refusal.ensures.0 t.tell_refusal.ensures.1
 
-pub hac-read-record-spec : {M : Type 1} → statement M
-hac-read-record-spec =
+pub hac_read_record_spec : {M : Type 1} → statement M
+hac_read_record_spec =
     tie.close
     (tie.spec
     returns

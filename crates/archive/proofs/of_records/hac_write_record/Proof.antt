@@ -12,25 +12,31 @@ use Rattle.archive.proofs.Saying.{untold, answer-told}
 use Rattle.archive.proofs.of_records.hac_write_record.Statement.{statement}
 use Rattle.archive.proofs.of_records.hac_write_record.Tie as tie
 
-returns : tie.Need-returns
+returns : tie.Need-returns-then-answer-lt-HEAD
 returns c =
-    let a = c.before.before.before.before.before.args in
-    untold 0 five (RowWritten a.code a.numbers.now a.text.now a.msb a.out.now) a.answer.now a.out.now
-    c.if1.true
+    let a = c.args in
+    untold 0 five (RowWritten a.code a.numbers.now a.text.now a.msb a.out-1.now) a.answer-1.now a.out-1.now
+    c.if-answer-lt-HEAD.true
 
-returns-2 : tie.Need-returns-2
+returns-2 : tie.Need-returns
 returns-2 c =
     let t = c.before.before in
     let k = t.before.before.before in
     let e = k.before.before.before in
-    let a = e.before.before.before.before.before.args in
-    answer-told (RowWritten a.code a.numbers.now a.text.now a.msb a.out.now) a.answer.now a.out.now
-    k.write-row.result _ _ _
-    e.if1.false k.write-row.ensures t.tell-answer.ensures
+    let a = e.args in
+    answer-told (RowWritten a.code a.numbers.now a.text.now a.msb a.out-1.now) a.answer-1.now a.out-1.now
+    k.write_row.result _ _ _
+    e.if-answer-lt-HEAD.false k.write_row.ensures t.tell_answer.ensures
 
-pub hac-write-record-spec : {M : Type 1} → statement M
-hac-write-record-spec =
-    tie.close (tie.spec returns (λ c κs. search rules) (λ c κs. search rules) (λ c. search rules) (λ c. search rules) returns-2)
+pub hac_write_record_spec : {M : Type 1} → statement M
+hac_write_record_spec =
+    tie.close (tie.spec
+    returns
+    (λ c κs. search rules)
+    (λ c κs. search rules)
+    (λ c. search rules)
+    (λ c. search rules)
+    returns-2)
 
 module _ (k : ℕ) (ns t : List ℕ) (o : Bool) (out lent : List ℕ) {c d : ℕ} {left right kept held : List ℕ} where
   pub hac-write-record-settled : Said 0 five (RowWritten k ns t o out) lent out c left kept

@@ -20,41 +20,41 @@ abbrev promise : (f out table : List ℕ) → Outcome → List ℕ × List ℕ �
 promise f out table o m = Salvaged f out table o m.0 m.1
 
 -- places, named by what has been done there
-abbrev start : tie.Else1 → tie.Start
+abbrev start : tie.Else-answer-lt-SALVAGE → tie.Start
 start c = c.before.before.before.before.before
 
-abbrev making : tie.After-salvage → tie.Else1
+abbrev making : tie.After-salvage → tie.Else-answer-lt-SALVAGE
 making c = c.before.before.before
 
-returns : tie.Need-returns
+returns : tie.Need-returns-then-answer-lt-SALVAGE
 returns c =
-    let a = c.before.before.before.before.before.args in
-    untold 2 telling (promise a.file.now a.out.now a.table.now) a.answer.now (a.out.now, a.table.now) c.if1.taken
+    let a = c.args in
+    untold 2 telling (promise a.file.now a.out-1.now a.table-1.now) a.answer-1.now (a.out-1.now, a.table-1.now) c.if-answer-lt-SALVAGE.true
 
-returns-2 : tie.Need-returns-2
+returns-2 : tie.Need-returns-in-Saved
 returns-2 c =
     let t = c.before.before in
-    let g = t.before.before.before.before in
-    let q = g.before.before.before.before.before.before in
+    let g = t.before.before.before in
+    let q = g.before.before.before.before.before in
     let e = making q in
     let a = (start e).args in
-    told_as 2 telling (promise a.file.now a.out.now a.table.now) a.answer.now (a.out.now, a.table.now)
-    q.salvage.result _ _ _ _ e.if1.left (omega arith) q.salvage.ensures (ap telling g.ranges.given.1)
-    t.tell-found.ensures.0 t.tell-found.ensures.1
+    told_as 2 telling (promise a.file.now a.out-1.now a.table-1.now) a.answer-1.now (a.out-1.now, a.table-1.now)
+    q.salvage.result _ _ _ _ e.if-answer-lt-SALVAGE.false (omega arith) q.salvage.ensures (ap telling g.ranges.given.1)
+    t.tell_found.ensures.0 t.tell_found.ensures.1
 
-returns-3 : tie.Need-returns-3
+returns-3 : tie.Need-returns-in-Refused
 returns-3 c =
     let t = c.before.before in
-    let g = t.before.before.before in
-    let q = g.before.before.before.before.before.before in
+    let g = t.before.before in
+    let q = g.before.before.before.before.before in
     let e = making q in
     let a = (start e).args in
-    told_as 2 telling (promise a.file.now a.out.now a.table.now) a.answer.now (a.out.now, a.table.now)
-    q.salvage.result _ _ _ _ e.if1.left (omega arith) q.salvage.ensures (ap telling g.code.given.1)
-    t.tell-refusal.ensures.0 t.tell-refusal.ensures.1
+    told_as 2 telling (promise a.file.now a.out-1.now a.table-1.now) a.answer-1.now (a.out-1.now, a.table-1.now)
+    q.salvage.result _ _ _ _ e.if-answer-lt-SALVAGE.false (omega arith) q.salvage.ensures (ap telling g.in-Refused.is)
+    t.tell_refusal.ensures.0 t.tell_refusal.ensures.1
 
-pub hac-salvage-spec : {M : Type 1} → statement M
-hac-salvage-spec =
+pub hac_salvage_spec : {M : Type 1} → statement M
+hac_salvage_spec =
     tie.close
     (tie.spec
     returns

@@ -16,12 +16,12 @@ use Rattle.archive.proofs.Pings.{of_same}
 use Rattle.archive.proofs.of_wide_writers.hac_write_u32.Statement.{statement}
 use Rattle.archive.proofs.of_wide_writers.hac_write_u32.Tie as tie
 
-returns : tie.Need-returns
+returns : tie.Need-returns-then-answer-lt-HEAD
 returns c =
-    let a = c.before.before.before.before.args in
-    untold 0 five _ a.answer.now a.out.now c.if1.true
+    let a = c.args in
+    untold 0 five _ a.answer-1.now a.out-1.now c.if-answer-lt-HEAD.true
 
-returns-2 : tie.Need-returns-2
+returns-2 : tie.Need-returns
 returns-2 c =
     let t = c.before.before in
     let k = t.before.before.before in
@@ -29,17 +29,17 @@ returns-2 c =
     let e = g.before in
     let s = e.before.before.before.before in
     let a = s.args in
-    answer-told _ a.answer.now a.out.now k.write-u32.result _ _ _ e.if1.false
+    answer-told _ a.answer-1.now a.out-1.now k.write_u32.result _ _ _ e.if-answer-lt-HEAD.false
     (of_same
     (λ (h : PingHeader) (z : ℤ).
-    WrittenU wide a.msb h z a.numbers.now a.values.now a.out.now k.write-u32.result
-    k.write-u32.new.1.1.1.1.1.0)
+    WrittenU wide a.msb h z a.numbers.now a.values.now a.out-1.now k.write_u32.result
+    k.write_u32.new.1.1.1.1.1.0)
     (header_with a.time-fraction a.time-cpu a.software-channel-identifier a.transmitter-mode a.ping-number)
-    s.ranges.detected-bottom-range s.ranges.tuple-attribute g.header_of.ensures k.write-u32.ensures)
-    t.tell-answer.ensures
+    s.ranges.detected-bottom-range s.ranges.tuple-attribute g.header_of-header.ensures k.write_u32.ensures)
+    t.tell_answer.ensures
 
-pub hac-write-u32-spec : {M : Type 1} → statement M
-hac-write-u32-spec =
+pub hac_write_u32_spec : {M : Type 1} → statement M
+hac_write_u32_spec =
     tie.close
     (tie.spec
     returns

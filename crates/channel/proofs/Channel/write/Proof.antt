@@ -5,11 +5,11 @@ use Rattle.channel.proofs.Channel.write.Statement.{statement}
 use Rattle.channel.proofs.Channel.write.Tie as tie
 
 -- ---- places: from where the row is written back to its numbers
-abbrev numbered : tie.After-write-row → tie.After-numbers
+abbrev numbered : tie.After-write_row → tie.After-numbers
 numbered w = w.before.before.before
 
 returns : tie.Need-returns
-returns c = let w = c.before.before in rw (numbered w).numbers.ensures at w.write-row.ensures
+returns c = let w = c.before.before in rw (numbered w).numbers.ensures at w.write_row.ensures
 
 pub write_spec : {M : Type 1} → statement M
 write_spec =

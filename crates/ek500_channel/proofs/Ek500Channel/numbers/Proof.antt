@@ -31,8 +31,8 @@ returns n24 =
     let n4 = n7.before.before in
     let n3 = n4.before in
     let n0 = n3.before in
-    let r = n0.before.args.self in
-    let f7 = n24.before.struct-told7.given.1.1.1.1.1.1.1 in
+    let r = n0.args.self in
+    let f7 = n24.struct_told-7-1.given.1.1.1.1.1.1.1 in
     let f8 = f7.1 in
     let f9 = f8.1 in
     let f10 = f9.1 in
@@ -40,35 +40,35 @@ returns n24 =
     let f21 = f19.1.1 in
     let f24 = f21.1.1.1 in
     λ i.
-    n0.of-unsigned2.ensures i
+    n0.of_unsigned2.ensures i
     ∷ r.echosounder_document_identifier.0
     ∷ r.sampling_rate
-    ∷ n3.of-unsigned22.ensures i
-    ∷ n4.of-unsigned23.ensures i
+    ∷ n3.of_unsigned2-2.ensures i
+    ∷ n4.of_unsigned2-3.ensures i
     ∷ r.acoustic_frequency
     ∷ r.installation_depth_of_transducer
-    ∷ held-pattern w16 2 r.alongship_angle_offset_of_the_transducer_face f7.0.1 n7.of-signed2.ensures i
-    ∷ held-pattern w16 2 r.athwartship_angle_offset_of_the_transducer_face f8.0.1 n8.of-signed22.ensures i
-    ∷ held-pattern w16 2 r.alongship_angle_offset_of_the_main_axis_of_the_acoustic_beam f9.0.1 n9.of-signed23.ensures i
-    ∷ held-pattern w16 2 r.athwartship_angle_offset_of_the_main_axis_of_the_acoustic_beam f10.0.1 n10.of-signed24.ensures i
-    ∷ n11.of-unsigned24.ensures i
-    ∷ n12.of-unsigned25.ensures i
-    ∷ n13.of-unsigned26.ensures i
-    ∷ n14.of-unsigned27.ensures i
-    ∷ n15.of-unsigned28.ensures i
-    ∷ n16.of-unsigned29.ensures i
-    ∷ n17.of-unsigned210.ensures i
-    ∷ n18.of-unsigned211.ensures i
-    ∷ held-pattern w16 2 r.two_way_beam_angle f19.0.1 n19.of-signed25.ensures i
-    ∷ n20.of-unsigned212.ensures i
-    ∷ held-pattern w16 2 r.bottom_detection_minimum_level f21.0.1 n21.of-signed26.ensures i
+    ∷ held-pattern w16 2 r.alongship_angle_offset_of_the_transducer_face f7.0.1 n7.of_signed2.ensures i
+    ∷ held-pattern w16 2 r.athwartship_angle_offset_of_the_transducer_face f8.0.1 n8.of_signed2-2.ensures i
+    ∷ held-pattern w16 2 r.alongship_angle_offset_of_the_main_axis_of_the_acoustic_beam f9.0.1 n9.of_signed2-3.ensures i
+    ∷ held-pattern w16 2 r.athwartship_angle_offset_of_the_main_axis_of_the_acoustic_beam f10.0.1 n10.of_signed2-4.ensures i
+    ∷ n11.of_unsigned2-4.ensures i
+    ∷ n12.of_unsigned2-5.ensures i
+    ∷ n13.of_unsigned2-6.ensures i
+    ∷ n14.of_unsigned2-7.ensures i
+    ∷ n15.of_unsigned2-8.ensures i
+    ∷ n16.of_unsigned2-9.ensures i
+    ∷ n17.of_unsigned2-10.ensures i
+    ∷ n18.of_unsigned2-11.ensures i
+    ∷ held-pattern w16 2 r.two_way_beam_angle f19.0.1 n19.of_signed2-5.ensures i
+    ∷ n20.of_unsigned2-12.ensures i
+    ∷ held-pattern w16 2 r.bottom_detection_minimum_level f21.0.1 n21.of_signed2-6.ensures i
     ∷ r.bottom_window_min_depth
     ∷ r.bottom_window_max_depth
-    ∷ held-pattern w32 4 r.tuple_attribute f24.0.1 n24.of-signed4.ensures i
+    ∷ held-pattern w32 4 r.tuple_attribute f24.0.1 n24.of_signed4.ensures i
     ∷ []
 
-pub numbers-spec : {M : Type 1} → statement M
-numbers-spec =
+pub numbers_spec : {M : Type 1} → statement M
+numbers_spec =
     tie.close
     (tie.spec
     (λ c κs. search rules)

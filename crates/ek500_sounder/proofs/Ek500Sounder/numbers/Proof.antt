@@ -26,31 +26,31 @@ returns n15 =
     let n3 = n4.before in
     let n2 = n3.before in
     let n0 = n2.before in
-    let r = n0.before.args.self in
-    let f11 = n15.before.struct-told3.given.1.1.1.1.1.1.1.1.1.1.1 in
+    let r = n0.args.self in
+    let f11 = n15.struct_told-3-1.given.1.1.1.1.1.1.1.1.1.1.1 in
     let f13 = f11.1.1 in
     let f15 = f13.1.1 in
     λ i.
-    n0.of-unsigned2.ensures i
+    n0.of_unsigned2.ensures i
     ∷ r.echosounder_document_identifier.0
-    ∷ n2.of-unsigned22.ensures i
-    ∷ n3.of-unsigned23.ensures i
-    ∷ n4.of-unsigned24.ensures i
-    ∷ n5.of-unsigned25.ensures i
-    ∷ n6.of-unsigned26.ensures i
-    ∷ n7.of-unsigned27.ensures i
-    ∷ n8.of-unsigned28.ensures i
-    ∷ n9.of-unsigned29.ensures i
-    ∷ n10.of-unsigned210.ensures i
-    ∷ held-pattern w32 4 r.super_layer_start f11.0.1 n11.of-signed4.ensures i
-    ∷ n12.of-unsigned211.ensures i
-    ∷ held-pattern w16 2 r.super_layer_sv_threshold f13.0.1 n13.of-signed2.ensures i
+    ∷ n2.of_unsigned2-2.ensures i
+    ∷ n3.of_unsigned2-3.ensures i
+    ∷ n4.of_unsigned2-4.ensures i
+    ∷ n5.of_unsigned2-5.ensures i
+    ∷ n6.of_unsigned2-6.ensures i
+    ∷ n7.of_unsigned2-7.ensures i
+    ∷ n8.of_unsigned2-8.ensures i
+    ∷ n9.of_unsigned2-9.ensures i
+    ∷ n10.of_unsigned2-10.ensures i
+    ∷ held-pattern w32 4 r.super_layer_start f11.0.1 n11.of_signed4.ensures i
+    ∷ n12.of_unsigned2-11.ensures i
+    ∷ held-pattern w16 2 r.super_layer_sv_threshold f13.0.1 n13.of_signed2.ensures i
     ∷ r.ek_500_version
-    ∷ held-pattern w32 4 r.tuple_attribute f15.0.1 n15.of-signed42.ensures i
+    ∷ held-pattern w32 4 r.tuple_attribute f15.0.1 n15.of_signed4-2.ensures i
     ∷ []
 
-pub numbers-spec : {M : Type 1} → statement M
-numbers-spec =
+pub numbers_spec : {M : Type 1} → statement M
+numbers_spec =
     tie.close
     (tie.spec
     (λ c κs. search rules)

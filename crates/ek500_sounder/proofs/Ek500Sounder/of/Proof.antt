@@ -30,20 +30,20 @@ returns n15 =
     record {
       number_of_software_channels = n0.unsigned2.ensures i;
       echosounder_document_identifier = record { 0 = n1.unsigned4.ensures i };
-      sound_speed = n2.unsigned22.ensures i;
-      ping_mode = n3.unsigned23.ensures i;
-      ping_interval = n4.unsigned24.ensures i;
-      transmit_power = n5.unsigned25.ensures i;
-      noise_margin = n6.unsigned26.ensures i;
-      sample_range = n7.unsigned27.ensures i;
-      super_layer_type = n8.unsigned28.ensures i;
-      super_layer_number = n9.unsigned29.ensures i;
-      super_layer_range = n10.unsigned210.ensures i;
+      sound_speed = n2.unsigned2-2.ensures i;
+      ping_mode = n3.unsigned2-3.ensures i;
+      ping_interval = n4.unsigned2-4.ensures i;
+      transmit_power = n5.unsigned2-5.ensures i;
+      noise_margin = n6.unsigned2-6.ensures i;
+      sample_range = n7.unsigned2-7.ensures i;
+      super_layer_type = n8.unsigned2-8.ensures i;
+      super_layer_number = n9.unsigned2-9.ensures i;
+      super_layer_range = n10.unsigned2-10.ensures i;
       super_layer_start = held-signed w32 n11.signed4.type-inv n11.signed4.ensures i;
-      super_layer_margin = n12.unsigned211.ensures i;
+      super_layer_margin = n12.unsigned2-11.ensures i;
       super_layer_sv_threshold = held-signed w16 n13.signed2.type-inv n13.signed2.ensures i;
-      ek_500_version = n14.unsigned42.ensures i;
-      tuple_attribute = held-signed w32 n15.signed42.type-inv n15.signed42.ensures i;
+      ek_500_version = n14.unsigned4-2.ensures i;
+      tuple_attribute = held-signed w32 n15.signed4-2.type-inv n15.signed4-2.ensures i;
     }
 
 pub of_spec : {M : Type 1} → statement M

@@ -13,16 +13,16 @@ returns : tie.Need-returns
 unfolding listing_of among listings
 returns n2 =
     let n0 = n2.before.before in
-    let r = n0.before.args.self in
-    let f2 = n2.before.struct_told.given.1.1 in
+    let r = n0.args.self in
+    let f2 = n2.struct_told-1.given.1.1 in
     λ i.
-    n0.of-unsigned2.ensures i
+    n0.of_unsigned2.ensures i
     ∷ r.time_cpu
-    ∷ held-pattern w32 4 r.tuple_attribute f2.0.1 n2.of-signed4.ensures i
+    ∷ held-pattern w32 4 r.tuple_attribute f2.0.1 n2.of_signed4.ensures i
     ∷ []
 
-pub numbers-spec : {M : Type 1} → statement M
-numbers-spec =
+pub numbers_spec : {M : Type 1} → statement M
+numbers_spec =
     tie.close
     (tie.spec
     (λ c κs. search rules)

@@ -10,8 +10,8 @@ returns : tie.Need-returns
 unfolding listing_of among listings
 returns c = refl
 
-pub places-spec : {M : Type 1} → statement M
-places-spec =
+pub places_spec : {M : Type 1} → statement M
+places_spec =
     tie.close
     (tie.spec
     (λ c. search rules)

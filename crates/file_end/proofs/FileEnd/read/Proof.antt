@@ -18,34 +18,34 @@ use Rattle.file_end.proofs.FileEnd.read.Statement.{statement}
 use Rattle.file_end.proofs.FileEnd.read.Tie as tie
 
 -- ---- places: from where the row is read back to what is known of the file, and to the start
-abbrev known : tie.After-numbers2 → tie.After-shared-slice-known
+abbrev known : tie.After-numbers-2-1 → tie.After-shared_slice_known-1
 known d = d.before.before.before
 
-abbrev start : tie.After-numbers2 → tie.Start
+abbrev start : tie.After-numbers-2-1 → tie.Start
 start d = (known d).before
 
 -- the record there
-abbrev there : tie.After-numbers2 → FileEnd
+abbrev there : tie.After-numbers-2-1 → FileEnd
 there d = file_end_of (row_integers 65534 (start d).args.file.now (start d).args.place)
 
 -- and the place of its data
-abbrev stands : tie.After-numbers2 → Part
+abbrev stands : tie.After-numbers-2-1 → Part
 stands d = row_text 65534 (start d).args.file.now (start d).args.place
 
-returns : tie.Need-returns
+returns : tie.Need-returns-in-Refused
 unfolding listing_of among listings
 returns c =
-    let d = c.before.before.before in
-    let e = view_refused 65534 refl refl (rw c.before.code.given.1 at d.before.read-row.ensures) in
+    let d = c.before in
+    let e = view_refused 65534 refl refl (rw c.in-Refused.is at d.read_row.ensures) in
     record { answer = tells e; outcome = ap (λ (x : Answer). answered x (there d) (stands d)) e }
 
-returns-2 : tie.Need-returns-2
+returns-2 : tie.Need-returns-in-Read
 unfolding listing_of among listings
 returns-2 c =
-    let d = c.before.before.before.before in
-    let r = rw c.before.before.text.given.1 at d.before.read-row.ensures in
+    let d = c.before.before in
+    let r = rw c.in-Read.is at d.read_row.ensures in
     let e = view_accepted 65534 refl refl r in
-    let bytes = bytes_of_lem (start d).args.file.now (λ i. ((known d).shared-slice-known.given i).fits) in
+    let bytes = bytes_of_lem (start d).args.file.now (λ i. ((known d).shared_slice_known-1.given i).fits) in
     let fields = c.of.ensures ∙ ap file_end_of (view_integers 65534 refl refl r bytes) in
     record { answer = tells e; outcome = (λ i. Read (fields i) (read-text r i)) ∙ ap (λ (x : Answer). answered x (there d) (stands d)) e }
 

@@ -11,42 +11,42 @@ use Rattle.hexlines.proofs.Digits.{digits-next, digits-end}
 use Rattle.hexlines.proofs.lines_in.all_digits.Statement.{statement}
 use Rattle.hexlines.proofs.lines_in.all_digits.Tie as tie
 
-abbrev invariant-loop : tie.invariant-loop
+abbrev invariant-loop : tie.invariant-loop-i
 invariant-loop line i₀ i = (i ≤ length line) × (all_digits (drop i line) ≡ all_digits line)
 
-abbrev decreases-loop : tie.decreases-loop
+abbrev decreases-loop : tie.decreases-loop-i
 decreases-loop line i₀ i = length line - i
 
-loop-holds : tie.Need-loop-init invariant-loop decreases-loop
+loop-holds : tie.Need-loop-i-init invariant-loop decreases-loop
 loop-holds c = (search rules, refl)
 
 -- what the digit at i says
-module _ (c : tie.After-is-digit invariant-loop decreases-loop) where
+module _ (c : tie.After-is_digit invariant-loop decreases-loop) where
   abbrev line : List ℕ
   line = c.before.before.before.before.before.args.line.now
 
   abbrev at : ℕ
-  at = c.before.before.before.loop.i
+  at = c.before.before.before.loop-i.i
 
   split : (b : Bool) → c.is_digit.result ≡ b → b && all_digits (drop (at + 1) line) ≡ all_digits line
   split b e =
       ap (λ (x : Bool). x && all_digits (drop (at + 1) line)) (sym e ∙ c.is_digit.ensures)
-      ∙ sym (digits-next line at c.before.before.loop-test.true)
-      ∙ c.before.before.before.loop.invariant.1
+      ∙ sym (digits-next line at c.before.before.loop-i-test.true)
+      ∙ c.before.before.before.loop-i.invariant.1
 
-returns : tie.Need-returns invariant-loop decreases-loop
-returns c = split c.before false (not-true _ c.if1.true)
+returns : tie.Need-returns-then-not-is_digit invariant-loop decreases-loop
+returns c = split c.before false (not-true _ c.if-not-is_digit.true)
 
-loop-again : tie.Need-loop-preserved invariant-loop decreases-loop
-loop-again c = (search rules, split c.before true (not-false _ c.if1.false))
+loop-again : tie.Need-loop-i-preserved invariant-loop decreases-loop
+loop-again c = (search rules, split c.before true (not-false _ c.if-not-is_digit.false))
 
-returns-2 : tie.Need-returns-2 invariant-loop decreases-loop
+returns-2 : tie.Need-returns invariant-loop decreases-loop
 returns-2 c =
-    let l = c.before.loop in
-    sym (digits-end c.before.before.before.args.line.now l.i c.loop-test.false) ∙ l.invariant.1
+    let l = c.loop-i in
+    sym (digits-end c.args.line.now l.i c.loop-i-test.false) ∙ l.invariant.1
 
-pub all-digits-spec : {M : Type 1} → statement M
-all-digits-spec =
+pub all_digits_spec : {M : Type 1} → statement M
+all_digits_spec =
     tie.close
     (tie.spec
     invariant-loop

@@ -8,46 +8,46 @@ use Rattle.hexlines.proofs.Reading.{Reading, reading_begin, end-within, good, re
 use Rattle.hexlines.proofs.lines_in.decode.Statement.{statement}
 use Rattle.hexlines.proofs.lines_in.decode.Tie as tie
 
-abbrev invariant-loop : tie.invariant-loop
+abbrev invariant-loop : tie.invariant-loop-at
 invariant-loop text bytes₀ number₀ decoded₀ at₀ bytes number decoded at = Reading text bytes₀ bytes number decoded at
 
-abbrev decreases-loop : tie.decreases-loop
+abbrev decreases-loop : tie.decreases-loop-at
 decreases-loop text bytes₀ number₀ decoded₀ at₀ bytes number decoded at = length text - at
 
 -- the line at the place ends within the text
-within : (c : tie.After-line-end invariant-loop decreases-loop) →
-    let end = c.line-end.result in
-    (c.before.before.loop.at ≤ end) × (end ≤ length c.before.before.before.before.before.args.text.now)
+within : (c : tie.After-line_end-end invariant-loop decreases-loop) →
+    let end = c.line_end-end.result in
+    (c.loop-at.at ≤ end) × (end ≤ length c.args.text.now)
 within c =
-    end-within c.before.before.before.before.before.args.text.now c.before.before.loop.at c.line-end.result
-    c.before.loop-test.true c.line-end.ensures
+    end-within c.args.text.now c.loop-at.at c.line_end-end.result
+    c.loop-at-test.true c.line_end-end.ensures
 
-decode-line-requires : tie.Need-decode-line-requires invariant-loop decreases-loop
+decode-line-requires : tie.Need-decode_line-requires invariant-loop decreases-loop
 decode-line-requires c κs =
     let judged = c.before.before.before in
-    let l = judged.before.before.before.before.loop in
-    let g = good l.decoded _ (sym judged.is-bad.ensures ∙ c.before.before.if1.false) in
+    let l = judged.loop-at in
+    let g = good l.decoded _ (sym judged.is_bad.ensures ∙ c.if-is_bad.false) in
     (g.even, (g.digits, omega (arith, g.within, l.invariant.long)))
 
-loop-again : tie.Need-loop-preserved invariant-loop decreases-loop
+loop-again : tie.Need-loop-at-preserved invariant-loop decreases-loop
 loop-again c =
     let good-line = c.before.before.before.before.before in
     let judged = good-line.before in
     let found = judged.before.before in
-    reading_again _ _ _ found.before.loop-test.true found.line-end.ensures found.before.before.loop.invariant
-    (sym judged.is-bad.ensures ∙ good-line.if1.false) _ c.before.before.decode-line.ensures
+    reading_again _ _ _ found.loop-at-test.true found.line_end-end.ensures found.loop-at.invariant
+    (sym judged.is_bad.ensures ∙ good-line.if-is_bad.false) _ c.decode_line.ensures
 
-returns : tie.Need-returns invariant-loop decreases-loop
+returns : tie.Need-returns-then-is_bad invariant-loop decreases-loop
 returns c =
     let found = c.before.before.before in
-    reading_bad _ _ _ found.before.loop-test.true found.line-end.ensures found.before.before.loop.invariant
-    (sym c.before.is-bad.ensures ∙ c.if1.true)
+    reading_bad _ _ _ found.loop-at-test.true found.line_end-end.ensures found.loop-at.invariant
+    (sym c.is_bad.ensures ∙ c.if-is_bad.true)
 
-returns-2 : tie.Need-returns-2 invariant-loop decreases-loop
-returns-2 c = reading_done c.before.loop.invariant c.loop-test.false
+returns-2 : tie.Need-returns invariant-loop decreases-loop
+returns-2 c = reading_done c.loop-at.invariant c.loop-at-test.false
 
-pub decode-spec : {M : Type 1} → statement M
-decode-spec =
+pub decode_spec : {M : Type 1} → statement M
+decode_spec =
     tie.close
     (tie.spec
     invariant-loop
@@ -58,7 +58,7 @@ decode-spec =
     (λ c. search rules)
     (λ c. omega (arith, within c))
     (λ c κs. search rules)
-    (λ c. c.before.before.before.before.before.loop.invariant.long)
+    (λ c. c.loop-at.invariant.long)
     returns
     (λ c. search rules)
     (λ c. search rules)
@@ -70,5 +70,5 @@ decode-spec =
     (λ c. let good-line = c.before.before.before.before.before in omega (arith, within good-line.before.before.before))
     (λ c. search rules)
     loop-again
-    (λ c. c.before.loop.invariant.long)
+    (λ c. c.loop-at.invariant.long)
     returns-2)

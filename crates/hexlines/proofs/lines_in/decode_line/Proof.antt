@@ -14,29 +14,29 @@ use Rattle.hexlines.proofs.Stores.{store_one}
 use Rattle.hexlines.proofs.lines_in.decode_line.Statement.{statement}
 use Rattle.hexlines.proofs.lines_in.decode_line.Tie as tie
 
-abbrev invariant-loop : tie.invariant-loop
+abbrev invariant-loop : tie.invariant-loop-i
 invariant-loop line bytes₀ at to₀ i₀ bytes to i =
     (i ≤ length line) × (i % 2 ≡ 0) × (to ≡ at + i / 2) × (length bytes ≡ length bytes₀) × (all_digits (drop i line) ≡ true)
     × (sets bytes to (bytes_in (drop i line)) ≡ sets bytes₀ at (bytes_in line))
 
-abbrev decreases-loop : tie.decreases-loop
+abbrev decreases-loop : tie.decreases-loop-i
 decreases-loop line bytes₀ at to₀ i₀ bytes to i = length line - i
 
-loop-holds : tie.Need-loop-init invariant-loop decreases-loop
-loop-holds c = (omega arith, refl, omega arith, refl, c.before.before.requires.1.0, refl)
+loop-holds : tie.Need-loop-i-init invariant-loop decreases-loop
+loop-holds c = (omega arith, refl, omega arith, refl, c.requires.1.0, refl)
 
-byte-of-requires : tie.Need-byte-of-requires invariant-loop decreases-loop
+byte-of-requires : tie.Need-byte_of-requires invariant-loop decreases-loop
 byte-of-requires c κs =
     let head = c.before.before.before in
-    let l = head.loop in
-    let p = digits-pair head.before.before.before.args.line.now l.i (omega arith) l.invariant.4 in
+    let l = head.loop-i in
+    let p = digits-pair head.args.line.now l.i (omega arith) l.invariant.4 in
     (p.0, p.1.0)
 
-loop-again : tie.Need-loop-preserved invariant-loop decreases-loop
+loop-again : tie.Need-loop-i-preserved invariant-loop decreases-loop
 loop-again c =
     let head = c.before.before.before.before in
-    let l = head.loop in
-    let line = head.before.before.before.args.line.now in
+    let l = head.loop-i in
+    let line = head.args.line.now in
     let two : l.i + 1 < length line = omega arith in
     let next : bytes_in (drop l.i line) ≡ c.byte_of.result ∷ bytes_in (drop (l.i + 2) line) =
     bytes_next line l.i two ∙ ap (λ (b : ℕ). b ∷ bytes_in (drop (l.i + 2) line)) (sym c.byte_of.ensures) in (
@@ -50,12 +50,12 @@ loop-again c =
 
 returns : tie.Need-returns invariant-loop decreases-loop
 returns c =
-    let l = c.before.loop in
-    let line = c.before.before.before.before.args.line.now in
-    ap (sets l.bytes l.to) (sym (bytes-end line l.i c.loop-test.false)) ∙ l.invariant.5
+    let l = c.loop-i in
+    let line = c.args.line.now in
+    ap (sets l.bytes l.to) (sym (bytes-end line l.i c.loop-i-test.false)) ∙ l.invariant.5
 
-pub decode-line-spec : {M : Type 1} → statement M
-decode-line-spec =
+pub decode_line_spec : {M : Type 1} → statement M
+decode_line_spec =
     tie.close
     (tie.spec
     invariant-loop
@@ -70,5 +70,5 @@ decode-line-spec =
     (λ c. search rules)
     (λ c. search rules)
     loop-again
-    (λ c. c.before.loop.invariant.3)
+    (λ c. c.loop-i.invariant.3)
     returns)

@@ -6,5 +6,6 @@ use Rattle.hexlines.proofs.lines_in.is_digit.Tie as tie
 returns : tie.Need-returns
 returns c = refl
 
-pub is-digit-spec : {M : Type 1} → statement M
-is-digit-spec = tie.close (tie.spec returns)
+pub is_digit_spec : {M : Type 1} → statement M
+is_digit_spec = tie.close (tie.spec
+    returns)

@@ -9,29 +9,29 @@ use Rattle.hexlines.proofs.Lines.{ends_at, goes-past, ends_last}
 use Rattle.hexlines.proofs.lines_in.line_end.Statement.{statement}
 use Rattle.hexlines.proofs.lines_in.line_end.Tie as tie
 
-abbrev invariant-loop : tie.invariant-loop
+abbrev invariant-loop : tie.invariant-loop-end
 invariant-loop text at end₀ end = (end ≤ length text) × (end + line_length (drop end text) ≡ at + line_length (drop at text))
 
-abbrev decreases-loop : tie.decreases-loop
+abbrev decreases-loop : tie.decreases-loop-end
 decreases-loop text at end₀ end = length text - end
 
-returns : tie.Need-returns invariant-loop decreases-loop
+returns : tie.Need-returns-then-text-end-eq-LINE_FEED invariant-loop decreases-loop
 returns c =
-    let l = c.before.before.before.loop in
-    let text = c.before.before.before.before.args.text.now in
-    omega (arith, ends_at text l.end c.before.before.loop-test.true c.if1.true)
+    let l = c.loop-end in
+    let text = c.args.text.now in
+    omega (arith, ends_at text l.end c.loop-end-test.true c.if-text-end-eq-LINE_FEED.true)
 
-loop-again : tie.Need-loop-preserved invariant-loop decreases-loop
+loop-again : tie.Need-loop-end-preserved invariant-loop decreases-loop
 loop-again c =
-    let l = c.before.before.before.loop in
-    let text = c.before.before.before.before.args.text.now in
-    omega (arith, goes-past text l.end c.before.before.loop-test.true c.if1.false)
+    let l = c.loop-end in
+    let text = c.args.text.now in
+    omega (arith, goes-past text l.end c.loop-end-test.true c.if-text-end-eq-LINE_FEED.false)
 
-returns-2 : tie.Need-returns-2 invariant-loop decreases-loop
-returns-2 c = omega (arith, ends_last c.before.before.args.text.now c.before.loop.end c.loop-test.false)
+returns-2 : tie.Need-returns invariant-loop decreases-loop
+returns-2 c = omega (arith, ends_last c.args.text.now c.loop-end.end c.loop-end-test.false)
 
-pub line-end-spec : {M : Type 1} → statement M
-line-end-spec =
+pub line_end_spec : {M : Type 1} → statement M
+line_end_spec =
     tie.close
     (tie.spec
     invariant-loop

@@ -7,20 +7,20 @@ use Rattle.hexlines.proofs.lines_out.print_bad.Statement.{statement}
 use Rattle.hexlines.proofs.lines_out.print_bad.Tie as tie
 
 -- places, named by what has been done there
-abbrev start : tie.After-put-decimal → tie.Start
+abbrev start : tie.After-put_decimal-to → tie.Start
 start c = c.before.before.before.before.before.before.before.before
 
-put-requires-2 : tie.Need-put-requires-2
+put-requires-2 : tie.Need-put-requires
 put-requires-2 c κs = omega (arith, at-most_twenty (start c.before.before.before.before).args.number)
 
 returns : tie.Need-returns
 returns c =
     let end = c.before.before in
     let digits = end.before.before.before.before.before in
-    put_then (put_then digits.before.before.before.before.put.ensures digits.put-decimal.ensures) end.put2.ensures
+    put_then (put_then digits.put-to.ensures digits.put_decimal-to.ensures) end.put.ensures
 
-pub print-bad-spec : {M : Type 1} → statement M
-print-bad-spec =
+pub print_bad_spec : {M : Type 1} → statement M
+print_bad_spec =
     tie.close
     (tie.spec
     (λ c. search rules)

@@ -7,19 +7,19 @@ use Rattle.hexlines.proofs.lines_out.print_refused.Statement.{statement}
 use Rattle.hexlines.proofs.lines_out.print_refused.Tie as tie
 
 -- places, named by what has been done there
-abbrev start : tie.After-put-decimal → tie.Start
+abbrev start : tie.After-put_decimal-to → tie.Start
 start c = c.before.before.before.before.before.before.before.before
 
-abbrev coded : tie.After-put2 → tie.After-put-decimal
+abbrev coded : tie.After-put-to-2 → tie.After-put_decimal-to
 coded c = c.before.before.before.before.before
 
-put-requires-2 : tie.Need-put-requires-2
+put-requires-2 : tie.Need-put-to-requires-2
 put-requires-2 c κs = omega (arith, at-most_twenty (start c.before.before.before.before).args.code)
 
-put-decimal-requires-2 : tie.Need-put-decimal-requires-2
+put-decimal-requires-2 : tie.Need-put_decimal-to-requires-2
 put-decimal-requires-2 c κs = omega (arith, at-most_twenty (start (coded c.before.before.before)).args.code)
 
-put-requires-3 : tie.Need-put-requires-3
+put-requires-3 : tie.Need-put-requires
 put-requires-3 c κs =
     let place = c.before.before.before.before in
     let s = start (coded place.before.before.before.before) in
@@ -32,12 +32,12 @@ returns c =
     let space = place.before.before.before.before in
     let code = space.before.before.before.before.before in
     put_then
-    (put_then (put_then (put_then code.before.before.before.before.put.ensures code.put-decimal.ensures) space.put2.ensures)
-    place.put-decimal2.ensures)
-    end.put3.ensures
+    (put_then (put_then (put_then code.put-to.ensures code.put_decimal-to.ensures) space.put-to-2.ensures)
+    place.put_decimal-to-2.ensures)
+    end.put.ensures
 
-pub print-refused-spec : {M : Type 1} → statement M
-print-refused-spec =
+pub print_refused_spec : {M : Type 1} → statement M
+print_refused_spec =
     tie.close
     (tie.spec
     (λ c. search rules)

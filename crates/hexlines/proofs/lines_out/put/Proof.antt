@@ -10,32 +10,32 @@ use Rattle.order.proofs.Stores.{one-stored, all-stored}
 use Rattle.hexlines.proofs.lines_out.put.Statement.{statement}
 use Rattle.hexlines.proofs.lines_out.put.Tie as tie
 
-abbrev invariant-loop : tie.invariant-loop
+abbrev invariant-loop : tie.invariant-loop-i
 invariant-loop out₀ at text i₀ out i = (i ≤ length text) × (length out ≡ length out₀) × (sets out (at + i) (drop i text) ≡ sets out₀ at text)
 
-abbrev decreases-loop : tie.decreases-loop
+abbrev decreases-loop : tie.decreases-loop-i
 decreases-loop out₀ at text i₀ out i = length text - i
 
-loop-holds : tie.Need-loop-init invariant-loop decreases-loop
+loop-holds : tie.Need-loop-i-init invariant-loop decreases-loop
 loop-holds c = (omega arith, refl, rw add-zero)
 
-loop-again : tie.Need-loop-preserved invariant-loop decreases-loop
+loop-again : tie.Need-loop-i-preserved invariant-loop decreases-loop
 loop-again c =
-    let l = c.before.before.loop in
-    let a = c.before.before.before.args in (
+    let l = c.loop-i in
+    let a = c.args in (
       omega arith,
       simp length-set l.invariant.1,
-      one-stored l.out a.text.now a.at l.i _ c.before.loop-test.true refl ∙ l.invariant.2,
+      one-stored l.out a.text.now a.at l.i _ c.loop-i-test.true refl ∙ l.invariant.2,
     )
 
 returns : tie.Need-returns invariant-loop decreases-loop
 returns c =
-    let l = c.before.loop in
-    let a = c.before.before.args in
+    let l = c.loop-i in
+    let a = c.args in
     record {
       behind = omega arith;
       within = omega arith;
-      memory = sym (all-stored l.out a.text.now a.at l.i c.loop-test.false)
+      memory = sym (all-stored l.out a.text.now a.at l.i c.loop-i-test.false)
           ∙ l.invariant.2;
     }
 

@@ -13,45 +13,45 @@ use Rattle.hexlines.proofs.Stores.{store_one, store_two}
 use Rattle.hexlines.proofs.lines_out.put_line.Statement.{statement}
 use Rattle.hexlines.proofs.lines_out.put_line.Tie as tie
 
-abbrev invariant-loop : tie.invariant-loop
+abbrev invariant-loop : tie.invariant-loop-i
 invariant-loop out₀ at bytes to₀ i₀ out to i =
     (i ≤ length bytes) × (to ≡ at + 2 * i) × (length out ≡ length out₀)
     × (sets out to (line (hex (drop i bytes))) ≡ sets out₀ at (line (hex bytes)))
 
-abbrev decreases-loop : tie.decreases-loop
+abbrev decreases-loop : tie.decreases-loop-i
 decreases-loop out₀ at bytes to₀ i₀ out to i = length bytes - i
 
-loop-holds : tie.Need-loop-init invariant-loop decreases-loop
+loop-holds : tie.Need-loop-i-init invariant-loop decreases-loop
 loop-holds c = (omega arith, omega arith, refl, refl)
 
-hex-digit-requires : tie.Need-hex-digit-requires invariant-loop decreases-loop
-hex-digit-requires c κs = omega (arith, c.shared-slice-known2.given c.before.before.loop.i)
+hex-digit-requires : tie.Need-hex_digit-requires invariant-loop decreases-loop
+hex-digit-requires c κs = omega (arith, c.shared_slice_known-in-loop-i-1.given c.loop-i.i)
 
-loop-again : tie.Need-loop-preserved invariant-loop decreases-loop
+loop-again : tie.Need-loop-i-preserved invariant-loop decreases-loop
 loop-again c =
     let head = c.before.before.before.before in
-    let l = head.loop in
-    let bytes = head.before.before.before.args.bytes.now in
-    let next : hex (drop l.i bytes) ≡ c.before.hex-digit.result ∷ c.hex-digit2.result ∷ hex (drop (l.i + 1) bytes) =
-    hex-next bytes l.i c.before.before.before.loop-test.true
-    ∙ sym (ap₂ (λ (v w : ℕ). v ∷ w ∷ hex (drop (l.i + 1) bytes)) c.before.hex-digit.ensures c.hex-digit2.ensures) in
+    let l = head.loop-i in
+    let bytes = head.args.bytes.now in
+    let next : hex (drop l.i bytes) ≡ c.hex_digit.result ∷ c.hex_digit-in-loop-i.result ∷ hex (drop (l.i + 1) bytes) =
+    hex-next bytes l.i c.loop-i-test.true
+    ∙ sym (ap₂ (λ (v w : ℕ). v ∷ w ∷ hex (drop (l.i + 1) bytes)) c.hex_digit.ensures c.hex_digit-in-loop-i.ensures) in
     (omega arith, omega arith, simp length-set l.invariant.2, store_two l.out _ _ l.to _ _ (ap line next) ∙ l.invariant.3)
 
-slice-write-out-3 : tie.Need-slice-write-out-3 invariant-loop decreases-loop
+slice-write-out-3 : tie.Need-bounds-out-to-2 invariant-loop decreases-loop
 slice-write-out-3 c = omega arith
 
 returns : tie.Need-returns invariant-loop decreases-loop
 returns c =
-    let l = c.before.loop in
-    let bytes = c.before.before.before.before.args.bytes.now in
+    let l = c.loop-i in
+    let bytes = c.args.bytes.now in
     record {
       behind = omega (arith, length-hex bytes, length-append (hex bytes) (10 ∷ []));
       within = simp length-set (omega arith);
-      memory = store_one l.out _ [] l.to 10 (ap line (hex-end bytes l.i c.loop-test.false)) ∙ l.invariant.3;
+      memory = store_one l.out _ [] l.to 10 (ap line (hex-end bytes l.i c.loop-i-test.false)) ∙ l.invariant.3;
     }
 
-pub put-line-spec : {M : Type 1} → statement M
-put-line-spec =
+pub put_line_spec : {M : Type 1} → statement M
+put_line_spec =
     tie.close
     (tie.spec
     invariant-loop

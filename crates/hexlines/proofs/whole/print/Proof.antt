@@ -9,25 +9,25 @@ use Rattle.hexlines.proofs.Programs.{Answered, file-answered}
 use Rattle.hexlines.proofs.whole.print.Statement.{statement}
 use Rattle.hexlines.proofs.whole.print.Tie as tie
 
-answers : (c : tie.After-normalise)
-    → Answered (file_program (bytes c.before.before.before.before.before.args.file.now)) c.normalise.result
-    c.normalise.new.1.0
+answers : (c : tie.After-normalise-answer)
+    → Answered (file_program (bytes c.args.file.now)) c.normalise-answer.result
+    c.normalise-answer.new.1.0
 answers c =
     let known = c.before.before.before in
-    let file = known.before.before.args.file.now in
-    file-answered file _ _ (bytes_of_lem file (λ i. (known.shared-slice-known.given i).fits)) (sym c.before.before.space.ensures) _
-    c.normalise.ensures
+    let file = known.args.file.now in
+    file-answered file _ _ (bytes_of_lem file (λ i. (known.shared_slice_known-1.given i).fits)) (sym c.space-form.ensures) _
+    c.normalise-answer.ensures
 
-print-answer-requires : tie.Need-print-answer-requires
+print-answer-requires : tie.Need-print_answer-requires
 print-answer-requires c κs =
-    let n = c.before.before.before in (n.before.before.before.before.before.requires, (answers n).ready)
+    let n = c.before.before.before in (n.requires, (answers n).ready)
 
 returns : tie.Need-returns
 returns c = let printed = c.before.before in
-    put_same (answers printed.before.before.before.before).says printed.print-answer.ensures
+    put_same (answers printed.before.before.before.before).says printed.print_answer.ensures
 
-pub print-spec : {M : Type 1} → statement M
-print-spec =
+pub print_spec : {M : Type 1} → statement M
+print_spec =
     tie.close
     (tie.spec
     (λ c κs. search rules)

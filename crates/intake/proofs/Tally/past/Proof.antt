@@ -10,17 +10,17 @@ returns c =
     let g = e.before.before in
     rw (
       g.either.ensures,
-      g.before.in-class.ensures,
-      e.either2.ensures,
-      e.before.in-class2.ensures,
-      d.either3.ensures,
-      d.before.in-class3.ensures,
-      c.either4.ensures,
-      c.before.in-class4.ensures,
+      g.in_class.ensures,
+      e.either-2.ensures,
+      e.in_class-2.ensures,
+      d.either-3.ensures,
+      d.in_class-3.ensures,
+      c.either-4.ensures,
+      c.in_class-4.ensures,
     )
 
-pub past-spec : {M : Type 1} → statement M
-past-spec =
+pub past_spec : {M : Type 1} → statement M
+past_spec =
     tie.close
     (tie.spec
     (λ c. search rules)

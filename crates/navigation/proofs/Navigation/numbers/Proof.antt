@@ -16,20 +16,20 @@ returns n5 =
     let n3 = n4.before in
     let n2 = n3.before.before in
     let n0 = n2.before in
-    let r = n0.before.args.self in
-    let f3 = n5.before.struct-told2.given.1.1.1 in
+    let r = n0.args.self in
+    let f3 = n5.struct_told-2-1.given.1.1.1 in
     let f5 = f3.1.1 in
     λ i.
-    n0.of-unsigned2.ensures i
+    n0.of_unsigned2.ensures i
     ∷ r.time_cpu
-    ∷ n2.of-unsigned22.ensures i
-    ∷ held-pattern w16 2 r.heading f3.0.1 n3.of-signed2.ensures i
-    ∷ n4.of-unsigned23.ensures i
-    ∷ held-pattern w32 4 r.tuple_attribute f5.0.1 n5.of-signed4.ensures i
+    ∷ n2.of_unsigned2-2.ensures i
+    ∷ held-pattern w16 2 r.heading f3.0.1 n3.of_signed2.ensures i
+    ∷ n4.of_unsigned2-3.ensures i
+    ∷ held-pattern w32 4 r.tuple_attribute f5.0.1 n5.of_signed4.ensures i
     ∷ []
 
-pub numbers-spec : {M : Type 1} → statement M
-numbers-spec =
+pub numbers_spec : {M : Type 1} → statement M
+numbers_spec =
     tie.close
     (tie.spec
     (λ c κs. search rules)

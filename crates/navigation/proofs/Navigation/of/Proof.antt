@@ -20,9 +20,9 @@ returns n5 =
     record {
       time_fraction = n0.unsigned2.ensures i;
       time_cpu = n1.unsigned4.ensures i;
-      navigation_system = n2.unsigned22.ensures i;
+      navigation_system = n2.unsigned2-2.ensures i;
       heading = held-signed w16 n3.signed2.type-inv n3.signed2.ensures i;
-      navigation_speed = n4.unsigned23.ensures i;
+      navigation_speed = n4.unsigned2-3.ensures i;
       tuple_attribute = held-signed w32 n5.signed4.type-inv n5.signed4.ensures i;
     }
 

@@ -12,10 +12,10 @@ use Rattle.navigation.proofs.Navigation.write.Statement.{statement}
 use Rattle.navigation.proofs.Navigation.write.Tie as tie
 
 -- ---- places: from where the row is written back to its numbers, and to the start
-abbrev numbered : tie.After-write-row → tie.After-numbers
+abbrev numbered : tie.After-write_row → tie.After-numbers
 numbered w = w.before.before.before.before
 
-abbrev start : tie.After-write-row → tie.Start
+abbrev start : tie.After-write_row → tie.Start
 start w = (numbered w).before.before
 
 returns : tie.Need-returns
@@ -24,7 +24,7 @@ returns c =
     let w = c.before.before in
     let a = (start w).args in
     only-room 30 a.msb (patterns (row_of 30 0) (navigation_integers a.self)) [] refl refl refl refl
-    (rw (numbered w).numbers.ensures at w.write-row.ensures)
+    (rw (numbered w).numbers.ensures at w.write_row.ensures)
 
 pub write_spec : {M : Type 1} → statement M
 write_spec =

@@ -12,28 +12,28 @@ use Rattle.ping_forms.proofs.narrow.put_space.Tie as tie
 past : (n : ℕ) → n % 2 ≡ 0 → (n % 4 ≡ 0 → ⊥) → n % 4 ≡ 2
 past n e h = omega (arith, h)
 
-returns : tie.Need-returns
+returns : tie.Need-returns-then-bytes-eq0
 returns c =
-    let a = c.before.before.args in
-    let e = c.if1.true in
-    (omega (arith, e), ap (λ (i : ℕ). sets a.out.now a.at (replicate i 0)) (sym e))
+    let a = c.args in
+    let e = c.if-bytes-eq0.true in
+    (omega (arith, e), ap (λ (i : ℕ). sets a.out-1.now a.at (replicate i 0)) (sym e))
 
-returns-2 : tie.Need-returns-2
+returns-2 : tie.Need-returns
 returns-2 c =
     let store = c.before.before in
     let rest = store.before.before in
     let s = rest.before.before in
     let a = s.args in
-    let two = past a.bytes s.requires.1 rest.if1.false in
-    (omega (arith, two), store.store2.ensures ∙ ap (λ (i : ℕ). sets a.out.now a.at (replicate i 0)) (sym two))
+    let two = past a.bytes s.requires.1 rest.if-bytes-eq0.false in
+    (omega (arith, two), store.store2.ensures ∙ ap (λ (i : ℕ). sets a.out-1.now a.at (replicate i 0)) (sym two))
 
-pub put-space-spec : {M : Type 1} → statement M
-put-space-spec =
+pub put_space_spec : {M : Type 1} → statement M
+put_space_spec =
     tie.close
     (tie.spec
     returns
     (λ c κs. let rest = c.before in let s = rest.before.before in
-    omega (arith, past s.args.bytes s.requires.1 rest.if1.false, s.requires.0))
+    omega (arith, past s.args.bytes s.requires.1 rest.if-bytes-eq0.false, s.requires.0))
     (λ c. search rules)
     (λ c. search rules)
     returns-2)

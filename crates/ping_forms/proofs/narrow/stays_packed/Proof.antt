@@ -5,22 +5,22 @@ use borrow.Author.Rules.{rules}
 use Rattle.ping_forms.proofs.narrow.stays_packed.Statement.{statement}
 use Rattle.ping_forms.proofs.narrow.stays_packed.Tie as tie
 
-returns : tie.Need-returns
-returns c = rw c.if1.true
+returns : tie.Need-returns-then-encoded
+returns c = rw c.if-encoded.true
 
-returns-2 : tie.Need-returns-2
+returns-2 : tie.Need-returns-then-ends_in_run
 returns-2 c =
     let e = c.before in
-    rw (e.before.if1.false, sym e.ends-in-run.ensures ∙ c.if2.true)
+    rw (e.if-encoded.false, sym e.ends_in_run.ensures ∙ c.if-ends_in_run.true)
 
-returns-3 : tie.Need-returns-3
+returns-3 : tie.Need-returns
 returns-3 c =
     let k = c.before in
     let e = k.before in
-    rw (e.before.if1.false, sym e.ends-in-run.ensures ∙ k.if2.false, c.count-samples.ensures)
+    rw (e.if-encoded.false, sym e.ends_in_run.ensures ∙ k.if-ends_in_run.false, c.count_samples.ensures)
 
-pub stays-packed-spec : {M : Type 1} → statement M
-stays-packed-spec =
+pub stays_packed_spec : {M : Type 1} → statement M
+stays_packed_spec =
     tie.close
     (tie.spec
     returns

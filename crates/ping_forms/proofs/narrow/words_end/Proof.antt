@@ -37,15 +37,15 @@ returns c =
           ap (λ (i : ℕ). all_words 2 a.msb (take i (drop (a.at + 28) a.file.now))) place
           ∙ ap (all_words 2 a.msb) (sym inside)
           ∙ c.held.ensures.0
-          ∙ ap (λ (i : ℕ). held_words narrow i (all_words 2 a.msb part)) read.read4.ensures
+          ∙ ap (λ (i : ℕ). held_words narrow i (all_words 2 a.msb part)) read.read4-count.ensures
           ∙ held_by_lem a.encoded a.msb (count_at a.msb a.file.now a.at) part;
       least = omega (arith, bounds.1, (room s).0);
       most = omega (arith, bounds.0, (room s).0);
       even = omega (arith, bounds.2);
     }
 
-pub words-end-spec : {M : Type 1} → statement M
-words-end-spec =
+pub words_end_spec : {M : Type 1} → statement M
+words_end_spec =
     tie.close
     (tie.spec
     (λ c. let r = room c.before in omega arith)

@@ -16,8 +16,8 @@ use Rattle.ping_forms.proofs.narrow.write_sampled.Statement.{statement}
 use Rattle.ping_forms.proofs.narrow.write_sampled.Tie as tie
 
 -- the file's elements are bytes
-bytes : (k : tie.After-shared-slice-known) → Bytes k.before.args.file.now
-bytes k = bytes_of_lem k.before.args.file.now (λ i. (k.shared-slice-known.given i).fits)
+bytes : (k : tie.After-shared_slice_known-1) → Bytes k.args.file.now
+bytes k = bytes_of_lem k.args.file.now (λ i. (k.shared_slice_known-1.given i).fits)
 
 -- the ping has room for its header and its last 8 bytes, and stands in the file; its form is not twice as long
 pub record Room (s : tie.Start) : Type 0 where
@@ -28,7 +28,7 @@ pub record Room (s : tie.Start) : Type 0 where
   pub some : 32 ≤ s.args.bytes
   pub few : s.args.bytes ≤ 2 * s.args.whole
 
-room : (k : tie.After-shared-slice-known) → Room k.before
+room : (k : tie.After-shared_slice_known-1) → Room k.before
 room k =
     let s = k.before in
     let p = s.requires in
@@ -43,19 +43,19 @@ room k =
     }
 
 -- places, named by what has been done there
-abbrev known : tie.After-spread-words-arg → tie.After-shared-slice-known
+abbrev known : tie.After-spread_words-arg-1 → tie.After-shared_slice_known-1
 known c = c.before.before.before.before.before.before.before
 
-abbrev spread : tie.After-slice-known3 → tie.After-spread-words
+abbrev spread : tie.After-slice_known-3-1 → tie.After-spread_words
 spread c = c.before.before
 
-spread-words-requires : tie.Need-spread-words-requires
+spread-words-requires : tie.Need-spread_words-requires
 spread-words-requires c κs =
     let k = known c in
     let s = k.before in
-    let p = s.pre in
+    let p = s.requires in
     let r = room k in
-    let w = p.1.0.words in
+    let w = p.1.0.words-1 in
     let far = ap (λ (ws : List ℕ). behind 0 (decode 256 ws)) w in
     let many = ap (λ (ws : List ℕ). length (decode 256 ws)) w in (
       (held-part false p.0 p.1.0).2,
@@ -73,11 +73,11 @@ returns c =
     let k = known pairs.before in
     let s = k.before in
     let a = s.args in
-    sampled-stored s.pre.0 (bytes k) s.pre.1.1.0 a.out.now a.to a.bytes s.pre.1.1.1.0
-    header.open-ping.ensures pairs.spread-words.ensures s.pre.1.0.words back.close-form.ensures
+    sampled-stored s.requires.0 (bytes k) s.requires.1.1.0 a.out-1.now a.to a.bytes s.requires.1.1.1.0
+    header.open_ping.ensures pairs.spread_words.ensures s.requires.1.0.words back.close_form.ensures
 
-pub write-sampled-spec : {M : Type 1} → statement M
-write-sampled-spec =
+pub write_sampled_spec : {M : Type 1} → statement M
+write_sampled_spec =
     tie.close
     (tie.spec
     (λ c. let r = room c.before in omega (arith, r.least, r.there))
@@ -86,14 +86,14 @@ write-sampled-spec =
     (λ c. let r = room c.before in omega (arith, r.ends))
     (λ c. let r = room c.before in omega (arith, r.ends, r.there))
     (λ c. let r = room c.before.before in omega (arith, r.some))
-    (λ c. let k = c.before.before in let r = room k in omega (arith, r.some, k.before.requires.1.1.1.1))
-    (λ c κs. let k = c.before.before.before in let r = room k in let p = k.before.requires in
+    (λ c. let k = c.before.before in let r = room k in omega (arith, r.some, k.requires.1.1.1.1))
+    (λ c κs. let k = c.before.before.before in let r = room k in let p = k.requires in
     (omega (arith, r.least, r.there), (omega (arith, p.1.1.1.1, r.some), (omega (arith, r.some), omega (arith, r.few, r.most)))))
-    (λ c. let k = known c in let r = room k in omega (arith, r.some, k.before.pre.1.1.1.1))
+    (λ c. let k = known c in let r = room k in omega (arith, r.some, k.requires.1.1.1.1))
     spread-words-requires
     (λ c. let r = room (known (spread c).before) in omega (arith, r.least))
     (λ c. let r = room (known (spread c).before) in omega (arith, r.there))
-    (λ c κs. let k = known (spread c.before).before in let r = room k in let p = k.before.pre in
+    (λ c κs. let k = known (spread c.before).before in let r = room k in let p = k.requires in
     (omega (arith, r.least, r.there), (omega (arith, p.1.1.1.1, r.some), omega (arith, r.few, r.most))))
     (λ c. search rules)
     returns)

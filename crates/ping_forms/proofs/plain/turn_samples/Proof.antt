@@ -29,68 +29,68 @@ family-U16 : {k : ℕ} → k ≡ 10030 → family_of k ≡ narrow
 unfolding listing_of among listings
 family-U16 e = ap family_of e
 
-family-rest : (c : tie.At-match-rest) → family_of c.before.before.before.args.code ≡ narrow_angles
+family-rest : (c : tie.In_default) → family_of c.args.code ≡ narrow_angles
 family-rest c =
     let s = c.before.before.before in
-    let none = c.match.rest in
+    let none = c.in_default.in_default-own.rest in
     last-family s.args.code _ s.requires.1.0 none.0.0.1 none.0.1 none.1
 
-bytes : (k : tie.After-shared-slice-known) → Bytes k.before.args.part.now
-bytes k = bytes_of_lem k.before.args.part.now (λ i. (k.shared-slice-known.given i).fits)
+bytes : (k : tie.After-shared_slice_known-1) → Bytes k.args.part.now
+bytes k = bytes_of_lem k.args.part.now (λ i. (k.shared_slice_known-1.given i).fits)
 
 -- the part fits the arm's family
-fits : (k : tie.After-shared-slice-known) {f : Family} → family_of k.before.args.code ≡ f
-    → fitting (lengths_u f) (length k.before.args.part.now + 32) ≡ true
-fits k e = fits_as e (length k.before.args.part.now + 32) k.before.requires.1.1
+fits : (k : tie.After-shared_slice_known-1) {f : Family} → family_of k.args.code ≡ f
+    → fitting (lengths_u f) (length k.args.part.now + 32) ≡ true
+fits k e = fits_as e (length k.args.part.now + 32) k.requires.1.1
 
 -- what an arm leaves, by its family
-left : (k : tie.After-shared-slice-known) {f : Family} → family_of k.before.args.code ≡ f → (out : List ℕ)
-    → let a = k.before.args in out ≡ sets a.out.now a.to (spaced (unsampled f false (all_samples f a.msb a.part.now)))
-    → out ≡ sets a.out.now a.to
+left : (k : tie.After-shared_slice_known-1) {f : Family} → family_of k.args.code ≡ f → (out : List ℕ)
+    → let a = k.args in out ≡ sets a.out-1.now a.to (spaced (unsampled f false (all_samples f a.msb a.part.now)))
+    → out ≡ sets a.out-1.now a.to
     (spaced (unsampled (family_of a.code) false (all_samples (family_of a.code) a.msb a.part.now)))
-left k e out h = let a = k.before.args in turned_as e a.msb a.part.now a.out.now out a.to h
+left k e out h = let a = k.args in turned_as e a.msb a.part.now a.out-1.now out a.to h
 
-turn-triples-requires : tie.Need-turn-triples-requires
+turn-triples-requires : tie.Need-turn_triples-requires
 turn-triples-requires c κs =
     let m = c.before in
     let k = m.before.before in
-    (k.before.requires.0, fits k (family-rest m))
+    (k.requires.0, fits k (family-rest m))
 
-returns : tie.Need-returns
+returns : tie.Need-returns-in-10000
 returns c =
     let t = c.before.before in
     let m = t.before.before in
     let k = m.before.before in
-    let a = k.before.args in
-    let f = family-U m.match.keys1 in
-    left k f _ (t.turn-words.ensures ∙ ap (sets a.out.now a.to) (turned-wide a.msb a.part.now (bytes k) (fits k f)))
+    let a = k.args in
+    let f = family-U m.in-10000.is in
+    left k f _ (t.turn_words.ensures ∙ ap (sets a.out-1.now a.to) (turned-wide a.msb a.part.now (bytes k) (fits k f)))
 
-returns-2 : tie.Need-returns-2
+returns-2 : tie.Need-returns-in-10001
 returns-2 c =
     let t = c.before.before in
     let m = t.before.before in
     let k = m.before.before in
-    let a = k.before.args in
-    left k (family-angles m.match.keys2) _
-    (t.turn-angles.ensures ∙ ap (sets a.out.now a.to) (turned-angles a.msb a.part.now))
+    let a = k.args in
+    left k (family-angles m.in-10001.is) _
+    (t.turn_angles.ensures ∙ ap (sets a.out-1.now a.to) (turned-angles a.msb a.part.now))
 
-returns-3 : tie.Need-returns-3
+returns-3 : tie.Need-returns-in-10030
 returns-3 c =
     let t = c.before.before in
     let m = t.before.before in
     let k = m.before.before in
-    let a = k.before.args in
-    let f = family-U16 m.match.keys3 in
-    left k f _ (t.turn-words2.ensures ∙ ap (sets a.out.now a.to) (turned-narrow a.msb a.part.now (bytes k) (fits k f)))
+    let a = k.args in
+    let f = family-U16 m.in-10030.is in
+    left k f _ (t.turn_words-in-10030.ensures ∙ ap (sets a.out-1.now a.to) (turned-narrow a.msb a.part.now (bytes k) (fits k f)))
 
-returns-4 : tie.Need-returns-4
+returns-4 : tie.Need-returns-in_default
 returns-4 c =
     let t = c.before.before in
     let m = t.before.before in
-    left m.before.before (family-rest m) _ t.turn-triples.ensures
+    left m.before.before (family-rest m) _ t.turn_triples.ensures
 
-pub turn-samples-spec : {M : Type 1} → statement M
-turn-samples-spec =
+pub turn_samples_spec : {M : Type 1} → statement M
+turn_samples_spec =
     tie.close
     (tie.spec
     (λ c κs. search rules)

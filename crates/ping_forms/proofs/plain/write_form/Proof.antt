@@ -15,7 +15,7 @@ use Rattle.ping_forms.proofs.plain.write_form.Statement.{statement}
 use Rattle.ping_forms.proofs.plain.write_form.Tie as tie
 
 -- places, named by what has been done there
-abbrev start : tie.After-slice-known2 → tie.Start
+abbrev start : tie.After-slice_known-2-1 → tie.Start
 start c = c.before.before.before.before.before.before
 
 -- the ping has room for its header and its last 8 bytes, and stands in the file
@@ -35,18 +35,18 @@ fill s = let r = room s in let l = part_length_lem s.requires.0 24 (omega arith)
 fits : (s : tie.Start) → fitting (lengths_u (family_of s.args.code)) (many s + 32) ≡ true
 fits s = ap (fitting (lengths_u (family_of s.args.code))) (fill s) ∙ fits-plain s.requires.0 _ s.requires.1.0
 
-open-ping-requires : tie.Need-open-ping-requires
+open-ping-requires : tie.Need-open_ping-requires
 open-ping-requires c κs =
     let r = room c.before.before.before in
     (omega arith, (omega arith, (omega arith, omega arith)))
 
-turn-samples-requires : tie.Need-turn-samples-requires
+turn-samples-requires : tie.Need-turn_samples-requires
 turn-samples-requires c κs =
     let s = start c.before.before in
     let r = room s in
-    (omega (arith, fill s), (s.pre.1.0, fits s))
+    (omega (arith, fill s), (s.requires.1.0, fits s))
 
-close-form-requires : tie.Need-close-form-requires
+close-form-requires : tie.Need-close_form-requires
 close-form-requires c κs =
     let r = room (start c.before.before.before.before.before.before) in
     (omega arith, (omega arith, omega arith))
@@ -59,12 +59,12 @@ returns c =
     let known = header.before.before.before in
     let s = known.before in
     let a = s.args in
-    let bytes = bytes_of_lem a.file.now (λ i. (known.shared-slice-known.given i).fits) in
-    plain-written s.requires.0 a.out.now _ a.to bytes _ s.requires.1.0
-    (rw (back.close-form.ensures, samples.turn-samples.ensures, header.open-ping.ensures))
+    let bytes = bytes_of_lem a.file.now (λ i. (known.shared_slice_known-1.given i).fits) in
+    plain-written s.requires.0 a.out-1.now _ a.to bytes _ s.requires.1.0
+    (rw (back.close_form.ensures, samples.turn_samples.ensures, header.open_ping.ensures))
 
-pub write-form-spec : {M : Type 1} → statement M
-write-form-spec =
+pub write_form_spec : {M : Type 1} → statement M
+write_form_spec =
     tie.close
     (tie.spec
     (λ c. let r = room c.before.before in omega arith)

@@ -19,39 +19,39 @@ room : (s : tie.Start) → Room s
 room s = (long s.requires, (most s.requires).1, (most s.requires).2)
 
 -- the file's elements are bytes
-bytes : (k : tie.After-shared-slice-known) → Bytes k.before.args.file.now
-bytes k = bytes_of_lem k.before.args.file.now (λ i. (k.shared-slice-known.given i).fits)
+bytes : (k : tie.After-shared_slice_known-1) → Bytes k.args.file.now
+bytes k = bytes_of_lem k.args.file.now (λ i. (k.shared_slice_known-1.given i).fits)
 
 -- its last word is a run: so many words, packed
-packed : (c : tie.After-count-packed) →
-    let a = c.before.before.before.before.before.args in
-    28 + 4 * c.count-packed.result + 8 ≤ 2 * a.whole
+packed : (c : tie.After-count_packed) →
+    let a = c.args in
+    28 + 4 * c.count_packed.result + 8 ≤ 2 * a.whole
 packed c =
     let k = c.before in
     let e = k.before in
-    (length-packed e.before.before.before.requires (bytes e.before.before) (sym e.ends-in-run.ensures
-    ∙ k.if1.true) _ c.count-packed.ensures).1
+    (length-packed e.requires (bytes e.before.before) (sym e.ends_in_run.ensures
+    ∙ k.if-ends_in_run.true) _ c.count_packed.ensures).1
 
-returns : tie.Need-returns
+returns : tie.Need-returns-then-ends_in_run
 returns c =
     let k = c.before in
     let e = k.before in
     let s = e.before.before.before in
-    let h = sym e.ends-in-run.ensures ∙ k.if1.true in
-    let m = length-packed s.requires (bytes e.before.before) h _ c.count-packed.ensures in
+    let h = sym e.ends_in_run.ensures ∙ k.if-ends_in_run.true in
+    let m = length-packed s.requires (bytes e.before.before) h _ c.count_packed.ensures in
     record { bytes = m.0; twice = m.1; code = type-packed s.requires (bytes e.before.before) h }
 
-returns-2 : tie.Need-returns-2
+returns-2 : tie.Need-returns
 returns-2 c =
     let k = c.before in
     let e = k.before in
     let s = e.before.before.before in
-    let h = sym e.ends-in-run.ensures ∙ k.if1.false in
-    let m = length-sampled s.requires (bytes e.before.before) h _ c.read4.ensures in
+    let h = sym e.ends_in_run.ensures ∙ k.if-ends_in_run.false in
+    let m = length-sampled s.requires (bytes e.before.before) h _ c.read4-count.ensures in
     record { bytes = m.0; twice = m.1; code = type-sampled s.requires (bytes e.before.before) h }
 
-pub measure-form-spec : {M : Type 1} → statement M
-measure-form-spec =
+pub measure_form_spec : {M : Type 1} → statement M
+measure_form_spec =
     tie.close
     (tie.spec
     (λ c. search rules)
@@ -60,8 +60,8 @@ measure-form-spec =
     (λ c. let r = room c.before in omega arith)
     (λ c. let r = room c.before in omega arith)
     (λ c. let r = room c.before in omega arith)
-    (λ c κs. let p = words-part c.before.before.requires in (p.0, p.1))
-    (λ c κs. (words-part c.before.before.before.before.requires).2)
+    (λ c κs. let p = words-part c.requires in (p.0, p.1))
+    (λ c κs. (words-part c.requires).2)
     (λ c. let r = room c.before.before.before.before.before in omega (arith, packed c))
     (λ c. let r = room c.before.before.before.before.before in omega (arith, packed c))
     (λ c. let r = room c.before.before.before.before.before in omega (arith, packed c))

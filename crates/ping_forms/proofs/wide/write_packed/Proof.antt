@@ -23,8 +23,8 @@ use Rattle.ping_forms.proofs.wide.write_packed.Statement.{statement}
 use Rattle.ping_forms.proofs.wide.write_packed.Tie as tie
 
 -- the file's elements are bytes
-bytes : (k : tie.After-shared-slice-known) → Bytes k.before.args.file.now
-bytes k = bytes_of_lem k.before.args.file.now (λ i. (k.shared-slice-known.given i).fits)
+bytes : (k : tie.After-shared_slice_known-1) → Bytes k.args.file.now
+bytes k = bytes_of_lem k.args.file.now (λ i. (k.shared_slice_known-1.given i).fits)
 
 -- its words, packed
 abbrev packing-of : tie.Start → List ℕ
@@ -36,55 +36,55 @@ pub record Room (s : tie.Start) : Type 0 where
   pub most : s.args.whole ≤ 262144
   pub there : s.args.at + s.args.whole ≤ length s.args.file.now
   pub words : length (packing-of s) ≤ 131072
-  pub room : s.args.to + 36 + 4 * length (packing-of s) ≤ length s.args.out.now
+  pub room : s.args.to + 36 + 4 * length (packing-of s) ≤ length s.args.out-1.now
 
-room : (k : tie.After-shared-slice-known) → Room k.before
+room : (k : tie.After-shared_slice_known-1) → Room k.before
 room k =
-    let p = k.before.requires in
+    let p = k.requires in
     let m = length-packed p.0 (bytes k) p.1.0 _ refl in
     record {
       least = long p.0;
       most = (most p.0).1;
       there = (most p.0).2;
-      words = omega (arith, m.1, (most p.0).1);
+      words-1 = omega (arith, m.1, (most p.0).1);
       room = omega (arith, m.0, p.1.1);
     }
 
 -- places, named by what has been done there
-abbrev known : tie.After-pack-words → tie.After-shared-slice-known
+abbrev known : tie.After-pack_words-end → tie.After-shared_slice_known-1
 known c = c.before.before.before.before
 
-abbrev packing : tie.After-close-form-arg → tie.After-pack-words
+abbrev packing : tie.After-close_form-arg-1 → tie.After-pack_words-end
 packing c = c.before.before.before
 
-abbrev closed : tie.After-open-ping-arg → tie.After-close-form
+abbrev closed : tie.After-open_ping-arg-1 → tie.After-close_form
 closed c = c.before.before.before
 
-abbrev opened : tie.After-store4-arg → tie.After-open-ping
+abbrev opened : tie.After-store4-arg-1 → tie.After-open_ping
 opened c = c.before.before.before.before
 
-pack-words-requires : tie.Need-pack-words-requires
+pack-words-requires : tie.Need-pack_words-end-requires
 pack-words-requires c κs =
     let k = c.before.before.before in
-    ((words-part k.before.requires.0).2, omega (arith, (room k).room))
+    ((words-part k.requires.0).2, omega (arith, (room k).room))
 
-add-bytes : tie.Need-overflow-add-bytes
-add-bytes c = let p = c.before.before in omega (arith, p.pack-words.ensures.0, (room (known p)).words)
+add-bytes : tie.Need-overflow_add-bytes
+add-bytes c = let p = c.before.before in omega (arith, p.pack_words-end.ensures.0, (room (known p)).words-1)
 
-close-form-requires : tie.Need-close-form-requires
+close-form-requires : tie.Need-close_form-requires
 close-form-requires c κs =
     let p = packing c in
     let r = room (known p) in (
       omega (arith, r.least, r.there),
-      (omega (arith, r.room, p.pack-words.ensures.0), omega (arith, p.pack-words.ensures.0, r.words)),
+      (omega (arith, r.room, p.pack_words-end.ensures.0), omega (arith, p.pack_words-end.ensures.0, r.words-1)),
     )
 
-open-ping-requires : tie.Need-open-ping-requires
+open-ping-requires : tie.Need-open_ping-requires
 open-ping-requires c κs =
     let p = packing (closed c).before in
     let r = room (known p) in (
       omega (arith, r.least, r.there),
-      (omega (arith, r.room), (omega (arith, p.pack-words.ensures.0), omega (arith, p.pack-words.ensures.0, r.words))),
+      (omega (arith, r.room), (omega (arith, p.pack_words-end.ensures.0), omega (arith, p.pack_words-end.ensures.0, r.words-1))),
     )
 
 returns : tie.Need-returns
@@ -97,23 +97,23 @@ returns c =
     let k = known p in
     let s = k.before in
     let a = s.args in
-    let q = p.pack-words.result in
+    let q = p.pack_words-end.result in
     let j = q - a.to + 8 in
-    let count = n.before.read4.result in
+    let count = n.read4-count.result in
     let tail = close_bytes false j (num_of a.msb (take 4 (drop (a.at + (a.whole - 8)) a.file.now))) in
     let head : List ℕ → List ℕ = λ x. sets x a.to (opening_bytes false j 10010
     (turned a.msb ping_row (drop (a.at + 6) a.file.now))) in
     let fill : List ℕ → List ℕ = λ x. sets x (a.to + 24) (bytes_of false 4 count) in
-    let packed-there = p.pack-words.last.1.1.0 in
-    let m = length-packed s.pre.0 (bytes k) s.pre.1.0 _ refl in (
-      omega (arith, m.0, p.pack-words.ensures.0),
-      packed-stored s.pre.0 (bytes k) a.out.now _ a.to s.pre.1.0 j count q packed-there p.pack-words.ensures.0 refl
-          n.before.read4.ensures p.pack-words.ensures.1
-          (store.store4.ensures ∙ ap fill (o.open-ping.ensures ∙ ap head back.close-form.ensures)),
+    let packed-there = p.pack_words-end.last.1.1.0 in
+    let m = length-packed s.requires.0 (bytes k) s.requires.1.0 _ refl in (
+      omega (arith, m.0, p.pack_words-end.ensures.0),
+      packed-stored s.requires.0 (bytes k) a.out-1.now _ a.to s.requires.1.0 j count q packed-there p.pack_words-end.ensures.0 refl
+          n.read4-count.ensures p.pack_words-end.ensures.1
+          (store.store4.ensures ∙ ap fill (o.open_ping.ensures ∙ ap head back.close_form.ensures)),
     )
 
-pub write-packed-spec : {M : Type 1} → statement M
-write-packed-spec =
+pub write_packed_spec : {M : Type 1} → statement M
+write_packed_spec =
     tie.close
     (tie.spec
     (λ c. search rules)

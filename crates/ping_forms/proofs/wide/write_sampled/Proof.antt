@@ -13,34 +13,34 @@ use Rattle.ping_forms.proofs.wide.write_sampled.Statement.{statement}
 use Rattle.ping_forms.proofs.wide.write_sampled.Tie as tie
 
 -- places, named by what has been done there
-abbrev known : tie.After-slice-known2 → tie.After-shared-slice-known
+abbrev known : tie.After-slice_known-2-1 → tie.After-shared_slice_known-1
 known c = c.before.before.before.before.before
 
-abbrev opened : tie.After-close-form-arg → tie.After-slice-known2
+abbrev opened : tie.After-close_form-arg-1 → tie.After-slice_known-2-1
 opened c = c.before.before.before.before.before.before
 
 -- the file's elements are bytes
-bytes : (k : tie.After-shared-slice-known) → Bytes k.before.args.file.now
-bytes k = bytes_of_lem k.before.args.file.now (λ i. (k.shared-slice-known.given i).fits)
+bytes : (k : tie.After-shared_slice_known-1) → Bytes k.args.file.now
+bytes k = bytes_of_lem k.args.file.now (λ i. (k.shared_slice_known-1.given i).fits)
 
 -- the ping has room for its header and its last 8 bytes, and stands in the file; its form is not twice as long
 abbrev Room : tie.Start → Type 0
 Room s = let a = s.args in
     (40 ≤ a.whole) × (a.whole ≤ 262144) × (a.at + a.whole ≤ length a.file.now) × (32 ≤ a.bytes) × (a.bytes ≤ 2 * a.whole)
 
-room : (k : tie.After-shared-slice-known) → Room k.before
+room : (k : tie.After-shared_slice_known-1) → Room k.before
 room k =
-    let p = k.before.requires in
+    let p = k.requires in
     let r = most p.0 in
     let m = length-sampled p.0 (bytes k) p.1.0 _ refl in
     (long p.0, r.1, r.2, omega (arith, p.1.1.0), omega (arith, m.1, p.1.1.0))
 
-spread-words-requires : tie.Need-spread-words-requires
+spread-words-requires : tie.Need-spread_words-requires
 spread-words-requires c κs =
     let k = known c.before.before in
     let s = k.before in
     let r = room k in
-    ((words-part s.pre.0).2, (omega (arith, counted s.pre.0, s.pre.1.1.0), omega arith))
+    ((words-part s.requires.0).2, (omega (arith, counted s.requires.0, s.requires.1.1.0), omega arith))
 
 returns : tie.Need-returns
 returns c =
@@ -50,10 +50,10 @@ returns c =
     let k = header.before.before.before in
     let s = k.before in
     sampled-stored s.requires.0 (bytes k) s.args.out.now _ s.args.to s.requires.1.0 s.args.bytes s.requires.1.1.0
-    (rw (back.close-form.ensures, pairs.spread-words.ensures, header.open-ping.ensures))
+    (rw (back.close_form.ensures, pairs.spread_words.ensures, header.open_ping.ensures))
 
-pub write-sampled-spec : {M : Type 1} → statement M
-write-sampled-spec =
+pub write_sampled_spec : {M : Type 1} → statement M
+write_sampled_spec =
     tie.close
     (tie.spec
     (λ c. search rules)

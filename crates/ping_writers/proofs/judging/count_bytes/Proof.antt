@@ -4,14 +4,14 @@ use borrow.Author.Rules.{rules}
 use Rattle.ping_writers.proofs.judging.count_bytes.Statement.{statement}
 use Rattle.ping_writers.proofs.judging.count_bytes.Tie as tie
 
-returns : tie.Need-returns
-returns c = rw c.before.if1.true (omega (arith, c.count-words.ensures.0))
+returns : tie.Need-returns-then-wide
+returns c = rw c.if-wide.true (omega (arith, c.count_words-words.ensures.0))
 
-returns-2 : tie.Need-returns-2
-returns-2 c = rw c.before.if1.false (omega (arith, c.count-words2.ensures.0))
+returns-2 : tie.Need-returns
+returns-2 c = rw c.if-wide.false (omega (arith, c.count_words-bytes.ensures.0))
 
-pub count-bytes-spec : {M : Type 1} → statement M
-count-bytes-spec =
+pub count_bytes_spec : {M : Type 1} → statement M
+count_bytes_spec =
     tie.close
     (tie.spec
     (λ c κs. search rules)

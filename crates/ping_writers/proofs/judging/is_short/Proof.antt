@@ -3,11 +3,11 @@ use borrow.Author.Rules.{rules}
 use Rattle.ping_writers.proofs.judging.is_short.Statement.{statement}
 use Rattle.ping_writers.proofs.judging.is_short.Tie as tie
 
-returns-2 : tie.Need-returns-2
-returns-2 c = rw (c.before.before.length.given.1, c.behind.ensures.0)
+returns-2 : tie.Need-returns-in-Samples
+returns-2 c = rw (c.in-Samples.is, c.behind.ensures.0)
 
-pub is-short-spec : {M : Type 1} → statement M
-is-short-spec =
+pub is_short_spec : {M : Type 1} → statement M
+is_short_spec =
     tie.close
     (tie.spec
     (λ c. search rules)

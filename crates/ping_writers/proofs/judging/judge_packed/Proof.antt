@@ -19,86 +19,86 @@ use Rattle.ping_writers.proofs.Packed.{packed_said}
 use Rattle.ping_writers.proofs.judging.judge_packed.Statement.{statement}
 use Rattle.ping_writers.proofs.judging.judge_packed.Tie as tie
 
-returns : tie.Need-returns
+returns : tie.Need-returns-then-n-values
 returns c =
-    let a = c.before.before.before.before.args in
-    rw (c.refuse.ensures, c.before.smaller.ensures)
+    let a = c.args in
+    rw (c.refuse.ensures, c.smaller.ensures)
     (packed_said (width_by a.wide) (radix_by a.wide) a.numbers.now a.values a.wordless (handed_length a.length) a.room
-    (here (ap not (ne_eqb (length a.numbers.now) a.values c.before.before.if1.true))))
+    (here (ap not (ne_eqb (length a.numbers.now) a.values c.if-n-values.true))))
 
 -- each rule that is passed
-equal_by : (c : tie.Else1) → let a = c.before.before.args in not (eqb (length a.numbers.now) a.values) ≡ false
-equal_by c = let a = c.before.before.args in ap not (eq-eqb (length a.numbers.now) a.values c.if1.false)
+equal_by : (c : tie.Else-n-values) → let a = c.args in not (eqb (length a.numbers.now) a.values) ≡ false
+equal_by c = let a = c.args in ap not (eq-eqb (length a.numbers.now) a.values c.if-n-values.false)
 
-few-by : (c : tie.Else2) → let a = c.before.before.before.args in ltb 32764 (length a.numbers.now) ≡ false
+few-by : (c : tie.Else-values-gt-MOST) → let a = c.args in ltb 32764 (length a.numbers.now) ≡ false
 few-by c =
-    let a = c.before.before.before.args in
-    le-ltb 32764 (length a.numbers.now) (omega (arith, c.if2.false, c.before.if1.false))
+    let a = c.args in
+    le-ltb 32764 (length a.numbers.now) (omega (arith, c.if-values-gt-MOST.false, c.if-n-values.false))
 
-some-by : (c : tie.Else3) → let a = c.before.before.before.before.before.args in
+some-by : (c : tie.Else-is_empty) → let a = c.args in
     (eqb (length a.numbers.now) 0 && not (has_length (handed_length a.length))) ≡ false
-some-by c = sym c.before.is-empty.ensures ∙ c.if3.false
+some-by c = sym c.is_empty.ensures ∙ c.if-is_empty.false
 
-rising-by : (c : tie.Else4) → let a = c.before.before.before.before.before.before.before.args in
+rising-by : (c : tie.Else-first-n) → let a = c.args in
     ltb (first_drop 0 (numbered a.numbers.now)) (length a.numbers.now) ≡ false
 rising-by c =
-    let ns = c.before.before.before.before.before.before.before.args.numbers.now in
-    le-ltb (first_drop 0 (numbered ns)) (length ns) (omega (arith, c.before.first-drop.ensures, c.if4.false))
+    let ns = c.args.numbers.now in
+    le-ltb (first_drop 0 (numbered ns)) (length ns) (omega (arith, c.first_drop-first.ensures, c.if-first-n.false))
 
-worded-by : (c : tie.Else5) → let a = c.before.before.before.before.before.before.before.before.args in
+worded-by : (c : tie.Else-wordless-n) → let a = c.args in
     ltb a.wordless (length a.numbers.now) ≡ false
 worded-by c =
-    let a = c.before.before.before.before.before.before.before.before.args in
-    le-ltb a.wordless (length a.numbers.now) c.if5.false
+    let a = c.args in
+    le-ltb a.wordless (length a.numbers.now) c.if-wordless-n.false
 
-long-by : (c : tie.Else6) → let a = c.before.before.before.before.before.before.before.before.before.before.args in
+long-by : (c : tie.Else-is_short) → let a = c.args in
     too_short (numbered a.numbers.now) (handed_length a.length) ≡ false
-long-by c = sym c.before.is-short.ensures ∙ c.if6.false
+long-by c = sym c.is_short.ensures ∙ c.if-is_short.false
 
-returns-2 : tie.Need-returns-2
+returns-2 : tie.Need-returns-then-values-gt-MOST
 returns-2 c =
     let equal = c.before.before in
-    let a = equal.before.before.args in
-    rw c.refuse2.ensures
+    let a = equal.args in
+    rw c.refuse-then-values-gt-MOST.ensures
     (packed_said (width_by a.wide) (radix_by a.wide) a.numbers.now a.values a.wordless (handed_length a.length) a.room
-    (pass (equal_by equal) (here (lt-ltb 32764 (length a.numbers.now) (omega (arith, c.before.if2.true, equal.if1.false))))))
+    (pass (equal_by equal) (here (lt-ltb 32764 (length a.numbers.now) (omega (arith, c.if-values-gt-MOST.true, equal.if-n-values.false))))))
 
-returns-3 : tie.Need-returns-3
+returns-3 : tie.Need-returns-then-is_empty
 returns-3 c =
     let asked = c.before.before in
     let few = asked.before in
     let equal = few.before in
-    let a = equal.before.before.args in
-    rw c.refuse3.ensures
+    let a = equal.args in
+    rw c.refuse-then-is_empty.ensures
     (packed_said (width_by a.wide) (radix_by a.wide) a.numbers.now a.values a.wordless (handed_length a.length) a.room
-    (pass (equal_by equal) (pass (few-by few) (here (sym asked.is-empty.ensures ∙ c.before.if3.true)))))
+    (pass (equal_by equal) (pass (few-by few) (here (sym asked.is_empty.ensures ∙ c.if-is_empty.true)))))
 
-returns-4 : tie.Need-returns-4
+returns-4 : tie.Need-returns-then-first-n
 returns-4 c =
     let first = c.before.before in
     let some = first.before in
     let few = some.before.before in
     let equal = few.before in
-    let a = equal.before.before.args in
+    let a = equal.args in
     let ns = a.numbers.now in
-    rw (c.refuse4.ensures, first.first-drop.ensures)
+    rw (c.refuse-then-first-n.ensures, first.first_drop-first.ensures)
     (packed_said (width_by a.wide) (radix_by a.wide) ns a.values a.wordless (handed_length a.length) a.room
     (pass (equal_by equal) (pass (few-by few) (pass (some-by some)
-    (here (lt-ltb (first_drop 0 (numbered ns)) (length ns) (omega (arith, first.first-drop.ensures, c.before.if4.true))))))))
+    (here (lt-ltb (first_drop 0 (numbered ns)) (length ns) (omega (arith, first.first_drop-first.ensures, c.if-first-n.true))))))))
 
-returns-5 : tie.Need-returns-5
+returns-5 : tie.Need-returns-then-wordless-n
 returns-5 c =
     let rise = c.before.before in
     let some = rise.before.before in
     let few = some.before.before in
     let equal = few.before in
-    let a = equal.before.before.args in
-    rw c.refuse5.ensures
+    let a = equal.args in
+    rw c.refuse-then-wordless-n.ensures
     (packed_said (width_by a.wide) (radix_by a.wide) a.numbers.now a.values a.wordless (handed_length a.length) a.room
     (pass (equal_by equal) (pass (few-by few) (pass (some-by some) (pass (rising-by rise)
-    (here (lt-ltb a.wordless (length a.numbers.now) c.before.if5.true)))))))
+    (here (lt-ltb a.wordless (length a.numbers.now) c.if-wordless-n.true)))))))
 
-returns-6 : tie.Need-returns-6
+returns-6 : tie.Need-returns-then-is_short
 returns-6 c =
     let tested = c.before.before in
     let worded = tested.before in
@@ -106,34 +106,34 @@ returns-6 c =
     let some = rise.before.before in
     let few = some.before.before in
     let equal = few.before in
-    let a = equal.before.before.args in
-    rw c.refuse6.ensures
+    let a = equal.args in
+    rw c.refuse-then-is_short.ensures
     (packed_said (width_by a.wide) (radix_by a.wide) a.numbers.now a.values a.wordless (handed_length a.length) a.room
     (pass (equal_by equal) (pass (few-by few) (pass (some-by some) (pass (rising-by rise) (pass (worded-by worded)
-    (here (sym tested.is-short.ensures ∙ c.before.if6.true))))))))
+    (here (sym tested.is_short.ensures ∙ c.if-is_short.true))))))))
 
-quiet-behind-requires : tie.Need-quiet-behind-requires
+quiet-behind-requires : tie.Need-quiet_behind-requires
 quiet-behind-requires c κs = long-by c
 
-count-bytes-requires : tie.Need-count-bytes-requires
+count-bytes-requires : tie.Need-count_bytes-whole-requires
 count-bytes-requires c κs =
     let rise = c.before.before.before.before in
-    let ns = rise.before.before.before.before.before.before.before.args.numbers.now in (
-      omega (arith, rise.before.first-drop.ensures, rise.if4.false, drop-most (numbered ns) 0, length-numbered ns),
-      c.quiet-behind.ensures.1,
+    let ns = rise.args.numbers.now in (
+      omega (arith, rise.first_drop-first.ensures, rise.if-first-n.false, drop-most (numbered ns) 0, length-numbered ns),
+      c.quiet_behind.ensures.1,
     )
 
 -- the bytes counted
-size : (c : tie.After-count-bytes) →
-    let a = c.before.before.before.before.before.before.before.before.before.before.before.before.args in
-    c.count-bytes.result
+size : (c : tie.After-count_bytes-whole) →
+    let a = c.args in
+    c.count_bytes-whole.result
     ≡ packed_size (width_by a.wide) (radix_by a.wide) a.numbers.now (quiet (numbered a.numbers.now) (handed_length a.length))
 size c =
-    let a = c.before.before.before.before.before.before.before.before.before.before.before.before.args in
-    c.count-bytes.ensures
-    ∙ ap (packed_size (width_by a.wide) (radix_by a.wide) a.numbers.now) c.before.quiet-behind.ensures.0
+    let a = c.args in
+    c.count_bytes-whole.ensures
+    ∙ ap (packed_size (width_by a.wide) (radix_by a.wide) a.numbers.now) c.quiet_behind.ensures.0
 
-returns-7 : tie.Need-returns-7
+returns-7 : tie.Need-returns-then-whole-gt-MOST
 returns-7 c =
     let count = c.before.before in
     let long = count.before.before in
@@ -142,13 +142,13 @@ returns-7 c =
     let some = rise.before.before in
     let few = some.before.before in
     let equal = few.before in
-    let a = equal.before.before.args in
-    rw c.refuse7.ensures
+    let a = equal.args in
+    rw c.refuse-then-whole-gt-MOST.ensures
     (packed_said (width_by a.wide) (radix_by a.wide) a.numbers.now a.values a.wordless (handed_length a.length) a.room
     (pass (equal_by equal) (pass (few-by few) (pass (some-by some) (pass (rising-by rise) (pass (worded-by worded) (pass (long-by long)
-    (here (ap (ltb 262144) (sym (size count)) ∙ lt-ltb 262144 count.count-bytes.result c.before.if7.true)))))))))
+    (here (ap (ltb 262144) (sym (size count)) ∙ lt-ltb 262144 count.count_bytes-whole.result c.if-whole-gt-MOST.true)))))))))
 
-returns-8 : tie.Need-returns-8
+returns-8 : tie.Need-returns-then-room-whole
 returns-8 c =
     let short = c.before.before in
     let count = short.before in
@@ -158,14 +158,14 @@ returns-8 c =
     let some = rise.before.before in
     let few = some.before.before in
     let equal = few.before in
-    let a = equal.before.before.args in
-    rw c.refuse8.ensures
+    let a = equal.args in
+    rw c.refuse-then-room-whole.ensures
     (packed_said (width_by a.wide) (radix_by a.wide) a.numbers.now a.values a.wordless (handed_length a.length) a.room
     (pass (equal_by equal) (pass (few-by few) (pass (some-by some) (pass (rising-by rise) (pass (worded-by worded) (pass (long-by long)
-    (pass (ap (ltb 262144) (sym (size count)) ∙ le-ltb 262144 count.count-bytes.result short.if7.false)
-    (here (ap (ltb a.room) (sym (size count)) ∙ lt-ltb a.room count.count-bytes.result c.before.if8.true))))))))))
+    (pass (ap (ltb 262144) (sym (size count)) ∙ le-ltb 262144 count.count_bytes-whole.result short.if-whole-gt-MOST.false)
+    (here (ap (ltb a.room) (sym (size count)) ∙ lt-ltb a.room count.count_bytes-whole.result c.if-room-whole.true))))))))))
 
-returns-9 : tie.Need-returns-9
+returns-9 : tie.Need-returns
 returns-9 c =
     let fits = c.before in
     let short = fits.before in
@@ -176,15 +176,15 @@ returns-9 c =
     let some = rise.before.before in
     let few = some.before.before in
     let equal = few.before in
-    let a = equal.before.before.args in
+    let a = equal.args in
     rw (c.accept.ensures, size count)
     (packed_said (width_by a.wide) (radix_by a.wide) a.numbers.now a.values a.wordless (handed_length a.length) a.room
     (pass (equal_by equal) (pass (few-by few) (pass (some-by some) (pass (rising-by rise) (pass (worded-by worded) (pass (long-by long)
-    (pass (ap (ltb 262144) (sym (size count)) ∙ le-ltb 262144 count.count-bytes.result short.if7.false)
-    (pass (ap (ltb a.room) (sym (size count)) ∙ le-ltb a.room count.count-bytes.result fits.if8.false) none)))))))))
+    (pass (ap (ltb 262144) (sym (size count)) ∙ le-ltb 262144 count.count_bytes-whole.result short.if-whole-gt-MOST.false)
+    (pass (ap (ltb a.room) (sym (size count)) ∙ le-ltb a.room count.count_bytes-whole.result fits.if-room-whole.false) none)))))))))
 
-pub judge-packed-spec : {M : Type 1} → statement M
-judge-packed-spec =
+pub judge_packed_spec : {M : Type 1} → statement M
+judge_packed_spec =
     tie.close
     (tie.spec
     (λ c κs. search rules)

@@ -10,91 +10,91 @@ use Rattle.ping_writers.proofs.Plain.{plain-said, bytes-few}
 use Rattle.ping_writers.proofs.judging.judge_plain.Statement.{statement}
 use Rattle.ping_writers.proofs.judging.judge_plain.Tie as tie
 
-returns : tie.Need-returns
+returns : tie.Need-returns-then-not-equal
 returns c =
-    let a = c.before.before.args in
-    c.refuse.ensures ∙ plain-said a.equal a.n a.first a.sample a.room (here c.before.if1.true)
+    let a = c.args in
+    c.refuse.ensures ∙ plain-said a.equal a.n a.first a.sample a.room (here c.if-not-equal.true)
 
-returns-2 : tie.Need-returns-2
+returns-2 : tie.Need-returns-then-n-gt-MOST
 returns-2 c =
     let equal = c.before.before in
-    let a = equal.before.args in
-    c.refuse2.ensures
+    let a = equal.args in
+    c.refuse-then-n-gt-MOST.ensures
     ∙ plain-said a.equal a.n a.first a.sample a.room
-    (pass equal.if1.false (here (lt-ltb 32764 a.n c.before.if2.true)))
+    (pass equal.if-not-equal.false (here (lt-ltb 32764 a.n c.if-n-gt-MOST.true)))
 
-returns-3 : tie.Need-returns-3
+returns-3 : tie.Need-returns-then-n-eq0
 returns-3 c =
     let few = c.before.before in
     let equal = few.before in
-    let a = equal.before.args in
-    c.refuse3.ensures
+    let a = equal.args in
+    c.refuse-then-n-eq0.ensures
     ∙ plain-said a.equal a.n a.first a.sample a.room
-    (pass equal.if1.false (pass (le-ltb 32764 a.n few.if2.false) (here (eq-eqb a.n 0 c.before.if3.true))))
+    (pass equal.if-not-equal.false (pass (le-ltb 32764 a.n few.if-n-gt-MOST.false) (here (eq-eqb a.n 0 c.if-n-eq0.true))))
 
-returns-4 : tie.Need-returns-4
+returns-4 : tie.Need-returns-then-first-n
 returns-4 c =
     let some = c.before.before in
     let few = some.before in
     let equal = few.before in
-    let a = equal.before.args in
-    c.refuse4.ensures
+    let a = equal.args in
+    c.refuse-then-first-n.ensures
     ∙ plain-said a.equal a.n a.first a.sample a.room
-    (pass equal.if1.false (pass (le-ltb 32764 a.n few.if2.false)
-    (pass (ne_eqb a.n 0 some.if3.false) (here (lt-ltb a.first a.n c.before.if4.true)))))
+    (pass equal.if-not-equal.false (pass (le-ltb 32764 a.n few.if-n-gt-MOST.false)
+    (pass (ne_eqb a.n 0 some.if-n-eq0.false) (here (lt-ltb a.first a.n c.if-first-n.true)))))
 
 -- the samples' bytes are few
-small : (c : tie.Else4) → let a = c.before.before.before.before.args in a.n * a.sample ≤ 262112
+small : (c : tie.Else-first-n) → let a = c.args in a.n * a.sample ≤ 262112
 small c =
     let start = c.before.before.before.before in
-    bytes-few start.args.n start.args.sample c.before.before.if2.false start.requires
+    bytes-few start.args.n start.args.sample c.if-n-gt-MOST.false start.requires
 
-mul-bytes : tie.Need-overflow-mul-bytes
+mul-bytes : tie.Need-overflow_mul-bytes
 mul-bytes c = omega (arith, small c)
 
-add-whole : tie.Need-overflow-add-whole
+add-whole : tie.Need-overflow_add-whole
 add-whole c = omega (arith, small c)
 
-add-whole-2 : tie.Need-overflow-add-whole-2
+add-whole-2 : tie.Need-overflow_add-whole-2
 add-whole-2 c = omega (arith, small c)
 
-add-whole-3 : tie.Need-overflow-add-whole-3
+add-whole-3 : tie.Need-overflow_add-whole-3
 add-whole-3 c = omega (arith, small c)
 
 -- the code's sum
-size : (c : tie.Else4) → let a = c.before.before.before.before.args in
+size : (c : tie.Else-first-n) → let a = c.args in
     24 + a.n * a.sample + a.n * a.sample % 4 + 8 ≡ plain_size a.sample a.n
 size c = omega arith
 
-returns-5 : tie.Need-returns-5
+returns-5 : tie.Need-returns-then-room-whole
 returns-5 c =
     let rise = c.before.before in
     let some = rise.before in
     let few = some.before in
     let equal = few.before in
-    let a = equal.before.args in
-    c.refuse5.ensures
+    let a = equal.args in
+    c.refuse-then-room-whole.ensures
     ∙ plain-said a.equal a.n a.first a.sample a.room
-    (pass equal.if1.false (pass (le-ltb 32764 a.n few.if2.false)
-    (pass (ne_eqb a.n 0 some.if3.false) (pass (le-ltb a.first a.n rise.if4.false)
-    (here (lt-ltb a.room (plain_size a.sample a.n) (omega (arith, c.before.if5.true, size rise))))))))
+    (pass equal.if-not-equal.false (pass (le-ltb 32764 a.n few.if-n-gt-MOST.false)
+    (pass (ne_eqb a.n 0 some.if-n-eq0.false) (pass (le-ltb a.first a.n rise.if-first-n.false)
+    (here (lt-ltb a.room (plain_size a.sample a.n) (omega (arith, c.if-room-whole.true, size rise))))))))
 
-returns-6 : tie.Need-returns-6
+returns-6 : tie.Need-returns
 returns-6 c =
     let fits = c.before in
     let rise = fits.before in
     let some = rise.before in
     let few = some.before in
     let equal = few.before in
-    let a = equal.before.args in
+    let a = equal.args in
     rw (c.accept.ensures, size rise)
     (plain-said a.equal a.n a.first a.sample a.room
-    (pass equal.if1.false (pass (le-ltb 32764 a.n few.if2.false)
-    (pass (ne_eqb a.n 0 some.if3.false) (pass (le-ltb a.first a.n rise.if4.false)
-    (pass (le-ltb a.room (plain_size a.sample a.n) (omega (arith, fits.if5.false, size rise))) none))))))
+    (pass equal.if-not-equal.false (pass (le-ltb 32764 a.n few.if-n-gt-MOST.false)
+    (pass (ne_eqb a.n 0 some.if-n-eq0.false) (pass (le-ltb a.first a.n rise.if-first-n.false)
+    (pass (le-ltb a.room (plain_size a.sample a.n) (omega (arith, fits.if-room-whole.false, size rise))) none))))))
 
-pub judge-plain-spec : {M : Type 1} → statement M
-judge-plain-spec =
+pub judge_plain_spec : {M : Type 1} → statement M
+judge_plain_spec =
     tie.close
     (tie.spec
     (λ c κs. search rules)

@@ -8,20 +8,20 @@ use Rattle.samples.specs.Runs.{behind}
 use Rattle.ping_writers.proofs.judging.quiet_behind.Statement.{statement}
 use Rattle.ping_writers.proofs.judging.quiet_behind.Tie as tie
 
-sub-result : tie.Need-overflow-sub-result
+sub-result : tie.Need-overflow_sub-result
 sub-result c =
-    let all = c.before.before.length.given in
-    let start = c.before.before.before.before.before in
+    let all = c.in-Samples.length.given in
+    let start = c.before.before.before in
     let long = rw all.1 at start.requires in
     omega (arith, c.behind.ensures.0, ltb-false all.0.0 (behind 0 (numbered start.args.numbers.now) + 1) long)
 
-returns-2 : tie.Need-returns-2
+returns-2 : tie.Need-returns-in-Samples
 returns-2 c =
-    let all = c.before.before.length.given in
+    let all = c.in-Samples.length.given in
     (rw (all.1, c.behind.ensures.0), omega arith)
 
-pub quiet-behind-spec : {M : Type 1} → statement M
-quiet-behind-spec =
+pub quiet_behind_spec : {M : Type 1} → statement M
+quiet_behind_spec =
     tie.close
     (tie.spec
     (λ c. search rules)

@@ -11,13 +11,13 @@ returns c =
     let space = tail.before.before.before.before in
     let start = space.before.before.before in
     rw (
-      tail.put-tail.ensures,
-      space.write-space.ensures,
+      tail.put_tail.ensures,
+      space.write_space.ensures,
       to_z-of_z {w = w32} {z = start.args.attribute} start.ranges.attribute,
     )
 
-pub write-closing-spec : {M : Type 1} → statement M
-write-closing-spec =
+pub write_closing_spec : {M : Type 1} → statement M
+write_closing_spec =
     tie.close
     (tie.spec
     (λ c. search rules)

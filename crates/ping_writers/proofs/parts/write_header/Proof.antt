@@ -15,21 +15,21 @@ returns c =
     let channel = mode.before.before.before.before in
     let time = channel.before.before.before.before in
     let fraction = time.before.before.before.before in
-    let a = fraction.before.before.before.args in
+    let a = fraction.args in
     rw (
-      bottom.store43.ensures,
-      pattern-read w32 4 a.header.detected_bottom_range _ pattern.before.struct_told.given.1.1.1.1.1.0.1
+      bottom.store4-3.ensures,
+      pattern-read w32 4 a.header.detected_bottom_range _ pattern.struct_told-1.given.1.1.1.1.1.0.1
           pattern.pattern4.ensures,
-      number.store42.ensures,
-      mode.store23.ensures,
-      channel.store22.ensures,
+      number.store4-2.ensures,
+      mode.store2-3.ensures,
+      channel.store2-2.ensures,
       time.store4.ensures,
       fraction.store2.ensures,
     )
-    (header-stored a.msb a.out.now a.header)
+    (header-stored a.msb a.out-1.now a.header)
 
-pub write-header-spec : {M : Type 1} → statement M
-write-header-spec =
+pub write_header_spec : {M : Type 1} → statement M
+write_header_spec =
     tie.close
     (tie.spec
     (λ c κs. search rules)

@@ -8,9 +8,13 @@ returns : tie.Need-returns
 returns c =
     let header = c.before.before in
     let opening = header.before.before.before.before in
-    let a = opening.before.before.before.args in
-    rw (header.write-header.ensures, opening.open-frame.ensures)
-    (opening-stored a.msb a.out.now 0 a.whole a.code _)
+    let a = opening.args in
+    rw (header.write_header.ensures, opening.open_frame.ensures)
+    (opening-stored a.msb a.out-1.now 0 a.whole a.code _)
 
-pub write-opening-spec : {M : Type 1} → statement M
-write-opening-spec = tie.close (tie.spec (λ c κs. search rules) (λ c κs. search rules) (λ c. search rules) returns)
+pub write_opening_spec : {M : Type 1} → statement M
+write_opening_spec = tie.close (tie.spec
+    (λ c κs. search rules)
+    (λ c κs. search rules)
+    (λ c. search rules)
+    returns)

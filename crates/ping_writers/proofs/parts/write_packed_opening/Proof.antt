@@ -7,10 +7,10 @@ returns : tie.Need-returns
 returns c =
     let count = c.before.before in
     let opening = count.before.before.before.before in
-    rw (count.store4.ensures, opening.write-opening.ensures)
+    rw (count.store4.ensures, opening.write_opening.ensures)
 
-pub write-packed-opening-spec : {M : Type 1} → statement M
-write-packed-opening-spec =
+pub write_packed_opening_spec : {M : Type 1} → statement M
+write_packed_opening_spec =
     tie.close
     (tie.spec
     (λ c κs. search rules)

@@ -4,6 +4,7 @@ use Rattle.layout.specs.Types.{listings, among, listing_of}
 use Rattle.pings.proofs.of_pairs.lengths.Statement.{statement}
 use Rattle.pings.proofs.of_pairs.lengths.Tie as tie
 
-pub lengths-spec : {M : Type 1} → statement M
+pub lengths_spec : {M : Type 1} → statement M
 unfolding listing_of among listings
-lengths-spec = tie.close (tie.spec (λ c. refl))
+lengths_spec = tie.close (tie.spec
+    (λ c. refl))

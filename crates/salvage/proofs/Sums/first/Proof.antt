@@ -4,7 +4,11 @@ use Rattle.salvage.proofs.Sums.first.Statement.{statement}
 use Rattle.salvage.proofs.Sums.first.Tie as tie
 
 returns : tie.Need-returns
-returns c = rw (c.before.one-if.ensures.0, c.size-kept.ensures.0)
+returns c = rw (c.one_if.ensures.0, c.size_kept.ensures.0)
 
 pub first_spec : {M : Type 1} → statement M
-first_spec = tie.close (tie.spec (λ c κs. search rules) (λ c κs. search rules) (λ c. search rules) returns)
+first_spec = tie.close (tie.spec
+    (λ c κs. search rules)
+    (λ c κs. search rules)
+    (λ c. search rules)
+    returns)

@@ -7,10 +7,10 @@ returns : tie.Need-returns
 returns c =
     let kinds = c.before.before in
     let size = kinds.before.before.before.before in
-    rw (size.before.before.one-if.ensures.0, size.size-kept.ensures.0, kinds.one-unless.ensures.0)
+    rw (size.one_if.ensures.0, size.size_kept.ensures.0, kinds.one_unless.ensures.0)
 
-pub past-spec : {M : Type 1} → statement M
-past-spec =
+pub past_spec : {M : Type 1} → statement M
+past_spec =
     tie.close
     (tie.spec
     (λ c κs. search rules)

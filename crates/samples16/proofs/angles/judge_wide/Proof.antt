@@ -6,7 +6,9 @@ use Rattle.samples16.proofs.angles.judge_wide.Statement.{statement}
 use Rattle.samples16.proofs.angles.judge_wide.Tie as tie
 
 returns : tie.Need-returns
-returns c = let a = c.before.before.args in c.judge-pairs.ensures ∙ judged-wide a.msb a.part.now
+returns c = let a = c.args in c.judge_pairs.ensures ∙ judged-wide a.msb a.part.now
 
-pub judge-wide-spec : {M : Type 1} → statement M
-judge-wide-spec = tie.close (tie.spec (λ c κs. search rules) returns)
+pub judge_wide_spec : {M : Type 1} → statement M
+judge_wide_spec = tie.close (tie.spec
+    (λ c κs. search rules)
+    returns)

@@ -17,70 +17,70 @@ use Rattle.samples16.proofs.Angled.{entry-numbers, entry-alongship, entry-athwar
 use Rattle.samples16.proofs.angles.read_wide.Statement.{statement}
 use Rattle.samples16.proofs.angles.read_wide.Tie as tie
 
-abbrev invariant-loop : tie.invariant-loop
+abbrev invariant-loop : tie.invariant-loop-p
 invariant-loop part msb numbers₀ alongship₀ athwartship₀ entry₀ p₀ numbers alongship athwartship entry p =
     (p ≤ length part) × (8 * entry ≤ p)
     × Angled (all_samples wide_angles msb part) (rest_of wide_angles msb part p) numbers₀ alongship₀ athwartship₀
     numbers alongship athwartship entry
 
-abbrev decreases-loop : tie.decreases-loop
+abbrev decreases-loop : tie.decreases-loop-p
 decreases-loop part msb numbers₀ alongship₀ athwartship₀ entry₀ p₀ numbers alongship athwartship entry p = length part - p
 
-loop-holds : tie.Need-loop-init invariant-loop decreases-loop
-loop-holds c = let a = c.before.before.args in
-    (omega arith, omega arith, angled_as (sym (rest_all wide_angles a.msb a.part.now)) (angled-begin c.before.before.requires))
+loop-holds : tie.Need-loop-p-init invariant-loop decreases-loop
+loop-holds c = let a = c.args in
+    (omega arith, omega arith, angled_as (sym (rest_all wide_angles a.msb a.part.now)) (angled-begin c.requires))
 
 -- the sample here is the next to be handed over
 next : (c : tie.After-read4 invariant-loop decreases-loop) →
     let head = c.before.before in
-    let a = head.before.before.before.args in
-    let l = head.loop in
+    let a = head.args in
+    let l = head.loop-p in
     Angled (all_samples wide_angles a.msb a.part.now)
     ((c.read4.result, (sample_of wide_angles a.msb (drop l.p a.part.now)).1)
     ∷ rest_of wide_angles a.msb a.part.now (l.p + 8))
     a.numbers.now a.alongship.now a.athwartship.now l.numbers l.alongship l.athwartship l.entry
-next c = angled_as (next_sample wide_angles _ _ _ _ c.before.loop-test.true c.read4.ensures) c.before.before.loop.invariant.2
+next c = angled_as (next_sample wide_angles _ _ _ _ c.loop-p-test.true c.read4.ensures) c.loop-p.invariant.2
 
-slice-write-numbers : tie.Need-slice-write-numbers invariant-loop decreases-loop
+slice-write-numbers : tie.Need-bounds-numbers-entry invariant-loop decreases-loop
 slice-write-numbers c = entry-numbers (next c)
 
-slice-set-from-alongship : tie.Need-slice-set-from-athwartship invariant-loop decreases-loop
+slice-set-from-alongship : tie.Need-bounds-alongship-entry invariant-loop decreases-loop
 slice-set-from-alongship c = entry-alongship (next c.before.before)
 
-slice-set-from-athwartship : tie.Need-slice-set-from-athwartship-2 invariant-loop decreases-loop
+slice-set-from-athwartship : tie.Need-bounds-athwartship-entry invariant-loop decreases-loop
 slice-set-from-athwartship c = entry-athwartship (next c.before.before.before.before)
 
 -- its two angles are the words behind its number
-angles : (c : tie.After-read22 invariant-loop decreases-loop) →
+angles : (c : tie.After-read2-in-loop-p invariant-loop decreases-loop) →
     let first = c.before.before in
     let head = first.before.before.before in
-    let a = head.before.before.before.args in
-    let v = (sample_of wide_angles a.msb (drop head.loop.p a.part.now)).1 in
-    (v % 65536 ≡ first.read2.result) × (v / 65536 ≡ c.read22.result)
+    let a = head.args in
+    let v = (sample_of wide_angles a.msb (drop head.loop-p.p a.part.now)).1 in
+    (v % 65536 ≡ first.read2.result) × (v / 65536 ≡ c.read2-in-loop-p.result)
 angles c =
     let first = c.before.before in
     let head = first.before.before.before in
-    let a = head.before.before.before.args in
-    angles-at 4 a.msb a.part.now head.loop.p first.read2.result c.read22.result first.read2.type-inv
-    first.read2.ensures c.read22.ensures
+    let a = head.args in
+    angles-at 4 a.msb a.part.now head.loop-p.p first.read2.result c.read2-in-loop-p.result first.read2.type-inv
+    first.read2.ensures c.read2-in-loop-p.ensures
 
-loop-again : tie.Need-loop-preserved invariant-loop decreases-loop
+loop-again : tie.Need-loop-p-preserved invariant-loop decreases-loop
 loop-again c =
     let first = c.before.before in
     let both = angles c.before in
     let u = to_z-of_z w16 first.signed2.result (record { sfits = first.signed2.type-inv })
     ∙ first.signed2.ensures
     ∙ ap (signed_of 2) (sym both.0) in
-    let v = to_z-of_z w16 c.signed22.result (record { sfits = c.signed22.type-inv })
-    ∙ c.signed22.ensures
+    let v = to_z-of_z w16 c.signed2-in-loop-p.result (record { sfits = c.signed2-in-loop-p.type-inv })
+    ∙ c.signed2-in-loop-p.ensures
     ∙ ap (signed_of 2) (sym both.1) in
     (omega arith, omega arith, angled-one _ _ _ u v (next first.before.before))
 
 returns : tie.Need-returns invariant-loop decreases-loop
-returns c = angled-end (angled_as (rest_end wide_angles _ _ _ (omega (arith, c.loop-test.false))) c.before.loop.invariant.2)
+returns c = angled-end (angled_as (rest_end wide_angles _ _ _ (omega (arith, c.loop-p-test.false))) c.loop-p.invariant.2)
 
-pub read-wide-spec : {M : Type 1} → statement M
-read-wide-spec =
+pub read_wide_spec : {M : Type 1} → statement M
+read_wide_spec =
     tie.close
     (tie.spec
     invariant-loop
@@ -106,7 +106,7 @@ read-wide-spec =
     (λ c. search rules)
     (λ c. search rules)
     loop-again
-    (λ c. c.before.loop.invariant.2.long_numbers)
-    (λ c. c.before.loop.invariant.2.long_alongship)
-    (λ c. c.before.loop.invariant.2.long_athwartship)
+    (λ c. c.loop-p.invariant.2.long_numbers)
+    (λ c. c.loop-p.invariant.2.long_alongship)
+    (λ c. c.loop-p.invariant.2.long_athwartship)
     returns)

@@ -16,30 +16,30 @@ use Rattle.signature.proofs.Signature.read.Statement.{statement}
 use Rattle.signature.proofs.Signature.read.Tie as tie
 
 -- ---- places: from where the row is read back to what is known of the file, and to the start
-abbrev known : tie.After-numbers2 → tie.After-shared-slice-known
+abbrev known : tie.After-numbers-2-1 → tie.After-shared_slice_known-1
 known d = d.before.before.before
 
-abbrev start : tie.After-numbers2 → tie.Start
+abbrev start : tie.After-numbers-2-1 → tie.Start
 start d = (known d).before
 
 -- the record there
-abbrev there : tie.After-numbers2 → Signature
+abbrev there : tie.After-numbers-2-1 → Signature
 there d = signature_of (row_integers 65535 (start d).args.file.now (start d).args.place)
 
-returns : tie.Need-returns
+returns : tie.Need-returns-in-Refused
 unfolding listing_of among listings
 returns c =
-    let d = c.before.before.before in
-    let e = view_refused 65535 refl refl (rw c.before.code.given.1 at d.before.read-row.ensures) in
+    let d = c.before in
+    let e = view_refused 65535 refl refl (rw c.in-Refused.is at d.read_row.ensures) in
     record { answer = tells e; outcome = ap (λ (x : Answer). answered x (there d)) e }
 
-returns-2 : tie.Need-returns-2
+returns-2 : tie.Need-returns-in-Read
 unfolding listing_of among listings
 returns-2 c =
-    let d = c.before.before.before in
-    let r = rw c.before.enum_told.given.1 at d.before.read-row.ensures in
+    let d = c.before.before in
+    let r = rw c.in-Read.is at d.read_row.ensures in
     let e = view_accepted 65535 refl refl r in
-    let bytes = bytes_of_lem (start d).args.file.now (λ i. ((known d).shared-slice-known.given i).fits) in
+    let bytes = bytes_of_lem (start d).args.file.now (λ i. ((known d).shared_slice_known-1.given i).fits) in
     let fields = c.of.ensures ∙ ap signature_of (view_integers 65535 refl refl r bytes) in
     record { answer = tells e; outcome = ap Read fields ∙ ap (λ (x : Answer). answered x (there d)) e }
 

@@ -23,29 +23,29 @@ returns n12 =
     let n3 = n4.before.before in
     let n2 = n3.before in
     let n0 = n2.before in
-    let r = n0.before.args.self in
-    let f4 = n12.before.struct-told4.given.1.1.1.1 in
+    let r = n0.args.self in
+    let f4 = n12.struct_told-4-1.given.1.1.1.1 in
     let f6 = f4.1.1 in
     let f9 = f6.1.1.1 in
     let f12 = f9.1.1.1 in
     λ i.
-    n0.of-unsigned2.ensures i
+    n0.of_unsigned2.ensures i
     ∷ r.echosounder_document_identifier.0
-    ∷ n2.of-unsigned22.ensures i
-    ∷ n3.of-unsigned23.ensures i
-    ∷ held-pattern w16 2 r.transmitter_attenuation_setting f4.0.1 n4.of-signed2.ensures i
-    ∷ n5.of-unsigned24.ensures i
-    ∷ held-pattern w16 2 r.blanking_at_tvg_max_range f6.0.1 n6.of-signed22.ensures i
-    ∷ n7.of-unsigned25.ensures i
-    ∷ n8.of-unsigned26.ensures i
-    ∷ held-pattern w16 2 r.calibrator_signal f9.0.1 n9.of-signed23.ensures i
-    ∷ n10.of-unsigned27.ensures i
-    ∷ n11.of-unsigned28.ensures i
-    ∷ held-pattern w32 4 r.tuple_attribute f12.0.1 n12.of-signed4.ensures i
+    ∷ n2.of_unsigned2-2.ensures i
+    ∷ n3.of_unsigned2-3.ensures i
+    ∷ held-pattern w16 2 r.transmitter_attenuation_setting f4.0.1 n4.of_signed2.ensures i
+    ∷ n5.of_unsigned2-4.ensures i
+    ∷ held-pattern w16 2 r.blanking_at_tvg_max_range f6.0.1 n6.of_signed2-2.ensures i
+    ∷ n7.of_unsigned2-5.ensures i
+    ∷ n8.of_unsigned2-6.ensures i
+    ∷ held-pattern w16 2 r.calibrator_signal f9.0.1 n9.of_signed2-3.ensures i
+    ∷ n10.of_unsigned2-7.ensures i
+    ∷ n11.of_unsigned2-8.ensures i
+    ∷ held-pattern w32 4 r.tuple_attribute f12.0.1 n12.of_signed4.ensures i
     ∷ []
 
-pub numbers-spec : {M : Type 1} → statement M
-numbers-spec =
+pub numbers_spec : {M : Type 1} → statement M
+numbers_spec =
     tie.close
     (tie.spec
     (λ c κs. search rules)

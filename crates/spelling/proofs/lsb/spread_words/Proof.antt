@@ -18,25 +18,25 @@ use Rattle.spelling.proofs.lsb.spread_words.Statement.{statement}
 use Rattle.spelling.proofs.lsb.spread_words.Tie as tie
 
 -- a word passes at most 65,536 samples, so that the sample's number stays below 2^32
-abbrev invariant-loop : tie.invariant-loop
+abbrev invariant-loop : tie.invariant-loop-at
 invariant-loop part msb out₀ to end number₀ at₀ p₀ out number at p =
     (p ≤ length part) × (4 * number ≤ 65536 * p)
     × Spreading wide false (decode radix (all_words 4 msb part)) (decode_from radix number (words_from 4 msb part p)) out₀ to end out at
 
-abbrev decreases-loop : tie.decreases-loop
+abbrev decreases-loop : tie.decreases-loop-at
 decreases-loop part msb out₀ to end number₀ at₀ p₀ out number at p = length part - p
 
 -- places, named by what has been done there
-abbrev inside : tie.After-slice-known2 invariant-loop decreases-loop → tie.In-loop invariant-loop decreases-loop
+abbrev inside : tie.After-slice_known-in-loop-at-1 invariant-loop decreases-loop → tie.In-loop-at invariant-loop decreases-loop
 inside c = c.before.before.before.before.before.before
 
-abbrev start : tie.After-slice-known2 invariant-loop decreases-loop → tie.Start invariant-loop decreases-loop
+abbrev start : tie.After-slice_known-in-loop-at-1 invariant-loop decreases-loop → tie.Start invariant-loop decreases-loop
 start c = c.before.before.before.before.before.before.before.before.before.before
 
-abbrev looping : tie.After-slice-known2 invariant-loop decreases-loop → tie.At-loop invariant-loop decreases-loop
+abbrev looping : tie.After-slice_known-in-loop-at-1 invariant-loop decreases-loop → tie.At-loop-at invariant-loop decreases-loop
 looping c = c.before.before.before.before.before.before.before
 
-loop-holds : tie.Need-loop-init invariant-loop decreases-loop
+loop-holds : tie.Need-loop-at-init invariant-loop decreases-loop
 loop-holds c =
     let s = c.before.before in
     let a = s.args in (
@@ -47,64 +47,64 @@ loop-holds c =
     )
 
 -- before the end a word is left, and room for its pair
-left : (c : tie.In-loop invariant-loop decreases-loop) →
-    let a = c.before.before.before.before.args in
-    let l = c.before.loop in
-    (4 ≤ length a.part.now - l.p) × (l.at + 8 ≤ a.end) × (a.end ≤ length l.out)
+left : (c : tie.In-loop-at invariant-loop decreases-loop) →
+    let a = c.args in
+    let l = c.loop-at in
+    (4 ≤ length a.part.now - l.p) × (l.at + 8 ≤ a.end) × (a.end ≤ length l.out-1)
 left c =
     let s = c.before.before.before.before in
-    let l = c.before.loop in
+    let l = c.loop-at in
     let h = l.invariant.2 in (
-      word-left 4 radix (lit< tt) s.args.msb s.args.part.now l.p l.number (omega (arith, c.loop-test.true, h.ends)),
-      omega (arith, c.loop-test.true, h.ends),
+      word-left 4 radix (lit< tt) s.args.msb s.args.part.now l.p l.number (omega (arith, c.loop-at-test.true, h.ends)),
+      omega (arith, c.loop-at-test.true, h.ends),
       omega (arith, s.requires.1.1, h.long),
     )
 
 -- a run passes at most 65,536 samples; behind its word the number is still below 2^32
-few : (c : tie.After-slice-known2 invariant-loop decreases-loop)
-    → bool_byte c.before.before.before.before.is-run.result * (c.before.before.before.before.before.read4.result % 65536)
+few : (c : tie.After-slice_known-in-loop-at-1 invariant-loop decreases-loop)
+    → bool_byte c.is_run-run.result * (c.read4-word.result % 65536)
     < 65536
-few c = passes-few 65536 (lit< tt) c.before.before.before.before.is-run.result
-    c.before.before.before.before.before.read4.result
+few c = passes-few 65536 (lit< tt) c.is_run-run.result
+    c.read4-word.result
 
-add_at : tie.Need-overflow-add-at invariant-loop decreases-loop
+add_at : tie.Need-overflow_add-at invariant-loop decreases-loop
 add_at c =
     omega (
       arith,
-      counts-one (not c.before.before.before.before.is-run.result),
+      counts-one (not c.is_run-run.result),
       (left (inside c)).1,
       (start c).ranges.end,
     )
 
-add-number-2 : tie.Need-overflow-add-number-2 invariant-loop decreases-loop
+add-number-2 : tie.Need-overflow_add-number-in-loop-at invariant-loop decreases-loop
 add-number-2 c =
     omega (
       arith,
       few c,
       (left (inside c)).0,
-      (looping c).loop.invariant.1,
+      (looping c).loop-at.invariant.1,
       (start c).requires.0,
     )
 
-loop-again : tie.Need-loop-preserved invariant-loop decreases-loop
+loop-again : tie.Need-loop-at-preserved invariant-loop decreases-loop
 loop-again c =
     let put = c.before.before in
     let run = put.before.before in
     let read = run.before in
     let test = read.before in
-    let l = test.before.loop in
+    let l = test.loop-at in
     let h = left test in
-    let w = read.read4.result in (
+    let w = read.read4-word.result in (
       omega (arith, h.0),
       omega (arith, few c, l.invariant.1),
-      spreading_word l.number w put.put-pair.ensures put.put-pair.auto.0 radix (lit< tt) _ run.is-run.result
-          run.is-run.ensures
-          test.loop-test.true
-          (spreading_as (ap (decode_from radix l.number) (next 4 (lit< tt) _ _ _ _ h.0 read.read4.ensures)) l.invariant.2),
+      spreading_word l.number w put.put_pair.ensures put.put_pair.auto.0 radix (lit< tt) _ run.is_run-run.result
+          run.is_run-run.ensures
+          test.loop-at-test.true
+          (spreading_as (ap (decode_from radix l.number) (next 4 (lit< tt) _ _ _ _ h.0 read.read4-word.ensures)) l.invariant.2),
     )
 
-pub spread-words-spec : {M : Type 1} → statement M
-spread-words-spec =
+pub spread_words_spec : {M : Type 1} → statement M
+spread_words_spec =
     tie.close
     (tie.spec
     invariant-loop
@@ -114,7 +114,7 @@ spread-words-spec =
     (λ c κs. search rules)
     (λ c κs. let h = left c.before.before.before in omega (arith, h.1, h.2))
     (λ c. search rules)
-    (λ c. omega (arith, counts-one (not c.before.before.before.before.is-run.result)))
+    (λ c. omega (arith, counts-one (not c.is_run-run.result)))
     add_at
     (λ c. search rules)
     (λ c. omega (arith, few c))
@@ -128,5 +128,5 @@ spread-words-spec =
     ))
     (λ c. omega (arith, (left (inside c)).0))
     loop-again
-    (λ c. c.before.loop.invariant.2.long)
-    (λ c. spreading_end c.loop-test.false c.before.loop.invariant.2))
+    (λ c. c.loop-at.invariant.2.long)
+    (λ c. spreading_end c.loop-at-test.false c.loop-at.invariant.2))

@@ -10,47 +10,47 @@ use Rattle.samples.proofs.Turning.{Turning, turning_begin, turning_one, turning_
 use Rattle.spelling.proofs.lsb.turn_words.Statement.{statement}
 use Rattle.spelling.proofs.lsb.turn_words.Tie as tie
 
-abbrev invariant-loop : tie.invariant-loop
+abbrev invariant-loop : tie.invariant-loop-p
 invariant-loop part msb out₀ to p₀ out p = (p ≤ length part) × (length out ≡ length out₀) × Turning 4 (lit< tt) msb false part out₀ to out p
 
-abbrev decreases-loop : tie.decreases-loop
+abbrev decreases-loop : tie.decreases-loop-p
 decreases-loop part msb out₀ to p₀ out p = length part - p
 
 -- places, named by what has been done there
-abbrev looping : tie.After-slice-known2 invariant-loop decreases-loop → tie.At-loop invariant-loop decreases-loop
+abbrev looping : tie.After-slice_known-in-loop-p-1 invariant-loop decreases-loop → tie.At-loop-p invariant-loop decreases-loop
 looping c = c.before.before.before.before.before.before
 
-abbrev start : tie.After-slice-known2 invariant-loop decreases-loop → tie.Start invariant-loop decreases-loop
+abbrev start : tie.After-slice_known-in-loop-p-1 invariant-loop decreases-loop → tie.Start invariant-loop decreases-loop
 start c = c.before.before.before.before.before.before.before.before.before
 
-loop-holds : tie.Need-loop-init invariant-loop decreases-loop
-loop-holds c = let a = c.before.before.args in (
+loop-holds : tie.Need-loop-p-init invariant-loop decreases-loop
+loop-holds c = let a = c.args in (
   omega arith,
   refl,
   turning_begin 4 (lit< tt) a.msb false a.part.now
-      a.out.now a.to,
+      a.out-1.now a.to,
 )
 
-loop-again : tie.Need-loop-preserved invariant-loop decreases-loop
+loop-again : tie.Need-loop-p-preserved invariant-loop decreases-loop
 loop-again c =
     let put = c.before.before in
     let read = put.before in
-    let l = (looping c).loop in
+    let l = (looping c).loop-p in
     let a = (start c).args in (
       omega arith,
-      put.store4.auto.0 ∙ l.inv.1,
-      turning_one 4 (lit< tt) a.msb false a.part.now a.out.now a.to l.out _ l.p _ (omega arith) read.read4.ensures
-          put.store4.ensures l.inv.2,
+      put.store4.auto.0 ∙ l.invariant.1,
+      turning_one 4 (lit< tt) a.msb false a.part.now a.out-1.now a.to l.out-1 _ l.p _ (omega arith) read.read4.ensures
+          put.store4.ensures l.invariant.2,
     )
 
 returns : tie.Need-returns invariant-loop decreases-loop
 returns c =
-    let l = c.before.loop in
-    let a = c.before.before.before.before.args in
-    turning_end 4 (lit< tt) a.msb false a.part.now a.out.now a.to l.out l.p c.loop-test.false l.invariant.2
+    let l = c.loop-p in
+    let a = c.args in
+    turning_end 4 (lit< tt) a.msb false a.part.now a.out-1.now a.to l.out-1 l.p c.loop-p-test.false l.invariant.2
 
-pub turn-words-spec : {M : Type 1} → statement M
-turn-words-spec =
+pub turn_words_spec : {M : Type 1} → statement M
+turn_words_spec =
     tie.close
     (tie.spec
     invariant-loop
@@ -63,5 +63,5 @@ turn-words-spec =
     (λ c. search rules)
     (λ c. search rules)
     loop-again
-    (λ c. c.before.loop.invariant.1)
+    (λ c. c.loop-p.invariant.1)
     returns)

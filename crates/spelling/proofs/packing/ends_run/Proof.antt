@@ -3,5 +3,6 @@ use Rattle.rules.proofs.Bools.{chosen}
 use Rattle.spelling.proofs.packing.ends_run.Statement.{statement}
 use Rattle.spelling.proofs.packing.ends_run.Tie as tie
 
-pub ends-run-spec : {M : Type 1} → statement M
-ends-run-spec = tie.close (tie.spec (λ c. chosen c.args.run _ _))
+pub ends_run_spec : {M : Type 1} → statement M
+ends_run_spec = tie.close (tie.spec
+    (λ c. chosen c.args.run _ _))

@@ -7,16 +7,23 @@ use Rattle.samples.proofs.Lengths.{behind-none, behind-last}
 use Rattle.spelling.proofs.write.behind.Statement.{statement}
 use Rattle.spelling.proofs.write.behind.Tie as tie
 
-returns : tie.Need-returns
-returns c = (sym (behind-none c.before.before.args.numbers.now c.if1.true), omega arith)
+returns : tie.Need-returns-then-n-eq0
+returns c = (sym (behind-none c.args.numbers.now c.if-n-eq0.true), omega arith)
 
-returns-2 : tie.Need-returns-2
+returns-2 : tie.Need-returns
 returns-2 c =
     let some = c.before.before in
-    let ns = some.before.before.args.numbers.now in
+    let ns = some.args.numbers.now in
     (ap (λ (i : ℕ). i + 1) c.wide.ensures.0 ∙ sym (behind-last ns 0 (omega arith)), omega (arith, c.wide.ensures.1))
 
-pub behind-spec : {M : Type 1} → statement M
-behind-spec =
+pub behind_spec : {M : Type 1} → statement M
+behind_spec =
     tie.close
-    (tie.spec returns (λ c. search rules) (λ c. search rules) (λ c. search rules) (λ c κs. search rules) (λ c. search rules) returns-2)
+    (tie.spec
+    returns
+    (λ c. search rules)
+    (λ c. search rules)
+    (λ c. search rules)
+    (λ c κs. search rules)
+    (λ c. search rules)
+    returns-2)

@@ -17,56 +17,56 @@ use Rattle.samples.proofs.Written.{wordless-here, wordless-later, wordless-same}
 use Rattle.spelling.proofs.write.first_wordless.Statement.{statement}
 use Rattle.spelling.proofs.write.first_wordless.Tie as tie
 
-abbrev invariant-loop : tie.invariant-loop
+abbrev invariant-loop : tie.invariant-loop-i
 invariant-loop vs i₀ i = (i ≤ length vs) × (i + first_wordless wide (valued 4 (drop i vs)) ≡ first_wordless wide (valued 4 vs))
 
-abbrev decreases-loop : tie.decreases-loop
+abbrev decreases-loop : tie.decreases-loop-i
 decreases-loop vs i₀ i = length vs - i
 
 -- the value at i, and those behind it
-split : (c : tie.After-pattern4 invariant-loop decreases-loop) →
+split : (c : tie.After-pattern4-word invariant-loop decreases-loop) →
     let head = c.before.before.before in
-    let vs = head.before.args.values.now in
-    valued 4 (drop head.loop.i vs) ≡ (0, c.pattern4.result) ∷ valued 4 (drop (head.loop.i + 1) vs)
+    let vs = head.args.values.now in
+    valued 4 (drop head.loop-i.i vs) ≡ (0, c.pattern4-word.result) ∷ valued 4 (drop (head.loop-i.i + 1) vs)
 split c =
     let head = c.before.before.before in
-    let vs = head.before.args.values.now in
-    rw (pattern-read w32 4 (get_or vs head.loop.i (pos 0)) _ c.before.pattern4-arg.given c.pattern4.ensures)
-    (valued-next 4 vs head.loop.i (omega arith))
+    let vs = head.args.values.now in
+    rw (pattern-read w32 4 (get_or vs head.loop-i.i (pos 0)) _ c.pattern4-arg-1.given c.pattern4-word.ensures)
+    (valued-next 4 vs head.loop-i.i (omega arith))
 
 -- the code's test is the definition's
-tested : (c : tie.After-is-bad invariant-loop decreases-loop) →
-    let w = c.before.before.pattern4.result in
-    wordless wide w ≡ (c.before.is-run.result || c.is-bad.result)
+tested : (c : tie.After-is_bad invariant-loop decreases-loop) →
+    let w = c.pattern4-word.result in
+    wordless wide w ≡ (c.is_run.result || c.is_bad.result)
 unfolding word_for meant
 tested c =
-    let said = c.before.before.pattern4 in
-    wordless-same wide said.result refl refl (omega (arith, said.type-inv)) ∙ rw (c.before.is-run.ensures, c.is-bad.ensures)
+    let said = c.pattern4-word in
+    wordless-same wide said.result refl refl (omega (arith, said.type-inv)) ∙ rw (c.is_run.ensures, c.is_bad.ensures)
 
-returns : tie.Need-returns invariant-loop decreases-loop
+returns : tie.Need-returns-then-is_run-is_bad invariant-loop decreases-loop
 returns c =
     let said = c.before.before.before in
     omega (
       arith,
-      ap (first_wordless wide) (split said) ∙ wordless-here wide (0, said.pattern4.result) _ (tested c.before ∙ c.if1.true),
+      ap (first_wordless wide) (split said) ∙ wordless-here wide (0, said.pattern4-word.result) _ (tested c.before ∙ c.if-is_run-is_bad.true),
     )
 
-loop-again : tie.Need-loop-preserved invariant-loop decreases-loop
+loop-again : tie.Need-loop-i-preserved invariant-loop decreases-loop
 loop-again c =
     let said = c.before.before.before in
     omega (
       arith,
-      ap (first_wordless wide) (split said) ∙ wordless-later wide (0, said.pattern4.result) _ (tested c.before ∙ c.if1.false),
+      ap (first_wordless wide) (split said) ∙ wordless-later wide (0, said.pattern4-word.result) _ (tested c.before ∙ c.if-is_run-is_bad.false),
     )
 
-returns-2 : tie.Need-returns-2 invariant-loop decreases-loop
+returns-2 : tie.Need-returns invariant-loop decreases-loop
 unfolding first_wordless
 returns-2 c =
-    let l = c.before.loop in
-    omega (arith, ap (first_wordless wide) (valued-end 4 c.before.before.args.values.now l.i c.loop-test.false))
+    let l = c.loop-i in
+    omega (arith, ap (first_wordless wide) (valued-end 4 c.args.values.now l.i c.loop-i-test.false))
 
-pub first-wordless-spec : {M : Type 1} → statement M
-first-wordless-spec =
+pub first_wordless_spec : {M : Type 1} → statement M
+first_wordless_spec =
     tie.close
     (tie.spec
     invariant-loop

@@ -14,8 +14,13 @@ returns c =
     let number = value.before.before.before.before in
     let start = number.before.before.before in
     let a = start.args in
-    sample_put narrow refl false a.out.now _ _ a.at a.number a.value (omega (arith, start.ranges.value))
-    number.store2.ensures value.store22.ensures
+    sample_put narrow refl false a.out-1.now _ _ a.at a.number a.value (omega (arith, start.ranges.value))
+    number.store2.ensures value.store2-2.ensures
 
-pub put-pair-spec : {M : Type 1} → statement M
-put-pair-spec = tie.close (tie.spec (λ c κs. search rules) (λ c. search rules) (λ c κs. search rules) (λ c. search rules) returns)
+pub put_pair_spec : {M : Type 1} → statement M
+put_pair_spec = tie.close (tie.spec
+    (λ c κs. search rules)
+    (λ c. search rules)
+    (λ c κs. search rules)
+    (λ c. search rules)
+    returns)

@@ -20,8 +20,11 @@ most false w = omega arith
 returns : tie.Need-returns
 returns c = unless (eqb c.args.word 32768) c.args.word
 
-mul-result : tie.Need-overflow-mul-result
+mul-result : tie.Need-overflow_mul-result
 mul-result c = omega (arith, most (not (eqb c.args.word 32768)) c.args.word, c.ranges.word)
 
-pub respell-spec : {M : Type 1} → statement M
-respell-spec = tie.close (tie.spec (λ c. search rules) mul-result returns)
+pub respell_spec : {M : Type 1} → statement M
+respell_spec = tie.close (tie.spec
+    (λ c. search rules)
+    mul-result
+    returns)

@@ -13,42 +13,42 @@ use Rattle.samples.proofs.Apart.{numbered_next, numbered-end}
 use Rattle.spelling16.proofs.plain.first_drop.Statement.{statement}
 use Rattle.spelling16.proofs.plain.first_drop.Tie as tie
 
-abbrev invariant-loop : tie.invariant-loop
+abbrev invariant-loop : tie.invariant-loop-i
 invariant-loop ns next₀ i₀ next i = (i ≤ length ns) × (i + first_drop next (numbered (drop i ns)) ≡ first_drop 0 (numbered ns))
 
-abbrev decreases-loop : tie.decreases-loop
+abbrev decreases-loop : tie.decreases-loop-i
 decreases-loop ns next₀ i₀ next i = length ns - i
 
 -- the number at i, and those behind it
-split : (c : tie.After-wide invariant-loop decreases-loop) →
-    let l = c.before.before.before.loop in
-    let ns = c.before.before.before.before.before.args.numbers.now in
-    numbered (drop l.i ns) ≡ (c.wide.result, 0) ∷ numbered (drop (l.i + 1) ns)
+split : (c : tie.After-wide-number invariant-loop decreases-loop) →
+    let l = c.loop-i in
+    let ns = c.args.numbers.now in
+    numbered (drop l.i ns) ≡ (c.wide-number.result, 0) ∷ numbered (drop (l.i + 1) ns)
 split c =
-    let l = c.before.before.before.loop in
-    let ns = c.before.before.before.before.before.args.numbers.now in
-    rw c.wide.ensures.0 (numbered_next ns l.i (omega arith))
+    let l = c.loop-i in
+    let ns = c.args.numbers.now in
+    rw c.wide-number.ensures.0 (numbered_next ns l.i (omega arith))
 
-returns : tie.Need-returns invariant-loop decreases-loop
+returns : tie.Need-returns-then-number-next invariant-loop decreases-loop
 returns c =
     let wide = c.before in
-    let l = wide.before.before.before.loop in
-    omega (arith, ap (first_drop l.next) (split wide) ∙ drop_here l.next (wide.wide.result, 0) _ (lt-leb _ _ c.if1.true))
+    let l = wide.loop-i in
+    omega (arith, ap (first_drop l.next) (split wide) ∙ drop_here l.next (wide.wide-number.result, 0) _ (lt-leb _ _ c.if-number-next.true))
 
-loop-again : tie.Need-loop-preserved invariant-loop decreases-loop
+loop-again : tie.Need-loop-i-preserved invariant-loop decreases-loop
 loop-again c =
     let wide = c.before in
-    let l = wide.before.before.before.loop in
-    omega (arith, ap (first_drop l.next) (split wide) ∙ drop-later l.next (wide.wide.result, 0) _ c.if1.false)
+    let l = wide.loop-i in
+    omega (arith, ap (first_drop l.next) (split wide) ∙ drop-later l.next (wide.wide-number.result, 0) _ c.if-number-next.false)
 
-returns-2 : tie.Need-returns-2 invariant-loop decreases-loop
+returns-2 : tie.Need-returns invariant-loop decreases-loop
 unfolding first_drop
 returns-2 c =
-    let l = c.before.loop in
-    omega (arith, ap (first_drop l.next) (numbered-end c.before.before.before.args.numbers.now l.i c.loop-test.false))
+    let l = c.loop-i in
+    omega (arith, ap (first_drop l.next) (numbered-end c.args.numbers.now l.i c.loop-i-test.false))
 
-pub first-drop-spec : {M : Type 1} → statement M
-first-drop-spec =
+pub first_drop_spec : {M : Type 1} → statement M
+first_drop_spec =
     tie.close
     (tie.spec
     invariant-loop

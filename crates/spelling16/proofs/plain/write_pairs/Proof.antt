@@ -17,37 +17,37 @@ use Rattle.samples.proofs.Writing.{sample_stored}
 use Rattle.spelling16.proofs.plain.write_pairs.Statement.{statement}
 use Rattle.spelling16.proofs.plain.write_pairs.Tie as tie
 
-abbrev invariant-loop : tie.invariant-loop
+abbrev invariant-loop : tie.invariant-loop-i
 invariant-loop ns vs msb out₀ at to₀ i₀ out to i =
     (i ≤ length ns) × (length out ≡ length out₀) × (to ≡ at + 4 * i)
     × (sets out to (unsampled narrow msb (paired 2 (drop i ns) (drop i vs))) ≡ sets out₀ at (unsampled narrow msb (paired 2 ns vs)))
 
-abbrev decreases-loop : tie.decreases-loop
+abbrev decreases-loop : tie.decreases-loop-i
 decreases-loop ns vs msb out₀ at to₀ i₀ out to i = length ns - i
 
-loop-holds : tie.Need-loop-init invariant-loop decreases-loop
+loop-holds : tie.Need-loop-i-init invariant-loop decreases-loop
 loop-holds c = (omega arith, refl, omega arith, refl)
 
-store2-requires-2 : tie.Need-store2-requires-2 invariant-loop decreases-loop
-store2-requires-2 c κs = omega (arith, c.before.before.before.before.before.store2.auto.0)
+store2-requires-2 : tie.Need-store2-requires-in-loop-i invariant-loop decreases-loop
+store2-requires-2 c κs = omega (arith, c.store2.auto.0)
 
-loop-again : tie.Need-loop-preserved invariant-loop decreases-loop
+loop-again : tie.Need-loop-i-preserved invariant-loop decreases-loop
 loop-again c =
     let put = c.before.before in
     let said = put.before in
     let first = said.before.before.before.before.before in
     let head = first.before.before.before.before in
-    let l = head.loop in
-    let a = head.before.before.before.args in
+    let l = head.loop-i in
+    let a = head.args in
     let rest = paired 2 (drop (l.i + 1) a.numbers.now) (drop (l.i + 1) a.values.now) in (
       omega arith,
-      put.store22.auto.0 ∙ first.store2.auto.0 ∙ l.invariant.1,
+      put.store2-in-loop-i.auto.0 ∙ first.store2.auto.0 ∙ l.invariant.1,
       omega arith,
-      sample_stored narrow refl a.msb l.out _ _ l.to (get_or a.numbers.now l.i 0) said.pattern2.result
-          (omega (arith, said.pattern2.type-inv)) first.store2.ensures put.store22.ensures rest
-          ∙ ap (λ (v : ℕ). sets l.out l.to (unsampled narrow a.msb ((get_or a.numbers.now l.i 0, v) ∷ rest)))
-          (pattern-read w16 2 (get_or a.values.now l.i (pos 0)) _ said.before.pattern2-arg.given said.pattern2.ensures)
-          ∙ ap (λ (s : List Sample). sets l.out l.to (unsampled narrow a.msb s))
+      sample_stored narrow refl a.msb l.out-1 _ _ l.to (get_or a.numbers.now l.i 0) said.pattern2.result
+          (omega (arith, said.pattern2.type-inv)) first.store2.ensures put.store2-in-loop-i.ensures rest
+          ∙ ap (λ (v : ℕ). sets l.out-1 l.to (unsampled narrow a.msb ((get_or a.numbers.now l.i 0, v) ∷ rest)))
+          (pattern-read w16 2 (get_or a.values.now l.i (pos 0)) _ said.pattern2-arg-1.given said.pattern2.ensures)
+          ∙ ap (λ (s : List Sample). sets l.out-1 l.to (unsampled narrow a.msb s))
           (sym (paired-next 2 a.numbers.now a.values.now l.i (omega arith) (omega arith)))
           ∙ l.invariant.3,
     )
@@ -55,14 +55,14 @@ loop-again c =
 returns : tie.Need-returns invariant-loop decreases-loop
 unfolding unsampled
 returns c =
-    let l = c.before.loop in
-    let a = c.before.before.before.before.args in
-    ap (λ (s : List Sample). sets l.out l.to (unsampled narrow a.msb s))
-    (sym (paired-end 2 a.numbers.now a.values.now l.i c.loop-test.false))
+    let l = c.loop-i in
+    let a = c.args in
+    ap (λ (s : List Sample). sets l.out-1 l.to (unsampled narrow a.msb s))
+    (sym (paired-end 2 a.numbers.now a.values.now l.i c.loop-i-test.false))
     ∙ l.invariant.3
 
-pub write-pairs-spec : {M : Type 1} → statement M
-write-pairs-spec =
+pub write_pairs_spec : {M : Type 1} → statement M
+write_pairs_spec =
     tie.close
     (tie.spec
     invariant-loop
@@ -80,5 +80,5 @@ write-pairs-spec =
     (λ c. search rules)
     (λ c. search rules)
     loop-again
-    (λ c. c.before.loop.invariant.1)
+    (λ c. c.loop-i.invariant.1)
     returns)

@@ -17,72 +17,72 @@ use Rattle.spelling16.proofs.Laws.{angled-end, angles-turn}
 use Rattle.spelling16.proofs.plain.write_wide_angles.Statement.{statement}
 use Rattle.spelling16.proofs.plain.write_wide_angles.Tie as tie
 
-abbrev invariant-loop : tie.invariant-loop
+abbrev invariant-loop : tie.invariant-loop-i
 invariant-loop ns xs ys msb out₀ at to₀ i₀ out to i =
     (i ≤ length ns) × (length out ≡ length out₀) × (to ≡ at + 8 * i)
     × (sets out to (unsampled wide_angles msb (angled (drop i ns) (drop i xs) (drop i ys)))
     ≡ sets out₀ at (unsampled wide_angles msb (angled ns xs ys)))
 
-abbrev decreases-loop : tie.decreases-loop
+abbrev decreases-loop : tie.decreases-loop-i
 decreases-loop ns xs ys msb out₀ at to₀ i₀ out to i = length ns - i
 
 -- places, named by what has been done there
 abbrev number_put : tie.After-pattern2 invariant-loop decreases-loop → tie.After-store4 invariant-loop decreases-loop
 number_put c = c.before.before.before.before.before
 
-abbrev first-put : tie.After-pattern22 invariant-loop decreases-loop → tie.After-store2 invariant-loop decreases-loop
+abbrev first-put : tie.After-pattern2-in-loop-i invariant-loop decreases-loop → tie.After-store2 invariant-loop decreases-loop
 first-put c = c.before.before.before.before.before
 
-abbrev head : tie.After-store4 invariant-loop decreases-loop → tie.At-loop invariant-loop decreases-loop
+abbrev head : tie.After-store4 invariant-loop decreases-loop → tie.At-loop-i invariant-loop decreases-loop
 head c = c.before.before.before.before
 
-loop-holds : tie.Need-loop-init invariant-loop decreases-loop
+loop-holds : tie.Need-loop-i-init invariant-loop decreases-loop
 loop-holds c = (omega arith, refl, omega arith, refl)
 
 store2-requires : tie.Need-store2-requires invariant-loop decreases-loop
 store2-requires c κs = omega (arith, (number_put c).store4.auto.0)
 
-store2-requires-2 : tie.Need-store2-requires-2 invariant-loop decreases-loop
+store2-requires-2 : tie.Need-store2-requires-in-loop-i invariant-loop decreases-loop
 store2-requires-2 c κs =
     let first = first-put c in
     omega (arith, first.store2.kept.0, (number_put first.before).store4.kept.0)
 
-loop-again : tie.Need-loop-preserved invariant-loop decreases-loop
+loop-again : tie.Need-loop-i-preserved invariant-loop decreases-loop
 loop-again c =
     let put = c.before.before in
     let y = put.before in
     let first = first-put y in
     let x = first.before in
     let number = number_put x in
-    let l = (head number).loop in
+    let l = (head number).loop-i in
     let start = (head number).before.before.before in
     let a = start.args in
     let ns = a.numbers.now in
     let xs = a.alongship.now in
     let ys = a.athwartship.now in (
       omega arith,
-      put.store22.auto.0 ∙ first.store2.kept.0 ∙ number.store4.kept.0 ∙ l.inv.1,
+      put.store2-in-loop-i.auto.0 ∙ first.store2.kept.0 ∙ number.store4.kept.0 ∙ l.invariant.1,
       omega arith,
-      angles-turn wide_angles refl a.msb l.out _ _ _ l.to _ _ (get_or ns l.i 0) x.pattern2.result y.pattern22.result
-          (omega (arith, x.pattern2.ok)) (omega (arith, y.pattern22.type-inv)) (omega arith) (omega arith)
-          number.store4.ensures first.store2.ensures put.store22.ensures refl ns xs ys l.i (omega arith)
-          start.pre.0 start.pre.1.0 refl
-          (pattern-read w16 2 (get_or xs l.i (pos 0)) _ x.before.pattern2-arg.given x.pattern2.ensures)
-          (pattern-read w16 2 (get_or ys l.i (pos 0)) _ y.before.pattern2-arg2.given y.pattern22.ensures)
-          ∙ l.inv.3,
+      angles-turn wide_angles refl a.msb l.out-1 _ _ _ l.to _ _ (get_or ns l.i 0) x.pattern2.result y.pattern2-in-loop-i.result
+          (omega (arith, x.pattern2.ok)) (omega (arith, y.pattern2-in-loop-i.type-inv)) (omega arith) (omega arith)
+          number.store4.ensures first.store2.ensures put.store2-in-loop-i.ensures refl ns xs ys l.i (omega arith)
+          start.requires.0 start.requires.1.0 refl
+          (pattern-read w16 2 (get_or xs l.i (pos 0)) _ x.pattern2-arg-1.given x.pattern2.ensures)
+          (pattern-read w16 2 (get_or ys l.i (pos 0)) _ y.pattern2-arg-in-loop-i-1.given y.pattern2-in-loop-i.ensures)
+          ∙ l.invariant.3,
     )
 
 returns : tie.Need-returns invariant-loop decreases-loop
 unfolding unsampled
 returns c =
-    let l = c.before.loop in
-    let a = c.before.before.before.before.args in
-    ap (λ (s : List Sample). sets l.out l.to (unsampled wide_angles a.msb s))
-    (sym (angled-end a.numbers.now a.alongship.now a.athwartship.now l.i c.loop-test.false))
+    let l = c.loop-i in
+    let a = c.args in
+    ap (λ (s : List Sample). sets l.out-1 l.to (unsampled wide_angles a.msb s))
+    (sym (angled-end a.numbers.now a.alongship.now a.athwartship.now l.i c.loop-i-test.false))
     ∙ l.invariant.3
 
-pub write-wide-angles-spec : {M : Type 1} → statement M
-write-wide-angles-spec =
+pub write_wide_angles_spec : {M : Type 1} → statement M
+write_wide_angles_spec =
     tie.close
     (tie.spec
     invariant-loop
@@ -107,5 +107,5 @@ write-wide-angles-spec =
     (λ c. search rules)
     (λ c. search rules)
     loop-again
-    (λ c. c.before.loop.invariant.1)
+    (λ c. c.loop-i.invariant.1)
     returns)

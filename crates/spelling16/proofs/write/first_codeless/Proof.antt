@@ -18,49 +18,49 @@ use Rattle.samples.proofs.Written.{wordless-here, wordless-later}
 use Rattle.spelling16.proofs.write.first_codeless.Statement.{statement}
 use Rattle.spelling16.proofs.write.first_codeless.Tie as tie
 
-abbrev invariant-loop : tie.invariant-loop
+abbrev invariant-loop : tie.invariant-loop-i
 invariant-loop vs i₀ i = (i ≤ length vs) × (i + first_wordless encoded (valued 4 (drop i vs)) ≡ first_wordless encoded (valued 4 vs))
 
-abbrev decreases-loop : tie.decreases-loop
+abbrev decreases-loop : tie.decreases-loop-i
 decreases-loop vs i₀ i = length vs - i
 
 -- the count at i, and those behind it
-split : (c : tie.After-is-codeless invariant-loop decreases-loop) →
+split : (c : tie.After-is_codeless invariant-loop decreases-loop) →
     let head = c.before.before.before in
-    let vs = head.before.args.counts.now in
-    valued 4 (drop head.loop.i vs) ≡ (0, pattern_of 4 (get_or vs head.loop.i (pos 0))) ∷ valued 4 (drop (head.loop.i + 1) vs)
+    let vs = head.args.counts.now in
+    valued 4 (drop head.loop-i.i vs) ≡ (0, pattern_of 4 (get_or vs head.loop-i.i (pos 0))) ∷ valued 4 (drop (head.loop-i.i + 1) vs)
 split c =
     let head = c.before.before.before in
-    valued-next 4 head.before.args.counts.now head.loop.i (omega arith)
+    valued-next 4 head.args.counts.now head.loop-i.i (omega arith)
 
 -- the code's test is the definition's
-tested : (c : tie.After-is-codeless invariant-loop decreases-loop) →
+tested : (c : tie.After-is_codeless invariant-loop decreases-loop) →
     let head = c.before.before.before in
-    wordless encoded (pattern_of 4 (get_or head.before.args.counts.now head.loop.i (pos 0))) ≡ c.is-codeless.result
+    wordless encoded (pattern_of 4 (get_or head.args.counts.now head.loop-i.i (pos 0))) ≡ c.is_codeless.result
 tested c =
     let head = c.before.before.before in
-    let z = get_or head.before.args.counts.now head.loop.i (pos 0) in
-    let same = to_z-of_z w32 z (record { sfits = c.before.is-codeless-arg.given }) in
-    sym (c.is-codeless.ensures ∙ ap (λ (x : ℤ). wordless encoded (pattern_of 4 x)) same)
+    let z = get_or head.args.counts.now head.loop-i.i (pos 0) in
+    let same = to_z-of_z w32 z (record { sfits = c.is_codeless-arg-1.given }) in
+    sym (c.is_codeless.ensures ∙ ap (λ (x : ℤ). wordless encoded (pattern_of 4 x)) same)
 
-returns : tie.Need-returns invariant-loop decreases-loop
+returns : tie.Need-returns-then-is_codeless invariant-loop decreases-loop
 returns c =
     let said = c.before in
-    omega (arith, ap (first_wordless encoded) (split said) ∙ wordless-here encoded _ _ (tested said ∙ c.if1.true))
+    omega (arith, ap (first_wordless encoded) (split said) ∙ wordless-here encoded _ _ (tested said ∙ c.if-is_codeless.true))
 
-loop-again : tie.Need-loop-preserved invariant-loop decreases-loop
+loop-again : tie.Need-loop-i-preserved invariant-loop decreases-loop
 loop-again c =
     let said = c.before in
-    omega (arith, ap (first_wordless encoded) (split said) ∙ wordless-later encoded _ _ (tested said ∙ c.if1.false))
+    omega (arith, ap (first_wordless encoded) (split said) ∙ wordless-later encoded _ _ (tested said ∙ c.if-is_codeless.false))
 
-returns-2 : tie.Need-returns-2 invariant-loop decreases-loop
+returns-2 : tie.Need-returns invariant-loop decreases-loop
 unfolding first_wordless
 returns-2 c =
-    let l = c.before.loop in
-    omega (arith, ap (first_wordless encoded) (valued-end 4 c.before.before.args.counts.now l.i c.loop-test.false))
+    let l = c.loop-i in
+    omega (arith, ap (first_wordless encoded) (valued-end 4 c.args.counts.now l.i c.loop-i-test.false))
 
-pub first-codeless-spec : {M : Type 1} → statement M
-first-codeless-spec =
+pub first_codeless_spec : {M : Type 1} → statement M
+first_codeless_spec =
     tie.close
     (tie.spec
     invariant-loop

@@ -11,17 +11,17 @@ use Rattle.spelling16.proofs.write.is_codeless.Statement.{statement}
 use Rattle.spelling16.proofs.write.is_codeless.Tie as tie
 
 -- the pattern that the code has is the count's
-pattern : (c : tie.After-pattern4) → c.pattern4.result ≡ pattern_of 4 c.before.args.count
-pattern c = pattern-read w32 4 c.before.args.count _ c.before.ranges.count.sfits c.pattern4.ensures
+pattern : (c : tie.After-pattern4-value) → c.pattern4-value.result ≡ pattern_of 4 c.args.count
+pattern c = pattern-read w32 4 c.args.count _ c.ranges.count.sfits c.pattern4-value.ensures
 
-returns : tie.Need-returns
+returns : tie.Need-returns-then-code-gt-MOST_WORD
 returns c =
     let code = c.before in
     let said = code.before in
-    let long = codeless_long said.pattern4.result code.code-of.result code.code-of.ensures c.if1.true in
+    let long = codeless_long said.pattern4-value.result code.code_of-code.result code.code_of-code.ensures c.if-code-gt-MOST_WORD.true in
     sym (ap (wordless encoded) (sym (pattern said)) ∙ long)
 
-returns-2 : tie.Need-returns-2
+returns-2 : tie.Need-returns
 returns-2 c =
     let count = c.before in
     let bad = count.before in
@@ -29,15 +29,15 @@ returns-2 c =
     let test = run.before in
     let code = test.before in
     let said = code.before in
-    let back : c.pattern42.result ≡ pattern_of 4 (count_of code.code-of.result) =
-    pattern-read w32 4 count.count-of.result _ count.count-of.type-inv c.pattern42.ensures
-    ∙ ap (pattern_of 4) count.count-of.ensures in
-    codeless_short said.pattern4.result code.code-of.result _ _ _ code.code-of.ensures test.if1.false
-    run.is-run.ensures bad.is-bad.ensures back
+    let back : c.pattern4.result ≡ pattern_of 4 (count_of code.code_of-code.result) =
+    pattern-read w32 4 count.count_of.result _ count.count_of.type-inv c.pattern4.ensures
+    ∙ ap (pattern_of 4) count.count_of.ensures in
+    codeless_short said.pattern4-value.result code.code_of-code.result _ _ _ code.code_of-code.ensures test.if-code-gt-MOST_WORD.false
+    run.is_run.ensures bad.is_bad.ensures back
     ∙ ap (wordless encoded) (pattern said)
 
-pub is-codeless-spec : {M : Type 1} → statement M
-is-codeless-spec =
+pub is_codeless_spec : {M : Type 1} → statement M
+is_codeless_spec =
     tie.close
     (tie.spec
     (λ c κs. search rules)

@@ -11,5 +11,8 @@ returns c =
     let count = gap-count 256 (lit< tt) c.args.quiet in
     (count, omega (arith, count, gap-short 256 (lit< tt) c.args.quiet))
 
-pub runs-spec : {M : Type 1} → statement M
-runs-spec = tie.close (tie.spec (λ c. search rules) (λ c. search rules) returns)
+pub runs_spec : {M : Type 1} → statement M
+runs_spec = tie.close (tie.spec
+    (λ c. search rules)
+    (λ c. search rules)
+    returns)

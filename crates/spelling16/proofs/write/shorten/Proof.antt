@@ -9,35 +9,35 @@ use Rattle.spelling16.proofs.Laws.{short-more, short-end}
 use Rattle.spelling16.proofs.write.shorten.Statement.{statement}
 use Rattle.spelling16.proofs.write.shorten.Tie as tie
 
-abbrev invariant-loop : tie.invariant-loop
+abbrev invariant-loop : tie.invariant-loop-halvings
 invariant-loop value rest₀ code₀ halvings₀ rest code halvings =
     (code + rest ≤ value) × (code + shortened halvings rest ≡ shortened 6 value)
 
-abbrev decreases-loop : tie.decreases-loop
+abbrev decreases-loop : tie.decreases-loop-halvings
 decreases-loop value rest₀ code₀ halvings₀ rest code halvings = halvings
 
-loop-holds : tie.Need-loop-init invariant-loop decreases-loop
+loop-holds : tie.Need-loop-halvings-init invariant-loop decreases-loop
 loop-holds c = (omega arith, omega arith)
 
-returns : tie.Need-returns invariant-loop decreases-loop
+returns : tie.Need-returns-then-rest-lt-THIRTEEN_BITS invariant-loop decreases-loop
 returns c =
-    let l = c.before.before.loop in
-    (omega (arith, short-here l.halvings l.rest c.if1.true, l.invariant.1), omega (arith, l.invariant.0))
+    let l = c.loop-halvings in
+    (omega (arith, short-here l.halvings l.rest c.if-rest-lt-THIRTEEN_BITS.true, l.invariant.1), omega (arith, l.invariant.0))
 
-loop-again : tie.Need-loop-preserved invariant-loop decreases-loop
+loop-again : tie.Need-loop-halvings-preserved invariant-loop decreases-loop
 loop-again c =
-    let l = c.before.before.loop in (
-      omega (arith, l.invariant.0, c.if1.false),
-      omega (arith, short-more l.halvings l.rest c.before.loop-test.true c.if1.false, l.invariant.1),
+    let l = c.loop-halvings in (
+      omega (arith, l.invariant.0, c.if-rest-lt-THIRTEEN_BITS.false),
+      omega (arith, short-more l.halvings l.rest c.loop-halvings-test.true c.if-rest-lt-THIRTEEN_BITS.false, l.invariant.1),
     )
 
-returns-2 : tie.Need-returns-2 invariant-loop decreases-loop
+returns-2 : tie.Need-returns invariant-loop decreases-loop
 returns-2 c =
-    let l = c.before.loop in
-    (omega (arith, short-end l.halvings l.rest c.loop-test.false, l.invariant.1), omega (arith, l.invariant.0))
+    let l = c.loop-halvings in
+    (omega (arith, short-end l.halvings l.rest c.loop-halvings-test.false, l.invariant.1), omega (arith, l.invariant.0))
 
-pub shorten-spec : {M : Type 1} → statement M
-shorten-spec =
+pub shorten_spec : {M : Type 1} → statement M
+shorten_spec =
     tie.close
     (tie.spec
     invariant-loop

@@ -23,7 +23,7 @@ use Rattle.samples.proofs.Writing.{sample_rises, sample_words, sample_turn}
 use Rattle.spelling16.proofs.write.write_words.Statement.{statement}
 use Rattle.spelling16.proofs.write.write_words.Tie as tie
 
-abbrev invariant-loop : tie.invariant-loop
+abbrev invariant-loop : tie.invariant-loop-i
 invariant-loop ns vs quiet msb out₀ at to₀ next₀ i₀ out to next i =
     (i ≤ length ns) × (length out ≡ length out₀) × Rising next (worded narrow (drop i ns) (drop i vs))
     × (to + 2 * length (encode_from 256 next (worded narrow (drop i ns) (drop i vs)) quiet)
@@ -31,33 +31,33 @@ invariant-loop ns vs quiet msb out₀ at to₀ next₀ i₀ out to next i =
     × (sets out to (unwords 2 msb (encode_from 256 next (worded narrow (drop i ns) (drop i vs)) quiet))
     ≡ sets out₀ at (unwords 2 msb (encode_from 256 0 (worded narrow ns vs) quiet)))
 
-abbrev decreases-loop : tie.decreases-loop
+abbrev decreases-loop : tie.decreases-loop-i
 decreases-loop ns vs quiet msb out₀ at to₀ next₀ i₀ out to next i = length ns - i
 
 -- places, named by what has been done there
-abbrev gap-written : tie.After-slice-known3 invariant-loop decreases-loop → tie.After-write-gap invariant-loop decreases-loop
+abbrev gap-written : tie.After-slice_known-in-loop-i-2-1 invariant-loop decreases-loop → tie.After-write_gap-behind invariant-loop decreases-loop
 gap-written c = c.before.before.before.before.before.before.before.before
 
 -- ---- in a turn the samples left are the one at i and those behind it
-rises : (c : tie.After-wide invariant-loop decreases-loop) → c.before.before.before.loop.next ≤ c.wide.result
+rises : (c : tie.After-wide-number invariant-loop decreases-loop) → c.loop-i.next ≤ c.wide-number.result
 rises c =
     let head = c.before.before.before in
-    (sample_rises 2 (word_for narrow) _ _ head.loop.i c.wide.result (omega arith) (omega arith) c.wide.ensures.0
-    head.loop.next 0 head.loop.invariant.2).0
+    (sample_rises 2 (word_for narrow) _ _ head.loop-i.i c.wide-number.result (omega arith) (omega arith) c.wide-number.ensures.0
+    head.loop-i.next 0 head.loop-i.invariant.2).0
 
-words : (c : tie.After-wide invariant-loop decreases-loop) →
+words : (c : tie.After-wide-number invariant-loop decreases-loop) →
     let head = c.before.before.before in
-    let l = head.loop in
-    let a = head.before.before.before.args in
+    let l = head.loop-i in
+    let a = head.args in
     length (encode_from 256 l.next (worded narrow (drop l.i a.numbers.now) (drop l.i a.values.now)) a.quiet)
-    ≡ length (gap 256 (c.wide.result - l.next))
-    + suc (length (encode_from 256 (c.wide.result + 1)
+    ≡ length (gap 256 (c.wide-number.result - l.next))
+    + suc (length (encode_from 256 (c.wide-number.result + 1)
     (worded narrow (drop (l.i + 1) a.numbers.now) (drop (l.i + 1) a.values.now)) a.quiet))
-words c = let l = c.before.before.before.loop in
-    sample_words 2 (word_for narrow) _ _ l.i c.wide.result (omega arith) (omega arith) c.wide.ensures.0 l.next _ 256
+words c = let l = c.loop-i in
+    sample_words 2 (word_for narrow) _ _ l.i c.wide-number.result (omega arith) (omega arith) c.wide-number.ensures.0 l.next _ 256
     (lit< tt)
 
-loop-holds : tie.Need-loop-init invariant-loop decreases-loop
+loop-holds : tie.Need-loop-i-init invariant-loop decreases-loop
 loop-holds c =
     let start = c.before.before in
     let a = start.args in
@@ -65,80 +65,80 @@ loop-holds c =
     let e = length-paired 2 a.numbers.now a.values.now start.requires.0 in
     (omega arith, refl, rising-map (word_for narrow) s 0 (all-rising s 0 (omega (arith, start.requires.1.0))), refl, refl)
 
-sub-write-gap : tie.Need-overflow-sub-write-gap invariant-loop decreases-loop
+sub-write-gap : tie.Need-overflow_sub-number invariant-loop decreases-loop
 sub-write-gap c = rises c.before
 
-write-gap-requires : tie.Need-write-gap-requires invariant-loop decreases-loop
+write-gap-requires : tie.Need-write_gap-behind-requires invariant-loop decreases-loop
 write-gap-requires c κs = omega (arith, words c.before)
 
 store2-requires : tie.Need-store2-requires invariant-loop decreases-loop
 store2-requires c κs =
     let gone = c.before.before.before.before.before in
-    omega (arith, words gone.before.before, gone.write-gap.auto.0, gone.write-gap.ensures)
+    omega (arith, words gone.before.before, gone.write_gap-behind.auto.0, gone.write_gap-behind.ensures)
 
-add-to : tie.Need-overflow-add-to invariant-loop decreases-loop
+add-to : tie.Need-overflow_add-to invariant-loop decreases-loop
 add-to c = let gone = gap-written c in
-    omega (arith, words gone.before.before, gone.write-gap.ensures)
+    omega (arith, words gone.before.before, gone.write_gap-behind.ensures)
 
-loop-again : tie.Need-loop-preserved invariant-loop decreases-loop
+loop-again : tie.Need-loop-i-preserved invariant-loop decreases-loop
 loop-again c =
     let put = c.before.before in
     let said = put.before in
     let gone = said.before.before.before.before.before in
     let number = gone.before.before in
     let head = number.before.before.before in
-    let l = head.loop in
-    let a = head.before.before.before.args in
-    let n = number.wide.result in (
+    let l = head.loop-i in
+    let a = head.args in
+    let n = number.wide-number.result in (
       omega arith,
-      put.store2.auto.0 ∙ gone.write-gap.auto.0 ∙ l.invariant.1,
-      (sample_rises 2 (word_for narrow) _ _ l.i n (omega arith) (omega arith) number.wide.ensures.0 l.next 0 l.invariant.2).1,
-      omega (arith, words number, gone.write-gap.ensures),
-      sample_turn 2 (word_for narrow) a.numbers.now a.values.now l.i n (omega arith) (omega arith) number.wide.ensures.0
+      put.store2.auto.0 ∙ gone.write_gap-behind.auto.0 ∙ l.invariant.1,
+      (sample_rises 2 (word_for narrow) _ _ l.i n (omega arith) (omega arith) number.wide-number.ensures.0 l.next 0 l.invariant.2).1,
+      omega (arith, words number, gone.write_gap-behind.ensures),
+      sample_turn 2 (word_for narrow) a.numbers.now a.values.now l.i n (omega arith) (omega arith) number.wide-number.ensures.0
           l.next a.quiet 256 (lit< tt) 2 a.msb
-          l.out _ _ l.to gone.write-gap.result said.pattern2.result
-          gone.write-gap.ensures.0 gone.write-gap.ensures.1
-          (pattern-read w16 2 (get_or a.values.now l.i (pos 0)) _ said.before.pattern2-arg.given said.pattern2.ensures
+          l.out-1 _ _ l.to gone.write_gap-behind.result said.pattern2.result
+          gone.write_gap-behind.ensures.0 gone.write_gap-behind.ensures.1
+          (pattern-read w16 2 (get_or a.values.now l.i (pos 0)) _ said.pattern2-arg-1.given said.pattern2.ensures
           ∙ unfold word_for in refl)
           put.store2.ensures
           ∙ l.invariant.4,
     )
 
 -- behind the last sample its quiet ones are left
-quiet-left : (c : tie.After-loop invariant-loop decreases-loop) →
-    let l = c.before.loop in
-    let a = c.before.before.before.before.args in
+quiet-left : (c : tie.After-loop-i invariant-loop decreases-loop) →
+    let l = c.loop-i in
+    let a = c.args in
     encode_from 256 l.next (worded narrow (drop l.i a.numbers.now) (drop l.i a.values.now)) a.quiet ≡ gap 256 a.quiet
 unfolding encode_from
 quiet-left c =
-    let l = c.before.loop in
-    let a = c.before.before.before.before.args in
+    let l = c.loop-i in
+    let a = c.args in
     ap (λ (s : List Sample). encode_from 256 l.next s a.quiet)
-    (ap (revalued (word_for narrow)) (paired-end 2 a.numbers.now a.values.now l.i c.loop-test.false))
+    (ap (revalued (word_for narrow)) (paired-end 2 a.numbers.now a.values.now l.i c.loop-i-test.false))
 
-write-gap-requires-2 : tie.Need-write-gap-requires-2 invariant-loop decreases-loop
+write-gap-requires-2 : tie.Need-write_gap-requires invariant-loop decreases-loop
 write-gap-requires-2 c κs =
     let after = c.before in
-    let l = after.before.loop in
-    omega (arith, ap length (quiet-left after), l.invariant.3, l.invariant.1, after.before.before.before.before.requires.1.1)
+    let l = after.loop-i in
+    omega (arith, ap length (quiet-left after), l.invariant.3, l.invariant.1, after.requires.1.1)
 
-same_length : tie.Need-same-length invariant-loop decreases-loop
-same_length c = let put = c.before.before in put.write-gap2.auto.0 ∙ put.before.before.before.loop.invariant.1
+same_length : tie.Need-shape_of-out invariant-loop decreases-loop
+same_length c = let put = c.before.before in put.write_gap.auto.0 ∙ put.loop-i.invariant.1
 
 returns : tie.Need-returns invariant-loop decreases-loop
 returns c =
     let put = c.before.before in
     let after = put.before.before in
-    let l = after.before.loop in
-    let a = after.before.before.before.before.args in (
-      omega (arith, put.write-gap2.ensures.0, ap length (quiet-left after), l.invariant.3),
-      put.write-gap2.ensures.1
-          ∙ ap (λ (ws : List ℕ). sets l.out l.to (unwords 2 a.msb ws)) (sym (quiet-left after))
+    let l = after.loop-i in
+    let a = after.args in (
+      omega (arith, put.write_gap.ensures.0, ap length (quiet-left after), l.invariant.3),
+      put.write_gap.ensures.1
+          ∙ ap (λ (ws : List ℕ). sets l.out-1 l.to (unwords 2 a.msb ws)) (sym (quiet-left after))
           ∙ l.invariant.4,
     )
 
-pub write-words-spec : {M : Type 1} → statement M
-write-words-spec =
+pub write_words_spec : {M : Type 1} → statement M
+write_words_spec =
     tie.close
     (tie.spec
     invariant-loop

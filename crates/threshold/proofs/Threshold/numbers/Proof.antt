@@ -19,25 +19,25 @@ returns n11 =
     let n3 = n4.before in
     let n2 = n3.before in
     let n0 = n2.before in
-    let r = n0.before.args.self in
-    let f11 = n11.before.struct_told.given.1.1.1.1.1.1.1.1.1.1.1 in
+    let r = n0.args.self in
+    let f11 = n11.struct_told-1.given.1.1.1.1.1.1.1.1.1.1.1 in
     λ i.
-    n0.of-unsigned2.ensures i
+    n0.of_unsigned2.ensures i
     ∷ r.time_cpu
-    ∷ n2.of-unsigned22.ensures i
-    ∷ n3.of-unsigned23.ensures i
-    ∷ n4.of-unsigned24.ensures i
-    ∷ n5.of-unsigned25.ensures i
-    ∷ n6.of-unsigned26.ensures i
-    ∷ n7.of-unsigned27.ensures i
+    ∷ n2.of_unsigned2-2.ensures i
+    ∷ n3.of_unsigned2-3.ensures i
+    ∷ n4.of_unsigned2-4.ensures i
+    ∷ n5.of_unsigned2-5.ensures i
+    ∷ n6.of_unsigned2-6.ensures i
+    ∷ n7.of_unsigned2-7.ensures i
     ∷ r.tvt_evaluation_starting_tvt_ping_number
     ∷ r.tvt_offset_parameter_or_constant_threshold
     ∷ r.tvt_amplification_parameter
-    ∷ held-pattern w32 4 r.tuple_attribute f11.0.1 n11.of-signed4.ensures i
+    ∷ held-pattern w32 4 r.tuple_attribute f11.0.1 n11.of_signed4.ensures i
     ∷ []
 
-pub numbers-spec : {M : Type 1} → statement M
-numbers-spec =
+pub numbers_spec : {M : Type 1} → statement M
+numbers_spec =
     tie.close
     (tie.spec
     (λ c κs. search rules)

@@ -26,15 +26,15 @@ returns n11 =
     record {
       time_fraction = n0.unsigned2.ensures i;
       time_cpu = n1.unsigned4.ensures i;
-      software_channel_identifier = record { 0 = n2.unsigned22.ensures i };
-      tvg_max_range = n3.unsigned23.ensures i;
-      tvg_min_range = n4.unsigned24.ensures i;
-      tvt_evaluation_mode = n5.unsigned25.ensures i;
-      tvt_evaluation_interval = n6.unsigned26.ensures i;
-      tvt_evaluation_no_of_pings = n7.unsigned27.ensures i;
-      tvt_evaluation_starting_tvt_ping_number = n8.unsigned42.ensures i;
-      tvt_offset_parameter_or_constant_threshold = n9.unsigned43.ensures i;
-      tvt_amplification_parameter = n10.unsigned44.ensures i;
+      software_channel_identifier = record { 0 = n2.unsigned2-2.ensures i };
+      tvg_max_range = n3.unsigned2-3.ensures i;
+      tvg_min_range = n4.unsigned2-4.ensures i;
+      tvt_evaluation_mode = n5.unsigned2-5.ensures i;
+      tvt_evaluation_interval = n6.unsigned2-6.ensures i;
+      tvt_evaluation_no_of_pings = n7.unsigned2-7.ensures i;
+      tvt_evaluation_starting_tvt_ping_number = n8.unsigned4-2.ensures i;
+      tvt_offset_parameter_or_constant_threshold = n9.unsigned4-3.ensures i;
+      tvt_amplification_parameter = n10.unsigned4-4.ensures i;
       tuple_attribute = held-signed w32 n11.signed4.type-inv n11.signed4.ensures i;
     }
 

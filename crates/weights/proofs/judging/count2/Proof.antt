@@ -30,55 +30,55 @@ said s few before all f b h =
     ∙ sym (count-is a.encoded a.msb a.file.now a.from a.n a.count s.requires.1.0.0 s.requires.1.0.1)
 
 -- places, named by what has been done there
-abbrev start : tie.After-narrow-kind → tie.Start
+abbrev start : tie.After-narrow_kind-kind → tie.Start
 start c = c.before.before.before.before
 
 -- m of the words are there
-there : (c : tie.After-narrow-kind) (m : ℕ) → m ≤ (start c).args.n →
-    There c.narrow-kind.result (start c).args.from m (length (start c).args.file.now)
+there : (c : tie.After-narrow_kind-kind) (m : ℕ) → m ≤ (start c).args.n →
+    There c.narrow_kind-kind.result (start c).args.from m (length (start c).args.file.now)
 there c m h =
     let a = (start c).args in
-    subst (λ (k : Kind). There k a.from m (length a.file.now)) (sym c.narrow-kind.ensures)
+    subst (λ (k : Kind). There k a.from m (length a.file.now)) (sym c.narrow_kind-kind.ensures)
     (narrow-there a.encoded a.from a.n m (length a.file.now) h (start c).requires.1.0.1)
 
 -- what m of them weigh, held against the number of samples
-counted : (c : tie.After-narrow-kind) (m w : ℕ) →
+counted : (c : tie.After-narrow_kind-kind) (m w : ℕ) →
     let a = (start c).args in
-    w ≡ weight_at c.narrow-kind.result a.msb a.file.now a.from m
+    w ≡ weight_at c.narrow_kind-kind.result a.msb a.file.now a.from m
     → eqb w a.count ≡ eqb a.count (weight_at (narrow_by a.encoded) a.msb a.file.now a.from m)
 counted c m w e =
     let a = (start c).args in
     eqb-turned w a.count
-    ∙ ap (eqb a.count) (e ∙ ap (λ (k : Kind). weight_at k a.msb a.file.now a.from m) c.narrow-kind.ensures)
+    ∙ ap (eqb a.count) (e ∙ ap (λ (k : Kind). weight_at k a.msb a.file.now a.from m) c.narrow_kind-kind.ensures)
 
-few : (c : tie.After-narrow-kind) → true ≡ leb (start c).args.count most
-few c = sym (le-leb (start c).args.count most c.before.if1.false)
+few : (c : tie.After-narrow_kind-kind) → true ≡ leb (start c).args.count most
+few c = sym (le-leb (start c).args.count most c.if-count-gt-MOST.false)
 
-returns : tie.Need-returns
-returns c = let s = c.before.before.before in said s false _ _ (sym (lt-leb s.args.count most c.if1.true)) refl refl
+returns : tie.Need-returns-then-count-gt-MOST
+returns c = let s = c.before.before.before in said s false _ _ (sym (lt-leb s.args.count most c.if-count-gt-MOST.true)) refl refl
 
-returns-2 : tie.Need-returns-2
+returns-2 : tie.Need-returns-then-before-count
 returns-2 c =
     let b = c.before in
     let k = b.before in
-    said (start k) true true _ (few k) (sym (eq-eqb _ _ c.if2.true) ∙ counted k _ b.between.result b.between.ensures) refl
+    said (start k) true true _ (few k) (sym (eq-eqb _ _ c.if-before-count.true) ∙ counted k _ b.between-before.result b.between-before.ensures) refl
 
-returns-3 : tie.Need-returns-3
+returns-3 : tie.Need-returns
 returns-3 c =
     let b = c.before.before in
     let k = b.before in
-    counted k _ c.between2.result c.between2.ensures
+    counted k _ c.between.result c.between.ensures
     ∙ said (start k) true false _ (few k)
-    (sym (ne_eqb _ _ c.before.if2.false) ∙ counted k _ b.between.result b.between.ensures) refl
+    (sym (ne_eqb _ _ c.if-before-count.false) ∙ counted k _ b.between-before.result b.between-before.ensures) refl
 
-pub count2-spec : {M : Type 1} → statement M
-count2-spec =
+pub count2_spec : {M : Type 1} → statement M
+count2_spec =
     tie.close
     (tie.spec
     returns
     (λ c κs. search rules)
     (λ c. search rules)
-    (λ c κs. let s = start c in (s.pre.0, (there c _ (omega (arith, s.pre.1.0)), s.pre.1.1)))
+    (λ c κs. let s = start c in (s.requires.0, (there c _ (omega (arith, s.requires.1.0)), s.requires.1.1)))
     returns-2
-    (λ c κs. let k = c.before.before in let s = start k in (s.pre.0, (there k _ (omega arith), s.pre.1.1)))
+    (λ c κs. let k = c.before.before in let s = start k in (s.requires.0, (there k _ (omega arith), s.requires.1.1)))
     returns-3)

@@ -21,20 +21,20 @@ use Rattle.weights.proofs.judging.keeps_alone.Statement.{statement}
 use Rattle.weights.proofs.judging.keeps_alone.Tie as tie
 
 -- the frame's rules hold
-fine : (c : tie.After-enum-told) →
-    let a = c.before.before.before.before.before.args in
+fine : (c : tie.In-Fine) →
+    let a = c.args in
     framing a.msb (drop a.at a.file.now) ≡ Fine
-fine c = sym c.before.before.judge-frame.ensures ∙ c.enum_told.given.1
+fine c = sym c.judge_frame.ensures ∙ c.in-Fine.is
 
-there : (c : tie.After-enum-told) → let a = c.before.before.before.before.before.args in
+there : (c : tie.In-Fine) → let a = c.args in
     Whole a.msb a.file.now a.at (len_at a.msb (drop a.at a.file.now))
 there c = framing-whole _ _ _ (fine c)
 
 -- the tuple is here
-here : (c : tie.After-kind-at) →
-    let a = c.before.before.before.before.before.before.before.args in
-    Here a.msb a.file.now a.at c.before.length_at.result c.kind_at.result
-here c = record { framed = fine c.before.before; size = sym c.before.length_at.ensures; kind = sym c.kind_at.ensures }
+here : (c : tie.After-kind_at-code) →
+    let a = c.args in
+    Here a.msb a.file.now a.at c.length_at-whole.result c.kind_at-code.result
+here c = record { framed = fine c.before.before; size = sym c.length_at-whole.ensures; kind = sym c.kind_at-code.ensures }
 
 -- what is to be shown, by the verdicts on the frame, the head and the samples
 said : {o : Bool} {f : List ℕ} {at n k : ℕ} (h : Here o f at n k) {head : Verdict} →
@@ -47,42 +47,42 @@ said {o} {f} {at} h {head} e =
     ∙ ap (λ (v : Verdict). is_fine (both v (own_verdict o t))) (sym h.framed)
     ∙ ap is_fine (sym (alone-parts o (drop at f)))
 
-returns : tie.Need-returns
+returns : tie.Need-returns-in_default
 returns c =
-    let v = c.before.before in
-    let a = v.before.before.before.args in
+    let v = c.before in
+    let a = v.args in
     let r = drop a.at a.file.now in
-    ap (λ (w : Verdict). is_fine (both w (own_verdict a.msb (tup_at a.msb r)))) (sym c.enum-told2.given.1 ∙ v.judge-frame.ensures)
+    ap (λ (w : Verdict). is_fine (both w (own_verdict a.msb (tup_at a.msb r)))) (sym c.in_default.is ∙ v.judge_frame.ensures)
     ∙ ap is_fine (sym (alone-parts a.msb r))
 
-returns-2 : tie.Need-returns-2
+returns-2 : tie.Need-returns-in-Fault
 returns-2 c =
-    let v = c.before.before in
+    let v = c.before in
     let k = v.before in
-    let a = k.before.before.before.before.before.before.before.args in
+    let a = k.args in
     ap (λ (w : Verdict). is_fine (both w (inner_verdict a.msb (tup_at a.msb (drop a.at a.file.now)))))
-    (sym c.enum-told3.given.1)
-    ∙ said (here k) v.judge-head.ensures
+    (sym c.in-Fault.is)
+    ∙ said (here k) v.judge_head.ensures
 
-returns-3 : tie.Need-returns-3
+returns-3 : tie.Need-returns-in-Fine-judge_head
 returns-3 c =
-    let v = c.before.before.before in
-    let k = v.before in
-    let a = k.before.before.before.before.before.before.before.args in
-    c.keeps-inner.ensures
-    ∙ ap (λ (w : Verdict). is_fine (both w (inner_verdict a.msb (tup_at a.msb (drop a.at a.file.now)))))
-    (sym c.before.enum-told4.given.1)
-    ∙ said (here k) v.judge-head.ensures
-
-keeps-inner-requires : tie.Need-keeps-inner-requires
-keeps-inner-requires c κs =
     let v = c.before.before in
     let k = v.before in
-    let s = k.before.before.before.before.before.before.before in
-    (here k, (head-fits (here k) _ v.judge-head.ensures c.enum-told4.given.1, ((s.requires.0.2, s.requires.0.1), s.requires.1)))
+    let a = k.args in
+    c.keeps_inner.ensures
+    ∙ ap (λ (w : Verdict). is_fine (both w (inner_verdict a.msb (tup_at a.msb (drop a.at a.file.now)))))
+    (sym c.in-Fine-judge_head.is)
+    ∙ said (here k) v.judge_head.ensures
 
-pub keeps-alone-spec : {M : Type 1} → statement M
-keeps-alone-spec =
+keeps-inner-requires : tie.Need-keeps_inner-requires
+keeps-inner-requires c κs =
+    let v = c.before in
+    let k = v.before in
+    let s = k.before.before.before.before.before.before in
+    (here k, (head-fits (here k) _ v.judge_head.ensures c.in-Fine-judge_head.is, ((s.requires.0.2, s.requires.0.1), s.requires.1)))
+
+pub keeps_alone_spec : {M : Type 1} → statement M
+keeps_alone_spec =
     tie.close
     (tie.spec
     (λ c κs. search rules)

@@ -92,26 +92,26 @@ said-C s p e size count r z c h =
     ∙ ap is_fine (sym (inner-words q.0 q.1.0 p e))
 
 -- ---- the arms
-pairs : (c : tie.At-match-keys1) → shape_of c.before.before.before.args.code ≡ uncompressed wide
-pairs c = arm_u wide refl c.match.keys1
+pairs : (c : tie.In-10000) → shape_of c.args.code ≡ uncompressed wide
+pairs c = arm_u wide refl c.in-10000.is
 
-words : (c : tie.At-match-keys2) → shape_of c.before.before.before.args.code ≡ compressed wide
-words c = arm_c wide refl c.match.keys2
+words : (c : tie.In-10010) → shape_of c.args.code ≡ compressed wide
+words c = arm_c wide refl c.in-10010.is
 
-angles : (c : tie.At-match-keys3) → shape_of c.before.before.before.args.code ≡ uncompressed wide_angles
-angles c = arm_u wide_angles refl c.match.keys3
+angles : (c : tie.In-10001) → shape_of c.args.code ≡ uncompressed wide_angles
+angles c = arm_u wide_angles refl c.in-10001.is
 
-shorts : (c : tie.At-match-keys4) → shape_of c.before.before.before.args.code ≡ uncompressed narrow
-shorts c = arm_u narrow refl c.match.keys4
+shorts : (c : tie.In-10030) → shape_of c.args.code ≡ uncompressed narrow
+shorts c = arm_u narrow refl c.in-10030.is
 
-triples : (c : tie.At-match-keys5) → shape_of c.before.before.before.args.code ≡ uncompressed narrow_angles
-triples c = arm_u narrow_angles refl c.match.keys5
+triples : (c : tie.In-10031) → shape_of c.args.code ≡ uncompressed narrow_angles
+triples c = arm_u narrow_angles refl c.in-10031.is
 
-words16 : (c : tie.At-match-keys6) → shape_of c.before.before.before.args.code ≡ compressed narrow
-words16 c = arm_c narrow refl c.match.keys6
+words16 : (c : tie.In-10040) → shape_of c.args.code ≡ compressed narrow
+words16 c = arm_c narrow refl c.in-10040.is
 
-codes16 : (c : tie.At-match-keys7) → shape_of c.before.before.before.args.code ≡ compressed encoded
-codes16 c = arm_c encoded refl c.match.keys7
+codes16 : (c : tie.In-10050) → shape_of c.args.code ≡ compressed encoded
+codes16 c = arm_c encoded refl c.in-10050.is
 
 -- what rising asks for, by the room
 asks-U : (s : tie.Start) (p : Family) (step : ℕ) → shape_of s.args.code ≡ uncompressed p → step ≡ sample_bytes p →
@@ -124,14 +124,14 @@ asks-U s p step e z =
     ((r.place, s.requires.1.1.0.1), omega (arith, r.some, z), r.within)
 
 -- no ping
-none : tie.Need-returns-8
+none : tie.Need-returns-in_default
 unfolding listings
 none c =
     let s = c.before.before.before in
-    sym (ap is_fine (no_inner s.requires.0 (no_ping s.args.code c.match.rest)))
+    sym (ap is_fine (no_inner s.requires.0 (no_ping s.args.code c.in_default.in_default-own.rest)))
 
-pub keeps-inner-spec : {M : Type 1} → statement M
-keeps-inner-spec =
+pub keeps_inner_spec : {M : Type 1} → statement M
+keeps_inner_spec =
     tie.close
     (tie.spec
     (λ c. let r = room-U c.before.before.before wide (pairs c) in omega (arith, r.within, r.least))
@@ -186,18 +186,18 @@ keeps-inner-spec =
     (λ c.
     let s = c.before.before.before.before.before in
     let e = words c.before.before in
-    said-C s wide e _ _ _ (room-C s wide e).fours c.before.read4.ensures c.count4.ensures)
+    said-C s wide e _ _ _ (room-C s wide e).fours c.before.read4-count.ensures c.count4.ensures)
     (λ c.
     let s = c.before.before.before.before in
-    said-U s wide_angles (angles c.before) _ (c.rise2.ensures ∙ ap is_fine (judged-wide s.args.msb _)))
-    (λ c. said-U c.before.before.before.before narrow (shorts c.before) _ c.rise3.ensures)
-    (λ c. said-U c.before.before.before.before narrow_angles (triples c.before) _ c.rise4.ensures)
+    said-U s wide_angles (angles c.before) _ (c.rise-in-10001.ensures ∙ ap is_fine (judged-wide s.args.msb _)))
+    (λ c. said-U c.before.before.before.before narrow (shorts c.before) _ c.rise-in-10030.ensures)
+    (λ c. said-U c.before.before.before.before narrow_angles (triples c.before) _ c.rise-in-10031.ensures)
     (λ c.
     let s = c.before.before.before.before.before in
     let e = words16 c.before.before in
-    said-C s narrow e _ _ _ (room-C s narrow e).twos c.before.read42.ensures c.count2.ensures)
+    said-C s narrow e _ _ _ (room-C s narrow e).twos c.before.read4-count-in-10040.ensures c.count2.ensures)
     (λ c.
     let s = c.before.before.before.before.before in
     let e = codes16 c.before.before in
-    said-C s encoded e _ _ _ (room-C s encoded e).twos c.before.read43.ensures c.count22.ensures)
+    said-C s encoded e _ _ _ (room-C s encoded e).twos c.before.read4-count-in-10050.ensures c.count2-in-10050.ensures)
     none)

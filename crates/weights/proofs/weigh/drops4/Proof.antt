@@ -13,41 +13,41 @@ use Rattle.weights.proofs.Weighing.{left, left-all, left-turn, left-none, drop-r
 use Rattle.weights.proofs.weigh.drops4.Statement.{statement}
 use Rattle.weights.proofs.weigh.drops4.Tie as tie
 
-abbrev invariant-loop : tie.invariant-loop
+abbrev invariant-loop : tie.invariant-loop-i
 invariant-loop file msb from n drops₀ i₀ drops i =
     (i ≤ n) × (drops ≤ i)
     × (drops + left (by_drops narrow msb) 4 n from file i ≡ weighed (by_drops narrow msb) 4 n (drop from file))
 
-abbrev decreases-loop : tie.decreases-loop
+abbrev decreases-loop : tie.decreases-loop-i
 decreases-loop file msb from n drops₀ i₀ drops i = n - i
 
-loop-holds : tie.Need-loop-init invariant-loop decreases-loop
+loop-holds : tie.Need-loop-i-init invariant-loop decreases-loop
 loop-holds c =
-    let a = c.before.args in
+    let a = c.args in
     (omega arith, omega arith, omega (arith, left-all (by_drops narrow a.msb) 4 a.n a.from a.file.now))
 
-loop-again : tie.Need-loop-preserved invariant-loop decreases-loop
+loop-again : tie.Need-loop-i-preserved invariant-loop decreases-loop
 loop-again c =
     let read = c.before in
     let head = read.before.before in
-    let l = head.loop in
-    let a = head.before.before.args in
-    let drops = leb c.front22.result read.front2.result in
+    let l = head.loop-i in
+    let a = head.args in
+    let drops = leb c.front2-next.result read.front2-number.result in
     let at = a.from + 4 * l.i in
-    let x = drop-read narrow a.msb a.file.now at read.front2.result c.front22.result
-    read.front2.ensures c.front22.ensures in
+    let x = drop-read narrow a.msb a.file.now at read.front2-number.result c.front2-next.result
+    read.front2-number.ensures c.front2-next.ensures in
     let turn = left-turn (by_drops narrow a.msb) 4 a.n a.from a.file.now l.i (bool_byte drops) l.drops
-    read.before.loop-test.true x in
-    (omega (arith, read.before.loop-test.true), omega (arith, l.invariant.1, counts-one drops), omega (arith, turn, l.invariant.2))
+    read.loop-i-test.true x in
+    (omega (arith, read.loop-i-test.true), omega (arith, l.invariant.1, counts-one drops), omega (arith, turn, l.invariant.2))
 
 returns : tie.Need-returns invariant-loop decreases-loop
 returns c =
-    let l = c.before.loop in
-    let a = c.before.before.before.args in
-    sym (left-none (by_drops narrow a.msb) 4 a.n a.from a.file.now l.i l.drops c.loop-test.false) ∙ l.invariant.2
+    let l = c.loop-i in
+    let a = c.args in
+    sym (left-none (by_drops narrow a.msb) 4 a.n a.from a.file.now l.i l.drops c.loop-i-test.false) ∙ l.invariant.2
 
-pub drops4-spec : {M : Type 1} → statement M
-drops4-spec =
+pub drops4_spec : {M : Type 1} → statement M
+drops4_spec =
     tie.close
     (tie.spec
     invariant-loop
@@ -61,7 +61,7 @@ drops4-spec =
     (λ c. search rules)
     (λ c κs. search rules)
     (λ c. search rules)
-    (λ c. omega (arith, counts-one (leb c.front22.result c.before.front2.result)))
+    (λ c. omega (arith, counts-one (leb c.front2-next.result c.front2-number.result)))
     (λ c. search rules)
     (λ c. search rules)
     loop-again

@@ -22,25 +22,25 @@ told s e h =
     let g = h ∙ ap (λ (j : Kind). weight_at j a.msb a.file.now a.from a.n) (sym e) in
     (g, omega (arith, g, weight_most a.kind a.msb a.file.now a.from a.n))
 
-pub weigh-spec : {M : Type 1} → statement M
-weigh-spec =
+pub weigh_spec : {M : Type 1} → statement M
+weigh_spec =
     tie.close
     (tie.spec
     (λ c. search rules)
-    (λ c κs. let s = c.before.before.before in omega (arith, asked _ _ _ c.enum_told.given.1 s.requires))
+    (λ c κs. let s = c.before.before in omega (arith, asked _ _ _ c.in-C32.is s.requires))
     (λ c. search rules)
-    (λ c κs. let s = c.before.before.before in omega (arith, asked _ _ _ c.enum-told2.given.1 s.requires))
+    (λ c κs. let s = c.before.before in omega (arith, asked _ _ _ c.in-C16.is s.requires))
     (λ c. search rules)
-    (λ c κs. let s = c.before.before.before in omega (arith, asked _ _ _ c.enum-told3.given.1 s.requires))
+    (λ c κs. let s = c.before.before in omega (arith, asked _ _ _ c.in-CE16.is s.requires))
     (λ c. search rules)
-    (λ c κs. let s = c.before.before.before in omega (arith, asked _ _ _ c.enum-told4.given.1 s.requires))
+    (λ c κs. let s = c.before.before in omega (arith, asked _ _ _ c.in-Pairs.is s.requires))
     (λ c. search rules)
-    (λ c κs. let s = c.before.before.before in omega (arith, asked _ _ _ c.enum-told5.given.1 s.requires))
+    (λ c κs. let s = c.before.before in omega (arith, asked _ _ _ c.in-Shorts.is s.requires))
     (λ c. search rules)
-    (λ c κs. let s = c.before.before.before in omega (arith, asked _ _ _ c.enum-told6.given.1 s.requires))
-    (λ c. told c.before.before.before.before c.before.enum_told.given.1 c.words4.ensures)
-    (λ c. told c.before.before.before.before c.before.enum-told2.given.1 c.words2.ensures)
-    (λ c. told c.before.before.before.before c.before.enum-told3.given.1 c.words22.ensures)
-    (λ c. told c.before.before.before.before c.before.enum-told4.given.1 c.drops8.ensures)
-    (λ c. told c.before.before.before.before c.before.enum-told5.given.1 c.drops4.ensures)
-    (λ c. told c.before.before.before.before c.before.enum-told6.given.1 c.drops6.ensures))
+    (λ c κs. let s = c.before.before in omega (arith, asked _ _ _ c.in-Triples.is s.requires))
+    (λ c. told c.before.before.before c.in-C32.is c.words4.ensures)
+    (λ c. told c.before.before.before c.in-C16.is c.words2.ensures)
+    (λ c. told c.before.before.before c.in-CE16.is c.words2-in-CE16.ensures)
+    (λ c. told c.before.before.before c.in-Pairs.is c.drops8.ensures)
+    (λ c. told c.before.before.before c.in-Shorts.is c.drops4.ensures)
+    (λ c. told c.before.before.before c.in-Triples.is c.drops6.ensures))
