@@ -13,7 +13,7 @@ returns c =
     let t = f.before.before.before.before in
     let a = t.args in (
       t.tell_answer-code.ensures.0,
-      told-behind (five a.said) a.fields.now a.answer-1.now head refl t.tell_answer-code.ensures.1 f.tell.ensures,
+      told-behind (five a.said) a.fields.now a.answer.now head refl t.tell_answer-code.ensures.1 f.tell.ensures,
     )
 
 pub tell_found_spec : {M : Type 1} → statement M

@@ -29,14 +29,14 @@ tested : (c : tie.After-is_ping) → let a = (start c).args in c.is_ping.result 
 tested c = c.is_ping.ensures ∙ ap is_ping c.kind_at.ensures
 
 is : (c : tie.Else-not-is_ping) → let a = (start c.before).args in is_ping (kind_at a.msb (drop a.at a.file.now)) ≡ true
-is c = sym (tested c.before) ∙ not-false _ c.if-not-is_ping.false
+is c = sym (tested c.before) ∙ not-false _ c.if-not-is_ping.false-raw
 
 -- the channel that it names
 channel : (c : tie.After-named_at-named) → let a = (asked c).args in c.named_at-named.result.0 ≡ field_at a.msb a.file.now a.at 2 12
 channel c = ap (λ (x : SoftwareChannel). x.0) c.named_at-named.ensures
 
 returns : tie.Need-returns-then-not-is_ping
-returns c = not-ping (start c.before).requires _ _ _ (sym (tested c.before) ∙ not-true _ c.if-not-is_ping.true)
+returns c = not-ping (start c.before).requires _ _ _ (sym (tested c.before) ∙ not-true _ c.if-not-is_ping.true-raw)
 
 returns-2 : tie.Need-returns-then-named-channel
 returns-2 c =
@@ -54,14 +54,14 @@ returns-4 c =
     let r = c.before.before in
     let n = named r.before in
     any-attribute (asked n).requires _ _ _ (is n.before) (sym (channel n) ∙ r.if-named-channel.false)
-    (sym r.read4.ensures ∙ c.if-read4-number.false) (not-true _ c.if-not-edited.true)
+    (sym r.read4.ensures ∙ c.if-read4-number.false) (not-true _ c.if-not-edited.true-raw)
 
 returns-5 : tie.Need-returns
 returns-5 c =
     let r = c.before.before.before in
     let n = named r.before in
     one-attribute (asked n).requires _ _ _ (is n.before) (sym (channel n) ∙ r.if-named-channel.false)
-    (sym r.read4.ensures ∙ c.if-read4-number.false) (not-false _ c.if-not-edited.false) _ c.read4-2.ensures
+    (sym r.read4.ensures ∙ c.if-read4-number.false) (not-false _ c.if-not-edited.false-raw) _ c.read4-2.ensures
 
 pub is_wanted_spec : {M : Type 1} → statement M
 is_wanted_spec =

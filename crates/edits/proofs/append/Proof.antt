@@ -11,12 +11,12 @@ use Rattle.edits.proofs.append.Tie as tie
 abbrev start : tie.After-check → tie.Start
 start c = c.before.before.before.before
 
-abbrev checked : tie.In-Accepted-2 → tie.After-check
-checked c = c.before.before
+abbrev checked : tie.In-Accepted → tie.After-check
+checked c = c.before
 
 -- the check accepts
-accepted : (c : tie.In-Accepted-2) → check_file (start (checked c)).args.file.now ≡ Accepted c.counts-1.given.0.0
-accepted c = sym (checked c).check.ensures.is ∙ c.counts-1.given.1
+accepted : (c : tie.In-Accepted) → check_file (start (checked c)).args.file.now ≡ Accepted c.in-Accepted.counts
+accepted c = sym (checked c).check.ensures.is ∙ c.in-Accepted.is
 
 returns : tie.Need-returns-then-bytes-gt-LIMIT
 returns c =
@@ -24,7 +24,7 @@ returns c =
     let n = t.before in
     let a = (start (checked n)).args in
     let z = c.refuse-then-bytes-gt-LIMIT.ensures in
-    rw z (appended-over a.file.now a.out-1.now a.bytes.now _ (accepted n) t.if-bytes-gt-LIMIT.true)
+    rw z (appended-over a.file.now a.out.now a.bytes.now _ (accepted n) t.if-bytes-gt-LIMIT.true)
 
 insert-requires : tie.Need-insert-requires
 insert-requires c κs = let e = c.before in (accepted e.before, e.if-bytes-gt-LIMIT.false)
@@ -34,7 +34,7 @@ returns-2 c =
     let k = c.before in
     let a = (start k.before).args in
     rw c.refuse.ensures
-    (appended-refused a.file.now a.out-1.now a.bytes.now _ _ (sym k.check.ensures.is ∙ k.in-Refused.is))
+    (appended-refused a.file.now a.out.now a.bytes.now _ _ (sym k.check.ensures.is ∙ k.in-Refused.is))
 
 returns-3 : tie.Need-returns-else-bytes-gt-LIMIT
 returns-3 c =
@@ -42,7 +42,7 @@ returns-3 c =
     let e = i.before.before in
     let n = e.before in
     let a = (start (checked n)).args in
-    appended-given a.file.now a.out-1.now a.bytes.now _ (accepted n) e.if-bytes-gt-LIMIT.false _ _ i.insert.ensures
+    appended-given a.file.now a.out.now a.bytes.now _ (accepted n) e.if-bytes-gt-LIMIT.false _ _ i.insert.ensures
 
 pub append_spec : {M : Type 1} → statement M
 append_spec =

@@ -56,7 +56,7 @@ kind-at-requires c κs = let t = c.before in omega (arith, holds_16 _ _ _ (front
 -- it is within the part, and what is kept of it within the room
 roomy : (c : tie.After-kept_length-kept invariant-loop decreases-loop)
     → let l = stands (entered c) in let a = (known l).args in
-    (l.loop-whole.at + c.kept_length-kept.result ≤ length a.part.now) × (l.loop-whole.next + c.kept_length-kept.result ≤ length a.out-1.now)
+    (l.loop-whole.at + c.kept_length-kept.result ≤ length a.part.now) × (l.loop-whole.next + c.kept_length-kept.result ≤ length a.out.now)
 roomy c =
     let t = entered c in
     let l = stands t in
@@ -74,7 +74,7 @@ copy-requires c κs =
 
 add-next : tie.Need-overflow_add-next invariant-loop decreases-loop
 add-next c = let k = measured c in
-    omega (arith, (roomy k).1, (known (stands (entered k))).good)
+    omega (arith, (roomy k).1, (known (stands (entered k))).well_formed)
 
 add_at : tie.Need-overflow_add-at invariant-loop decreases-loop
 add_at c =

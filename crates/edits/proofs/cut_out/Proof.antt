@@ -132,12 +132,12 @@ cut_out_spec =
     (tie.spec
     (λ c κs. four c)
     (λ c κs. omega (arith, (room c.before).0, (room c.before).1))
-    (λ c. omega (arith, next-within-file c, (start (ordered c).before).well-formed))
+    (λ c. omega (arith, next-within-file c, (start (ordered c).before).well_formed))
     (λ c. omega (arith, next-within-file c))
     next-within-file
     (λ c. search rules)
     (λ c κs. search rules)
-    (λ c. omega (arith, (within c).2, (start (ordered (sized c)).before).well-formed))
+    (λ c. omega (arith, (within c).2, (start (ordered (sized c)).before).well_formed))
     (λ c. search rules)
     (λ c. search rules)
     (λ c. omega (arith, (within c).0, (within c).1, (within c).2))

@@ -116,7 +116,7 @@ find_place_spec =
       within = taken_4 (start k).args.file.now (bytes k) _ (taken k);
     })
     length-at-requires
-    (λ c. let l = c.before.before in omega (arith, (next c).within, (start (known l)).good))
+    (λ c. let l = c.before.before in omega (arith, (next c).within, (start (known l)).well_formed))
     loop-less
     next
     returns)

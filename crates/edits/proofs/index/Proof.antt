@@ -13,12 +13,12 @@ use Rattle.edits.proofs.index.Tie as tie
 abbrev start : tie.After-check → tie.Start
 start c = c.before.before.before
 
-abbrev checked : tie.In-Accepted-2 → tie.After-check
-checked c = c.before.before
+abbrev checked : tie.In-Accepted → tie.After-check
+checked c = c.before
 
 -- the check accepts
-accepted : (c : tie.In-Accepted-2) → check_file (start (checked c)).args.file.now ≡ Accepted c.counts-1.given.0.0
-accepted c = sym (checked c).check.ensures.is ∙ c.counts-1.given.1
+accepted : (c : tie.In-Accepted) → check_file (start (checked c)).args.file.now ≡ Accepted c.in-Accepted.counts
+accepted c = sym (checked c).check.ensures.is ∙ c.in-Accepted.is
 
 insert-requires : tie.Need-insert-requires
 insert-requires c κs = (accepted c.before, omega arith)
@@ -28,14 +28,14 @@ returns c =
     let k = c.before in
     let a = (start k.before).args in
     rw c.refuse.ensures
-    (indexed-refused a.file.now a.out-1.now _ _ (sym k.check.ensures.is ∙ k.in-Refused.is))
+    (indexed-refused a.file.now a.out.now _ _ (sym k.check.ensures.is ∙ k.in-Refused.is))
 
 returns-2 : tie.Need-returns-in-Accepted
 returns-2 c =
     let i = c.before.before in
     let n = i.before.before in
     let a = (start (checked n)).args in
-    indexed-given a.file.now a.out-1.now _ (accepted n) _ (nothing-appended a.file.now _ refl) _ _ i.insert.ensures
+    indexed-given a.file.now a.out.now _ (accepted n) _ (nothing-appended a.file.now _ refl) _ _ i.insert.ensures
 
 pub index_spec : {M : Type 1} → statement M
 index_spec =

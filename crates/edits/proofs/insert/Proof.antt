@@ -49,7 +49,7 @@ add-end c =
       arith,
       (end-within s.args.file.now (bytes i.before) _ s.requires.0 i.is_msb-msb.result i.is_msb-msb.ensures _
           (end_is c)).1,
-      s.good,
+      s.well_formed,
     )
 
 within : (c : tie.After-find_end-end) → let f = (start (ordered c).before).args.file.now in 4 + c.find_end-end.result ≤ length f

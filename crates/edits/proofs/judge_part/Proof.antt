@@ -83,7 +83,7 @@ small c =
 
 run-on-requires : tie.Need-run_on-requires invariant-loop decreases-loop
 run-on-requires c κs =
-    let e = ended c.before.before.before.before in
+    let e = ended c.before.before.before in
     let l = seen (kept e).before in
     let g = l.loop-at.invariant.ready in
     let n = length-take-le e.stretch_end-end.result l.before.before.args.part.now e.stretch_end-end.ensures.within in
@@ -125,7 +125,7 @@ judge_part_spec =
     stretch-end-requires
     (λ c. omega (arith, (small c).0))
     (λ c. omega (arith, (small (ended c)).1))
-    (λ c. let e = ended c.before in sym
+    (λ c. let e = ended c in sym
     (length-take-le _ (seen (kept e).before).before.before.args.part.now e.stretch_end-end.ensures.within))
     run-on-requires
     (λ c. search rules)

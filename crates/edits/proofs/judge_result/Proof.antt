@@ -26,16 +26,16 @@ begun c = c.before.before.before
 abbrev start : tie.After-begin-begin → tie.Start
 start c = c.before.before.before.before
 
-abbrev one : tie.In-On-2 → tie.After-judge_part
-one c = c.before.before
+abbrev one : tie.In-On → tie.After-judge_part
+one c = c.before
 
-abbrev first : tie.After-notes-in-On-1 → tie.In-On-2
+abbrev first : tie.After-notes-in-On-1 → tie.In-On
 first c = c.before.before.before
 
-abbrev two : tie.In-On-judge_part-2 → tie.After-judge_part-in-On
-two c = c.before.before
+abbrev two : tie.In-On-judge_part → tie.After-judge_part-in-On
+two c = c.before
 
-abbrev second : tie.After-notes-in-On-judge_part-1 → tie.In-On-judge_part-2
+abbrev second : tie.After-notes-in-On-judge_part-1 → tie.In-On-judge_part
 second c = c.before.before.before
 
 judge-part-requires : tie.Need-judge_part-requires
@@ -48,26 +48,26 @@ judge-part-requires c κs =
     )
 
 -- the first part is passed
-first-passed : (c : tie.In-On-2) → let j = one c in let b = begun j.before in let a = (start b).args in
-    Passed a.msb a.size.whole a.first.now b.begin-begin.result zeroed c.w-1.given.0.0
+first-passed : (c : tie.In-On) → let j = one c in let b = begun j.before in let a = (start b).args in
+    Passed a.msb a.size.whole a.first.now b.begin-begin.result zeroed c.in-On.w
     (tables j.judge_part.last.1.1.1.1.0 j.judge_part.last.1.1.1.1.1.0)
 first-passed c =
     let j = one c in
     let b = begun j.before in
     let a = (start b).args in
     part_to a.msb a.size.whole a.first.now b.begin-begin.result zeroed j.judge_part.result _ _ j.judge_part.ensures
-    c.w-1.given.1
+    c.in-On.is
 
 -- and the second
-second-passed : (c : tie.In-On-judge_part-2) → let j = two c in let f = first j.before in let a = (start (begun (one f).before)).args in
-    Passed a.msb a.size.whole a.second.now f.w-1.given.0.0
-    (tables (one f).judge_part.last.1.1.1.1.0 (one f).judge_part.last.1.1.1.1.1.0) c.v-1.given.0.0
+second-passed : (c : tie.In-On-judge_part) → let j = two c in let f = first j.before in let a = (start (begun (one f).before)).args in
+    Passed a.msb a.size.whole a.second.now f.in-On.w
+    (tables (one f).judge_part.last.1.1.1.1.0 (one f).judge_part.last.1.1.1.1.1.0) c.in-On-judge_part.v
     (tables j.judge_part-in-On.last.1.1.1.1.0 j.judge_part-in-On.last.1.1.1.1.1.0)
 second-passed c =
     let j = two c in
     let f = first j.before in
     let a = (start (begun (one f).before)).args in
-    part_to a.msb a.size.whole a.second.now _ _ j.judge_part-in-On.result _ _ j.judge_part-in-On.ensures c.v-1.given.1
+    part_to a.msb a.size.whole a.second.now _ _ j.judge_part-in-On.result _ _ j.judge_part-in-On.ensures c.in-On-judge_part.is
 
 judge-part-requires-2 : tie.Need-judge_part-requires-in-On
 judge-part-requires-2 c κs =

@@ -42,7 +42,7 @@ one c =
     c.survey-a.new.1.1.0) (start c).requires.1 c.survey-a.ensures
 
 index-length-requires : tie.Need-index_length-index-requires
-index-length-requires c κs = omega (arith, c.count_types.ensures, few-flagged c.before.before.survey-z.new.1.1.0)
+index-length-requires c κs = omega (arith, c.count_types.ensures, few-flagged c.survey-z.new.1.1.0)
 
 -- the index's bytes
 index-bytes : (c : tie.After-index_length-index) → let a = (began c).args in

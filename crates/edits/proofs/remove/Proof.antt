@@ -18,18 +18,18 @@ use Rattle.edits.proofs.remove.Tie as tie
 abbrev start : tie.After-check → tie.Start
 start c = c.before.before.before
 
-abbrev checked : tie.In-Accepted-2 → tie.After-check
-checked c = c.before.before
+abbrev checked : tie.In-Accepted → tie.After-check
+checked c = c.before
 
-abbrev taken : tie.After-find_place → tie.In-Accepted-2
+abbrev taken : tie.After-find_place → tie.In-Accepted
 taken c = c.before
 
 abbrev begun : tie.After-find_place → tie.Start
 begun c = start (checked (taken c))
 
 -- the check accepts
-accepted : (c : tie.In-Accepted-2) → check_file (start (checked c)).args.file.now ≡ Accepted c.counts-1.given.0.0
-accepted c = sym (checked c).check.ensures.is ∙ c.counts-1.given.1
+accepted : (c : tie.In-Accepted) → check_file (start (checked c)).args.file.now ≡ Accepted c.in-Accepted.counts
+accepted c = sym (checked c).check.ensures.is ∙ c.in-Accepted.is
 
 bytes : (c : tie.After-find_place) → Bytes (begun c).args.file.now
 bytes c =
@@ -42,7 +42,7 @@ returns c =
     let p = t.before in
     let a = (begun p).args in
     rw c.refuse-then-find_place-place.ensures
-    (removed-none a.file.now a.out-1.now a.place _ (accepted (taken p))
+    (removed-none a.file.now a.out.now a.place _ (accepted (taken p))
     (sought-none a.file.now (bytes p) _ (accepted (taken p)) a.place _ p.find_place.ensures t.if-find_place-place.true))
 
 -- the place is between tuples
@@ -59,7 +59,7 @@ returns-2 c =
     let p = e.before in
     let a = (begun p).args in
     rw c.refuse-then-place-file.ensures
-    (removed-none a.file.now a.out-1.now a.place _ (accepted (taken p))
+    (removed-none a.file.now a.out.now a.place _ (accepted (taken p))
     (sought-end a.file.now (bytes p) _ (accepted (taken p)) a.place _ (here e) (omega (arith, t.if-place-file.true))))
 
 -- and before the file's end
@@ -76,7 +76,7 @@ returns-3 c =
     let k = c.before in
     let a = (start k.before).args in
     rw c.refuse.ensures
-    (removed-refused a.file.now a.out-1.now a.place _ _ (sym k.check.ensures.is ∙ k.in-Refused.is))
+    (removed-refused a.file.now a.out.now a.place _ _ (sym k.check.ensures.is ∙ k.in-Refused.is))
 
 returns-4 : tie.Need-returns-else-place-file
 returns-4 c =
@@ -84,7 +84,7 @@ returns-4 c =
     let e = r.before.before in
     let p = e.before.before in
     let a = (begun p).args in
-    removed-given a.file.now a.out-1.now a.place _ (accepted (taken p)) _
+    removed-given a.file.now a.out.now a.place _ (accepted (taken p)) _
     (sought-some a.file.now (bytes p) _ (accepted (taken p)) a.place a.place (here e.before) (low e) refl) _ _
     r.cut_out.ensures
 

@@ -35,7 +35,7 @@ add_at : tie.Need-overflow_add-at invariant-loop decreases-loop
 add_at c =
     let t = c.before in
     let l = t.before.before in
-    omega (arith, ends-within _ _ _ (front t) l.loop-at.invariant.within, c.length_at-at.ensures, l.well-formed)
+    omega (arith, ends-within _ _ _ (front t) l.loop-at.invariant.within, c.length_at-at.ensures, l.well_formed)
 
 loop-less : tie.Need-loop-at-smaller invariant-loop decreases-loop
 loop-less c =

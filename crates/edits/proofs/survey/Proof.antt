@@ -57,10 +57,10 @@ next c =
     (c.flag_type.ensures ∙ ap (flag_outside (stands t).loop-whole.flags) k.kind_at-code.ensures)
 
 add_kept : tie.Need-overflow_add-kept invariant-loop decreases-loop
-add_kept c = let n = next c in omega (arith, n.few, n.within, (stands (entered (told c))).good)
+add_kept c = let n = next c in omega (arith, n.few, n.within, (stands (entered (told c))).well_formed)
 
 add_at : tie.Need-overflow_add-at invariant-loop decreases-loop
-add_at c = let n = next c in omega (arith, n.within, (stands (entered (told c))).good)
+add_at c = let n = next c in omega (arith, n.within, (stands (entered (told c))).well_formed)
 
 loop-less : tie.Need-loop-whole-smaller invariant-loop decreases-loop
 loop-less c =

@@ -37,7 +37,7 @@ last c = c.before.before
 record Rows (s : tie.Start) : Type 0 where
   pub sum : let a = s.args in
       4 + length (kept_tuples a.msb a.first.now) + length (kept_tuples a.msb a.second.now) + a.size.index
-      + length (kept_tuples a.msb a.last.now) ≤ length a.out-1.now
+      + length (kept_tuples a.msb a.last.now) ≤ length a.out.now
   pub index : let a = s.args in a.size.index ≡ length_of (index_in a.msb a.first.now a.second.now a.last.now)
 
 rows : (s : tie.Start) → Rows s
@@ -87,7 +87,7 @@ add-copy-kept c =
     let t = second (index c).before in
     let f = first t.before in
     let s = start (marked f.before).before in
-    omega (arith, (rows s).sum, f.copy_kept-middle.ensures.0, t.copy_kept-end.ensures.0, s.good)
+    omega (arith, (rows s).sum, f.copy_kept-middle.ensures.0, t.copy_kept-end.ensures.0, s.well_formed)
 
 copy-kept-requires-3 : tie.Need-copy_kept-requires
 copy-kept-requires-3 c κs =
@@ -116,7 +116,7 @@ returns c =
     let m = marked f.before in
     let s = start m.before in
     let a = s.args in
-    stored a.msb a.first.now a.second.now a.last.now s.requires.0 s.requires.1.0 a.out-1.now _ _ _ _ _ _ _ _
+    stored a.msb a.first.now a.second.now a.last.now s.requires.0 s.requires.1.0 a.out.now _ _ _ _ _ _ _ _
     m.store4.ensures
     f.copy_kept-middle.ensures.1 f.copy_kept-middle.ensures.0 t.copy_kept-end.ensures.1 t.copy_kept-end.ensures.0
     (i.write_index.ensures ∙ ap (λ (x : Tup). sets t.copy_kept-end.last.1.1.0 t.copy_kept-end.result (frame a.msb x))

@@ -34,17 +34,17 @@ angles : (c : tie.After-is_valued) → c.is_valued.result ≡ not (has_angles (f
 angles c = c.is_valued.ensures ∙ valued_plain (start c).args.ping.code (start c).requires.1.listed
 
 plain : (c : tie.Else-not-is_valued) → has_angles (family_of (start c.before).args.ping.code) ≡ false
-plain c = not-true _ (sym (angles c.before) ∙ not-false _ c.if-not-is_valued.false)
+plain c = not-true _ (sym (angles c.before) ∙ not-false _ c.if-not-is_valued.false-raw)
 
 returns : tie.Need-returns-then-not-is_valued
-returns c = echo_angles _ _ _ _ _ (not-false _ (sym (angles c.before) ∙ not-true _ c.if-not-is_valued.true))
+returns c = echo_angles _ _ _ _ _ (not-false _ (sym (angles c.before) ∙ not-true _ c.if-not-is_valued.true-raw))
 
 returns-2 : tie.Need-returns-then-not-is_sv
-returns-2 c = echo_other _ _ _ _ _ (sym c.is_sv.ensures ∙ not-true _ c.if-not-is_sv.true)
+returns-2 c = echo_other _ _ _ _ _ (sym c.is_sv.ensures ∙ not-true _ c.if-not-is_sv.true-raw)
 
 -- it is a ping with values, of a channel that is Sv
 valued : (c : tie.Else-not-is_valued) → is_valued (start c.before).args.ping.code ≡ true
-valued c = sym c.is_valued.ensures ∙ not-false _ c.if-not-is_valued.false
+valued c = sym c.is_valued.ensures ∙ not-false _ c.if-not-is_valued.false-raw
 
 sum-up-requires : tie.Need-sum_up-requires
 sum-up-requires c κs =
@@ -54,7 +54,7 @@ sum-up-requires c κs =
     ((before.0, valued e), (span-short span 262112 before.1.sound.few, omega (arith, span-values span, before.1.few)))
 
 sv : (c : tie.Else-not-is_sv) → is_sv (start c.before.before.before).args.ping.quantity ≡ true
-sv c = sym c.is_sv.ensures ∙ not-false _ c.if-not-is_sv.false
+sv c = sym c.is_sv.ensures ∙ not-false _ c.if-not-is_sv.false-raw
 
 -- what the samples give
 given : (c : tie.After-sum_up) → let x = (start (judged (summed c)).before.before.before).args in

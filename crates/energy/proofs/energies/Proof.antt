@@ -11,7 +11,7 @@ use Rattle.energy.proofs.energies.Tie as tie
 abbrev start : tie.After-check → tie.Start
 start c = c.before.before.before.before.before
 
-abbrev checked : tie.After-count_pings-n → tie.In-Accepted-2
+abbrev checked : tie.After-count_pings-n → tie.In-Accepted
 checked c = c.before
 
 abbrev counted : tie.Else-codes-n → tie.After-count_pings-n
@@ -24,8 +24,8 @@ abbrev roomed : tie.After-fill → tie.Else-codes-n
 roomed c = c.before.before.before.before
 
 -- the check accepts
-accepted : (c : tie.In-Accepted-2) → check_file (start c.before.before).args.file.now ≡ Accepted c.counts-1.given.0.0
-accepted c = sym c.check.ensures.is ∙ c.counts-1.given.1
+accepted : (c : tie.In-Accepted) → check_file (start c.before).args.file.now ≡ Accepted c.in-Accepted.counts
+accepted c = sym c.check.ensures.is ∙ c.in-Accepted.is
 
 returns : tie.Need-returns-then-places-n
 returns c =
@@ -46,8 +46,8 @@ fill-requires : tie.Need-fill-requires
 fill-requires c κs =
     let r = c.before.before.before in
     let n = counted r in
-    let s = (start (checked n).before.before).args in
-    roomy s.file.now s.places-1.now s.energies-1.now s.codes-1.now _ _ (accepted (checked n)) n.count_pings-n.ensures
+    let s = (start (checked n).before).args in
+    roomy s.file.now s.places.now s.energies.now s.codes.now _ _ (accepted (checked n)) n.count_pings-n.ensures
     r.if-places-n.false r.if-energies-n.false r.if-codes-n.false
 
 returns-4 : tie.Need-returns-in-Refused

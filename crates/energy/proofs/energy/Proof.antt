@@ -13,20 +13,20 @@ use Rattle.energy.proofs.energy.Tie as tie
 abbrev start : tie.After-check → tie.Start
 start c = c.before.before
 
-abbrev checked : tie.After-find → tie.In-Accepted-2
+abbrev checked : tie.After-find → tie.In-Accepted
 checked c = c.before
 
-abbrev pinged : tie.After-values-in-Ping-1 → tie.In-Ping-2
+abbrev pinged : tie.After-values-in-Ping-1 → tie.In-Ping
 pinged c = c.before.before.before
 
 -- the check accepts
-accepted : (c : tie.In-Accepted-2) → check_file (start c.before.before).args.file.now ≡ Accepted c.counts-1.given.0.0
-accepted c = sym c.check.ensures.is ∙ c.counts-1.given.1
+accepted : (c : tie.In-Accepted) → check_file (start c.before).args.file.now ≡ Accepted c.in-Accepted.counts
+accepted c = sym c.check.ensures.is ∙ c.in-Accepted.is
 
 -- a ping is found
-found : (c : tie.In-Ping-2) → let x = (start (checked c.before.before).before.before).args in
-    FoundPing x.file.now x.place c.ping-1.given.0.0
-found c = subst (FoundAt _ _) c.ping-1.given.1 c.find.ensures
+found : (c : tie.In-Ping) → let x = (start (checked c.before).before).args in
+    FoundPing x.file.now x.place c.in-Ping.ping
+found c = subst (FoundAt _ _) c.in-Ping.is c.find.ensures
 
 returns : tie.Need-returns-in-Refused
 returns c = told-refused _ _ (sym c.check.ensures.is ∙ c.in-Refused.is)
@@ -39,7 +39,7 @@ returns-2 c =
 returns-3 : tie.Need-returns-in-Ping
 returns-3 c =
     let p = pinged c.before in
-    tells (c.echo_of.ensures ∙ sym (found_echo _ _ (accepted (checked p.before.before)) (found p)))
+    tells (c.echo_of.ensures ∙ sym (found_echo _ _ (accepted (checked p.before)) (found p)))
 
 pub energy_spec : {M : Type 1} → statement M
 energy_spec =

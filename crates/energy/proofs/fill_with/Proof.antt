@@ -191,7 +191,7 @@ turned c m rows x =
     (record { places = w.9; energies = w.10; codes = w.11 }))
     (λ w. passed (record { before = c.before; if-is_ping = w.0 }) m rows x _ _ w.4
     (record { places = w.1; energies = w.2; codes = w.3 }))
-    c.if-is_ping.branch
+    c.if-is_ping.branch-raw
 
 pub fill_with_spec : {M : Type 1} → statement M
 fill_with_spec =

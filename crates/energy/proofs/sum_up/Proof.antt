@@ -133,7 +133,7 @@ loop-again c =
       linear_below-sum = w.5;
     })))
     (λ w. rw (w.1, w.2) (turn-run (turn c.before) w.0.false))
-    c.if-sampled.branch
+    c.if-sampled.branch-raw
 
 pub sum_up_spec : {M : Type 1} → statement M
 sum_up_spec =

@@ -10,7 +10,7 @@ returns c =
     let fields = c.before.before in
     let front = fields.before.before.before.before in
     let a = front.args in
-    rw (fields.turn_listed.ensures, front.open_frame.ensures) (opening-stored false a.out-1.now a.to a.bytes a.code _)
+    rw (fields.turn_listed.ensures, front.open_frame.ensures) (opening-stored false a.out.now a.to a.bytes a.code _)
 
 pub open_form_spec : {M : Type 1} → statement M
 open_form_spec =

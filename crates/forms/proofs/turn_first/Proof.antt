@@ -27,7 +27,7 @@ turn_first_spec =
     let m = r.before in
     let s = m.before.before.before in
     let a = s.args in
-    asked m.in-0.is r.row.ensures refl a.at a.to a.file.now a.out-1.now s.requires.1.0 s.requires.1.1)
+    asked m.in-0.is r.row.ensures refl a.at a.to a.file.now a.out.now s.requires.1.0 s.requires.1.1)
     (λ c κs. search rules)
     (λ c. search rules)
     (λ c. search rules)
@@ -37,7 +37,7 @@ turn_first_spec =
     let m = r.before in
     let s = m.before.before.before in
     let a = s.args in
-    asked m.in-1.is r.row-in-1.ensures refl a.at a.to a.file.now a.out-1.now s.requires.1.0 s.requires.1.1)
+    asked m.in-1.is r.row-in-1.ensures refl a.at a.to a.file.now a.out.now s.requires.1.0 s.requires.1.1)
     (λ c κs. search rules)
     (λ c. search rules)
     (λ c. search rules)
@@ -47,7 +47,7 @@ turn_first_spec =
     let m = r.before in
     let s = m.before.before.before in
     let a = s.args in
-    asked m.in-2.is r.row-in-2.ensures refl a.at a.to a.file.now a.out-1.now s.requires.1.0 s.requires.1.1)
+    asked m.in-2.is r.row-in-2.ensures refl a.at a.to a.file.now a.out.now s.requires.1.0 s.requires.1.1)
     (λ c κs. search rules)
     (λ c. search rules)
     (λ c. search rules)
@@ -57,7 +57,7 @@ turn_first_spec =
     let m = r.before in
     let s = m.before.before.before in
     let a = s.args in
-    asked m.in-3.is r.row-in-3.ensures refl a.at a.to a.file.now a.out-1.now s.requires.1.0 s.requires.1.1)
+    asked m.in-3.is r.row-in-3.ensures refl a.at a.to a.file.now a.out.now s.requires.1.0 s.requires.1.1)
     (λ c κs. search rules)
     (λ c. search rules)
     (λ c. search rules)
@@ -67,34 +67,34 @@ turn_first_spec =
     let m = r.before in
     let s = m.before.before.before in
     let a = s.args in
-    asked (last m) r.row-in_default.ensures refl a.at a.to a.file.now a.out-1.now s.requires.1.0 s.requires.1.1)
+    asked (last m.before) r.row-in_default.ensures refl a.at a.to a.file.now a.out.now s.requires.1.0 s.requires.1.1)
     (λ c. search rules)
     (λ c. let t = c.before.before in
     let r = t.before.before.before.before in
     let m = r.before in
     let a = m.args in
-    left m.in-0.is r.row.ensures refl a.at a.to a.msb a.file.now a.out-1.now t.turn_row.ensures)
+    left m.in-0.is r.row.ensures refl a.at a.to a.msb a.file.now a.out.now t.turn_row.ensures)
     (λ c. search rules)
     (λ c. let t = c.before.before in
     let r = t.before.before.before.before in
     let m = r.before in
     let a = m.args in
-    left m.in-1.is r.row-in-1.ensures refl a.at a.to a.msb a.file.now a.out-1.now t.turn_row-in-1.ensures)
+    left m.in-1.is r.row-in-1.ensures refl a.at a.to a.msb a.file.now a.out.now t.turn_row-in-1.ensures)
     (λ c. search rules)
     (λ c. let t = c.before.before in
     let r = t.before.before.before.before in
     let m = r.before in
     let a = m.args in
-    left m.in-2.is r.row-in-2.ensures refl a.at a.to a.msb a.file.now a.out-1.now t.turn_row-in-2.ensures)
+    left m.in-2.is r.row-in-2.ensures refl a.at a.to a.msb a.file.now a.out.now t.turn_row-in-2.ensures)
     (λ c. search rules)
     (λ c. let t = c.before.before in
     let r = t.before.before.before.before in
     let m = r.before in
     let a = m.args in
-    left m.in-3.is r.row-in-3.ensures refl a.at a.to a.msb a.file.now a.out-1.now t.turn_row-in-3.ensures)
+    left m.in-3.is r.row-in-3.ensures refl a.at a.to a.msb a.file.now a.out.now t.turn_row-in-3.ensures)
     (λ c. search rules)
     (λ c. let t = c.before.before in
     let r = t.before.before.before.before in
     let m = r.before in
     let a = m.args in
-    left (last m) r.row-in_default.ensures refl a.at a.to a.msb a.file.now a.out-1.now t.turn_row-in_default.ensures))
+    left (last m.before) r.row-in_default.ensures refl a.at a.to a.msb a.file.now a.out.now t.turn_row-in_default.ensures))

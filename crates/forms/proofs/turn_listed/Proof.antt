@@ -22,7 +22,7 @@ turn_listed_spec =
     let m = r.before in
     let s = m.before.before.before in
     let a = s.args in
-    asked m.in-5.is r.row.ensures refl a.at a.to a.file.now a.out-1.now s.requires.1.0 s.requires.1.1)
+    asked m.in-5.is r.row.ensures refl a.at a.to a.file.now a.out.now s.requires.1.0 s.requires.1.1)
     (λ c κs. search rules)
     (λ c. search rules)
     (λ c. search rules)
@@ -32,7 +32,7 @@ turn_listed_spec =
     let m = r.before in
     let s = m.before.before.before in
     let a = s.args in
-    asked m.in-6.is r.row-in-6.ensures refl a.at a.to a.file.now a.out-1.now s.requires.1.0 s.requires.1.1)
+    asked m.in-6.is r.row-in-6.ensures refl a.at a.to a.file.now a.out.now s.requires.1.0 s.requires.1.1)
     (λ c κs. search rules)
     (λ c. search rules)
     (λ c. search rules)
@@ -42,7 +42,7 @@ turn_listed_spec =
     let m = r.before in
     let s = m.before.before.before in
     let a = s.args in
-    asked m.in-7.is r.row-in-7.ensures refl a.at a.to a.file.now a.out-1.now s.requires.1.0 s.requires.1.1)
+    asked m.in-7.is r.row-in-7.ensures refl a.at a.to a.file.now a.out.now s.requires.1.0 s.requires.1.1)
     (λ c κs. search rules)
     (λ c. search rules)
     (λ c. search rules)
@@ -52,7 +52,7 @@ turn_listed_spec =
     let m = r.before in
     let s = m.before.before.before in
     let a = s.args in
-    asked m.in-8.is r.row-in-8.ensures refl a.at a.to a.file.now a.out-1.now s.requires.1.0 s.requires.1.1)
+    asked m.in-8.is r.row-in-8.ensures refl a.at a.to a.file.now a.out.now s.requires.1.0 s.requires.1.1)
     (λ c κs. search rules)
     (λ c. search rules)
     (λ c. search rules)
@@ -62,7 +62,7 @@ turn_listed_spec =
     let m = r.before in
     let s = m.before.before.before in
     let a = s.args in
-    asked m.in-9.is r.row-in-9.ensures refl a.at a.to a.file.now a.out-1.now s.requires.1.0 s.requires.1.1)
+    asked m.in-9.is r.row-in-9.ensures refl a.at a.to a.file.now a.out.now s.requires.1.0 s.requires.1.1)
     (λ c κs. search rules)
     (λ c. search rules)
     (λ c. search rules)
@@ -72,7 +72,7 @@ turn_listed_spec =
     let m = r.before in
     let s = m.before.before.before in
     let a = s.args in
-    asked m.in-10.is r.row-in-10.ensures refl a.at a.to a.file.now a.out-1.now s.requires.1.0 s.requires.1.1)
+    asked m.in-10.is r.row-in-10.ensures refl a.at a.to a.file.now a.out.now s.requires.1.0 s.requires.1.1)
     (λ c κs. search rules)
     (λ c. search rules)
     (λ c. search rules)
@@ -82,7 +82,7 @@ turn_listed_spec =
     let m = r.before in
     let s = m.before.before.before in
     let a = s.args in
-    asked m.in-11.is r.row-in-11.ensures refl a.at a.to a.file.now a.out-1.now s.requires.1.0 s.requires.1.1)
+    asked m.in-11.is r.row-in-11.ensures refl a.at a.to a.file.now a.out.now s.requires.1.0 s.requires.1.1)
     (λ c κs. search rules)
     (λ c. search rules)
     (λ c. search rules)
@@ -92,7 +92,7 @@ turn_listed_spec =
     let m = r.before in
     let s = m.before.before.before in
     let a = s.args in
-    asked m.in-12.is r.row-in-12.ensures refl a.at a.to a.file.now a.out-1.now s.requires.1.0 s.requires.1.1)
+    asked m.in-12.is r.row-in-12.ensures refl a.at a.to a.file.now a.out.now s.requires.1.0 s.requires.1.1)
     (λ c κs. search rules)
     (λ c. search rules)
     (λ c. search rules)
@@ -102,7 +102,7 @@ turn_listed_spec =
     let m = r.before in
     let s = m.before.before.before in
     let a = s.args in
-    asked m.in-13.is r.row-in-13.ensures refl a.at a.to a.file.now a.out-1.now s.requires.1.0 s.requires.1.1)
+    asked m.in-13.is r.row-in-13.ensures refl a.at a.to a.file.now a.out.now s.requires.1.0 s.requires.1.1)
     (λ c κs. search rules)
     (λ c. search rules)
     (λ c. search rules)
@@ -112,7 +112,7 @@ turn_listed_spec =
     let m = r.before in
     let s = m.before.before.before in
     let a = s.args in
-    asked m.in-14.is r.row-in-14.ensures refl a.at a.to a.file.now a.out-1.now s.requires.1.0 s.requires.1.1)
+    asked m.in-14.is r.row-in-14.ensures refl a.at a.to a.file.now a.out.now s.requires.1.0 s.requires.1.1)
     (λ c κs. let m = c.before in
     let s = m.before.before.before in
     (below first_listings 10 s.args.listing s.requires.0 m.in_default.in_default-own.rest, (s.requires.1.0, s.requires.1.1)))
@@ -121,60 +121,60 @@ turn_listed_spec =
     let r = t.before.before.before.before in
     let m = r.before in
     let a = m.args in
-    left m.in-5.is r.row.ensures refl a.at a.to a.msb a.file.now a.out-1.now t.turn_row.ensures)
+    left m.in-5.is r.row.ensures refl a.at a.to a.msb a.file.now a.out.now t.turn_row.ensures)
     (λ c. search rules)
     (λ c. let t = c.before.before in
     let r = t.before.before.before.before in
     let m = r.before in
     let a = m.args in
-    left m.in-6.is r.row-in-6.ensures refl a.at a.to a.msb a.file.now a.out-1.now t.turn_row-in-6.ensures)
+    left m.in-6.is r.row-in-6.ensures refl a.at a.to a.msb a.file.now a.out.now t.turn_row-in-6.ensures)
     (λ c. search rules)
     (λ c. let t = c.before.before in
     let r = t.before.before.before.before in
     let m = r.before in
     let a = m.args in
-    left m.in-7.is r.row-in-7.ensures refl a.at a.to a.msb a.file.now a.out-1.now t.turn_row-in-7.ensures)
+    left m.in-7.is r.row-in-7.ensures refl a.at a.to a.msb a.file.now a.out.now t.turn_row-in-7.ensures)
     (λ c. search rules)
     (λ c. let t = c.before.before in
     let r = t.before.before.before.before in
     let m = r.before in
     let a = m.args in
-    left m.in-8.is r.row-in-8.ensures refl a.at a.to a.msb a.file.now a.out-1.now t.turn_row-in-8.ensures)
+    left m.in-8.is r.row-in-8.ensures refl a.at a.to a.msb a.file.now a.out.now t.turn_row-in-8.ensures)
     (λ c. search rules)
     (λ c. let t = c.before.before in
     let r = t.before.before.before.before in
     let m = r.before in
     let a = m.args in
-    left m.in-9.is r.row-in-9.ensures refl a.at a.to a.msb a.file.now a.out-1.now t.turn_row-in-9.ensures)
+    left m.in-9.is r.row-in-9.ensures refl a.at a.to a.msb a.file.now a.out.now t.turn_row-in-9.ensures)
     (λ c. search rules)
     (λ c. let t = c.before.before in
     let r = t.before.before.before.before in
     let m = r.before in
     let a = m.args in
-    left m.in-10.is r.row-in-10.ensures refl a.at a.to a.msb a.file.now a.out-1.now t.turn_row-in-10.ensures)
+    left m.in-10.is r.row-in-10.ensures refl a.at a.to a.msb a.file.now a.out.now t.turn_row-in-10.ensures)
     (λ c. search rules)
     (λ c. let t = c.before.before in
     let r = t.before.before.before.before in
     let m = r.before in
     let a = m.args in
-    left m.in-11.is r.row-in-11.ensures refl a.at a.to a.msb a.file.now a.out-1.now t.turn_row-in-11.ensures)
+    left m.in-11.is r.row-in-11.ensures refl a.at a.to a.msb a.file.now a.out.now t.turn_row-in-11.ensures)
     (λ c. search rules)
     (λ c. let t = c.before.before in
     let r = t.before.before.before.before in
     let m = r.before in
     let a = m.args in
-    left m.in-12.is r.row-in-12.ensures refl a.at a.to a.msb a.file.now a.out-1.now t.turn_row-in-12.ensures)
+    left m.in-12.is r.row-in-12.ensures refl a.at a.to a.msb a.file.now a.out.now t.turn_row-in-12.ensures)
     (λ c. search rules)
     (λ c. let t = c.before.before in
     let r = t.before.before.before.before in
     let m = r.before in
     let a = m.args in
-    left m.in-13.is r.row-in-13.ensures refl a.at a.to a.msb a.file.now a.out-1.now t.turn_row-in-13.ensures)
+    left m.in-13.is r.row-in-13.ensures refl a.at a.to a.msb a.file.now a.out.now t.turn_row-in-13.ensures)
     (λ c. search rules)
     (λ c. let t = c.before.before in
     let r = t.before.before.before.before in
     let m = r.before in
     let a = m.args in
-    left m.in-14.is r.row-in-14.ensures refl a.at a.to a.msb a.file.now a.out-1.now t.turn_row-in-14.ensures)
+    left m.in-14.is r.row-in-14.ensures refl a.at a.to a.msb a.file.now a.out.now t.turn_row-in-14.ensures)
     (λ c. search rules)
     (λ c. c.turn_first.ensures))

@@ -59,7 +59,7 @@ returns c =
     let d = fields.before.before in
     let p = d.requires in
     let a = d.args in
-    row_written p.0 a.out-1.now _ a.to p.1.0.fields p.1.0.text p.1.0.shape (listed_fields a.listing)
+    row_written p.0 a.out.now _ a.to p.1.0.fields p.1.0.text p.1.0.shape (listed_fields a.listing)
     (row-fields p.1.0 p.1.1.0)
     d.text_place-text.result ((room d).3 ∙ ap (λ (fs : List Field). 6 + size fs) (row-fields p.1.0 p.1.1.0))
     (rw (back.close_form.ensures, text.copy.ensures, fields.open_form.ensures))

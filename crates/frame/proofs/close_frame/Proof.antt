@@ -9,7 +9,7 @@ returns c =
     let back = c.before.before in
     let attribute = back.before.before.before.before in
     let a = attribute.args in
-    rw (back.store4-2.ensures, attribute.store4.ensures) (close_stored a.msb a.out-1.now a.to a.whole a.attribute)
+    rw (back.store4-2.ensures, attribute.store4.ensures) (close_stored a.msb a.out.now a.to a.whole a.attribute)
 
 pub close_frame_spec : {M : Type 1} → statement M
 close_frame_spec =

@@ -9,7 +9,7 @@ returns c =
     let type = c.before.before in
     let size = type.before.before.before.before in
     let a = size.args in
-    rw (type.store2.ensures, size.store4.ensures) (open_stored a.msb a.out-1.now a.to a.whole a.code)
+    rw (type.store2.ensures, size.store4.ensures) (open_stored a.msb a.out.now a.to a.whole a.code)
 
 pub open_frame_spec : {M : Type 1} → statement M
 open_frame_spec =

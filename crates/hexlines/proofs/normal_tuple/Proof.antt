@@ -14,21 +14,21 @@ use Rattle.hexlines.proofs.normal_tuple.Tie as tie
 
 -- the characters that were read
 abbrev text : tie.After-decode → List ℕ
-text d = let a = d.before.before.before.before.before.args in take a.characters a.text-1.now
+text d = let a = d.before.before.before.before.before.args in take a.characters a.text.now
 
 -- a bad line, or the bytes at the front of the space
-finds-bad : (c : tie.In-Bad-2) → input_of (text c.before.before.before) ≡ bad c.number-1.given.0.0
-finds-bad c = read-bad c.decode.ensures _ c.number-1.given.1
+finds-bad : (c : tie.In-Bad) → input_of (text c.before.before) ≡ bad c.in-Bad.number
+finds-bad c = read-bad c.decode.ensures _ c.in-Bad.is
 
-finds-bytes : (c : tie.In-Bytes-2) →
-    let n = c.n-1.given.0.0 in
-    (n ≤ room) × (input_of (text c.before.before.before) ≡ bytes (take n c.decode.new.1.0))
-finds-bytes c = let d = c.before.before.before in
-    read-bytes d.decode.ensures _ d.before.before.before.space-file.ensures c.n-1.given.1
+finds-bytes : (c : tie.In-Bytes) →
+    let n = c.in-Bytes.n in
+    (n ≤ room) × (input_of (text c.before.before) ≡ bytes (take n c.decode.new.1.0))
+finds-bytes c = let d = c.before.before in
+    read-bytes d.decode.ensures _ d.space-file.ensures c.in-Bytes.is
 
-fits : (c : tie.In-Bytes-2) → c.n-1.given.0.0 ≤ length c.decode.new.1.0
-fits c = let d = c.before.before.before in
-    omega (arith, (finds-bytes c).0, d.decode.auto.1.0, d.before.before.before.space-file.ensures)
+fits : (c : tie.In-Bytes) → c.in-Bytes.n ≤ length c.decode.new.1.0
+fits c = let d = c.before.before in
+    omega (arith, (finds-bytes c).0, d.decode.auto.1.0, d.space-file.ensures)
 
 slice-aggregate-decode : tie.Need-slice_bounds-decode-end-2
 slice-aggregate-decode c = sym (length-take-le _ _ c.before.before.before.requires.0)

@@ -12,12 +12,12 @@ use Rattle.hexlines.proofs.print_answer.Statement.{statement}
 use Rattle.hexlines.proofs.print_answer.Tie as tie
 
 -- what is accepted is within the lent bytes
-within : (c : tie.In-Accepted-2) → Within c.answer-in-Accepted-1.given.0.0.written c.args.form.now
+within : (c : tie.In-Accepted) → Within c.in-Accepted.counts.written c.args.form.now
 within c =
-    subst (λ (a : Answer). Ready a c.args.form.now) c.answer-in-Accepted-1.given.1
+    subst (λ (a : Answer). Ready a c.args.form.now) c.in-Accepted.is
     c.requires.1
 
-counted : (c : tie.In-Accepted-2) → let m = c.answer-in-Accepted-1.given.0.0.written in
+counted : (c : tie.In-Accepted) → let m = c.in-Accepted.counts.written in
     length (take m c.args.form.now) ≡ m
 counted c = length-take-le _ _ (within c).long
 

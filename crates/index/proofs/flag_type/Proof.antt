@@ -14,7 +14,7 @@ returns-2 c =
     let outside = c.before.before.before in
     let a = outside.before.before.args in
     flag-stands a.flags.now a.code (sym c.is_flagged.ensures ∙ c.if-is_flagged.true)
-    ∙ flag-outside a.flags.now a.code (sym outside.before.in_class.ensures ∙ outside.if-in_class.false)
+    ∙ flag-outside a.flags.now a.code (sym outside.in_class.ensures ∙ outside.if-in_class.false)
 
 add-flags : tie.Need-overflow_add-flags
 add-flags c =

@@ -39,7 +39,7 @@ write-spaced-requires c κs =
       length_data a.msb ks,
       length-spaced ks,
       ap length opened.write_opening.ensures,
-      length-sets a.out-1.now a.to (opening_of a.msb measured.index_length-whole.result),
+      length-sets a.out.now a.to (opening_of a.msb measured.index_length-whole.result),
     )
 
 close-frame-requires : tie.Need-close_frame-requires
@@ -58,7 +58,7 @@ close-frame-requires c κs =
         length_data a.msb ks,
         length-spaced ks,
         ap length opened.write_opening.ensures,
-        length-sets a.out-1.now a.to (opening_of a.msb measured.index_length-whole.result),
+        length-sets a.out.now a.to (opening_of a.msb measured.index_length-whole.result),
         ap length t.1,
         length-sets opened.write_opening.new.0 (a.to + 12) (unwords 2 a.msb (spaced ks)),
       ),
@@ -81,7 +81,7 @@ returns c =
     closed.close_frame.ensures
     ∙ ap (λ (l : List ℕ). sets l t.result (close_bytes o n 0))
     (t.ensures.1 ∙ ap (λ (l : List ℕ). sets l (a.to + 12) (unwords 2 o (spaced ks))) opened.write_opening.ensures)
-    ∙ index-stored ks o a.out-1.now a.to n w t.result t.ensures.0
+    ∙ index-stored ks o a.out.now a.to n w t.result t.ensures.0
 
 pub write_index_spec : {M : Type 1} → statement M
 write_index_spec =

@@ -18,7 +18,7 @@ returns c =
     time.store4.ensures
     ∙ ap (λ (l : List ℕ). sets l (a.to + 6 + 2) (bytes_of a.msb 4 0))
     (fraction.store2.ensures ∙ ap (λ (l : List ℕ). sets l (a.to + 6) (bytes_of a.msb 2 0)) opened.open_frame.ensures)
-    ∙ opening-stored a.msb a.whole a.out-1.now a.to
+    ∙ opening-stored a.msb a.whole a.out.now a.to
 
 pub write_opening_spec : {M : Type 1} → statement M
 write_opening_spec =

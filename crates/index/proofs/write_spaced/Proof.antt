@@ -19,7 +19,7 @@ returns c =
     let w = c.before.before.before in
     let a = w.args in
     let t = w.write_types-q in
-    spaced-even (flagged_types a.flags.now) a.msb a.out-1.now a.to t.result t.ensures.0 _ t.ensures.1 c.if-q-to-eq0.true
+    spaced-even (flagged_types a.flags.now) a.msb a.out.now a.to t.result t.ensures.0 _ t.ensures.1 c.if-q-to-eq0.true
 
 store2-requires : tie.Need-store2-requires
 store2-requires c κs =
@@ -30,10 +30,10 @@ store2-requires c κs =
     let ks = flagged_types a.flags.now in
     omega (
       arith,
-      odd-room ks a.msb a.out-1.now a.to t.result t.ensures.0 _ t.ensures.1 c.if-q-to-eq0.false,
+      odd-room ks a.msb a.out.now a.to t.result t.ensures.0 _ t.ensures.1 c.if-q-to-eq0.false,
       s.requires,
       ap length t.ensures.1,
-      length-sets a.out-1.now a.to (unwords 2 a.msb ks),
+      length-sets a.out.now a.to (unwords 2 a.msb ks),
     )
 
 add-result : tie.Need-overflow_add-result
@@ -45,7 +45,7 @@ add-result c =
     let t = w.write_types-q in
     omega (
       arith,
-      odd-room (flagged_types a.flags.now) a.msb a.out-1.now a.to t.result t.ensures.0 _ t.ensures.1 odd.if-q-to-eq0.false,
+      odd-room (flagged_types a.flags.now) a.msb a.out.now a.to t.result t.ensures.0 _ t.ensures.1 odd.if-q-to-eq0.false,
       s.requires,
     )
 
@@ -57,8 +57,8 @@ returns-2 c =
     let t = w.write_types-q in
     let ks = flagged_types a.flags.now in
     let h = odd.if-q-to-eq0.false in (
-      odd-room ks a.msb a.out-1.now a.to t.result t.ensures.0 _ t.ensures.1 h,
-      spaced-odd ks a.msb a.out-1.now a.to t.result t.ensures.0 _ t.ensures.1 h _ c.store2.ensures,
+      odd-room ks a.msb a.out.now a.to t.result t.ensures.0 _ t.ensures.1 h,
+      spaced-odd ks a.msb a.out.now a.to t.result t.ensures.0 _ t.ensures.1 h _ c.store2.ensures,
     )
 
 pub write_spaced_spec : {M : Type 1} → statement M

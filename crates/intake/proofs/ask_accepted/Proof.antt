@@ -44,8 +44,8 @@ ask_accepted_spec =
     (λ c κs. marked_4 _ (taken _ _ c.requires).mark)
     run-requires
     (λ c. search rules)
-    (λ c. let w = c.before in sym (ran_to _ _ _ _ _ _ w.run.ensures w.in-On.is).sized.sounders-1)
-    (λ c. let w = c.before.before in sym (ran_to _ _ _ _ _ _ w.run.ensures w.in-On.is).sized.channels-1)
+    (λ c. let w = c.before in sym (ran_to _ _ _ _ _ _ w.run.ensures w.in-On.is).sized.sounders)
+    (λ c. let w = c.before.before in sym (ran_to _ _ _ _ _ _ w.run.ensures w.in-On.is).sized.channels)
     ask-here-requires
     (λ c. search rules)
     returns

@@ -24,10 +24,10 @@ tested c = c.is_ping.ensures ∙ ap is_ping c.kind_at.ensures
 
 returns : tie.Need-returns-then-not-is_ping
 returns c = let s = c.before.before.before.before in
-    ask-other _ _ s.args.w _ (held s) (sym (tested c.before) ∙ not-true _ c.if-not-is_ping.true)
+    ask-other _ _ s.args.w _ (held s) (sym (tested c.before) ∙ not-true _ c.if-not-is_ping.true-raw)
 
 pings : (c : tie.Else-not-is_ping) → let a = c.args in ping_at a.msb a.file.now a.w.at ≡ true
-pings c = sym (tested c.before) ∙ not-false _ c.if-not-is_ping.false
+pings c = sym (tested c.before) ∙ not-false _ c.if-not-is_ping.false-raw
 
 -- the lookups' rows are declared
 below-channel : (c : tie.After-find_channel-found)

@@ -15,7 +15,7 @@ use Rattle.intake.proofs.check.Tie as tie
 
 -- the file is marked
 marks : (c : tie.Else-not-is_marked) → marked c.args.file.now ≡ true
-marks c = sym c.is_marked.ensures ∙ not-false _ c.if-not-is_marked.false
+marks c = sym c.is_marked.ensures ∙ not-false _ c.if-not-is_marked.false-raw
 
 returns : tie.Need-returns-then-file-gt-LIMIT
 returns c = tells (c.refuse.ensures ∙ over-limit _ c.if-file-gt-LIMIT.true)
@@ -23,7 +23,7 @@ returns c = tells (c.refuse.ensures ∙ over-limit _ c.if-file-gt-LIMIT.true)
 returns-2 : tie.Need-returns-then-not-is_marked
 returns-2 c =
     tells (c.refuse-then-not-is_marked.ensures
-    ∙ no_mark _ c.if-file-gt-LIMIT.false (sym c.is_marked.ensures ∙ not-true _ c.if-not-is_marked.true))
+    ∙ no_mark _ c.if-file-gt-LIMIT.false (sym c.is_marked.ensures ∙ not-true _ c.if-not-is_marked.true-raw))
 
 is-msb-requires : tie.Need-is_msb-msb-requires
 is-msb-requires c κs = marked_4 c.args.file.now (marks c)
@@ -50,7 +50,7 @@ returns-3 c =
 returns-4 : tie.Need-returns-in-Done
 returns-4 c =
     let r = c.before in
-    tells ((ran_to _ _ _ _ _ _ r.run.ensures c.in-Done.is).answer-1 ∙ whole (ordered r.before))
+    tells ((ran_to _ _ _ _ _ _ r.run.ensures c.in-Done.is).answer ∙ whole (ordered r.before))
 
 pub check_spec : {M : Type 1} → statement M
 check_spec =

@@ -35,10 +35,10 @@ past1 c x p = pass (le-ltb _ _ c.if-at-total.false) p
 returns-2 : tie.Need-returns-then-not-complete
 returns-2 c =
     let d = c.before.before in
-    c.refuse-then-not-complete.ensures ∙ ends _ _ (past1 d.before _ (here (ap not (sym d.complete.ensures) ∙ c.if-not-complete.true)))
+    c.refuse-then-not-complete.ensures ∙ ends _ _ (past1 d.before _ (here (ap not (sym d.complete.ensures) ∙ c.if-not-complete.true-raw)))
 
 past2 : (c : tie.Else-not-complete) → Past 2 c.before.before.before
-past2 c x p = past1 c.before.before _ (pass (ap not (sym c.complete.ensures) ∙ c.if-not-complete.false) p)
+past2 c x p = past1 c.before.before _ (pass (ap not (sym c.complete.ensures) ∙ c.if-not-complete.false-raw) p)
 
 -- the test of the counts, as the code made it
 tested : (c : tie.After-first_wrong-wrong) → let s = c.before.before.before.before in

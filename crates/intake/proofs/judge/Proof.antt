@@ -99,31 +99,31 @@ returns-4 c =
     c.in_default-linked.is
 
 -- the tuple, once it is linked
-abbrev linked : tie.After-is_ping → tie.In-Linked-2
+abbrev linked : tie.After-is_ping → tie.In-Linked
 linked c = c.before
 
 -- no ping: nothing is said of its samples;
 returns-5 : tie.Need-returns-then-not-is_ping
 returns-5 c =
     let m = linked c.before in
-    let l = m.before.before in
-    let other = sym c.is_ping.ensures ∙ not-true _ c.if-not-is_ping.true in
+    let l = m.before in
+    let other = sym c.is_ping.ensures ∙ not-true _ c.if-not-is_ping.true-raw in
     let none = no_inner (here l.before.before.before.before) other in
-    told-alone _ _ _ (held (start l.before.before)) l.judge_links-linked.ensures (past_head l.before) m.linked-1.given.1 none
+    told-alone _ _ _ (held (start l.before.before)) l.judge_links-linked.ensures (past_head l.before) m.in-Linked.is none
 
 -- or a ping
 judge-inner-requires : tie.Need-judge_inner-requires
 judge-inner-requires c κs =
-    let g = (linked c.before).before.before.before in
+    let g = (linked c.before).before.before in
     (here g.before.before.before, fits g)
 
 returns-6 : tie.Need-returns
 returns-6 c =
     let m = linked c.before.before.before in
-    let l = m.before.before in
+    let l = m.before in
     rw (c.comparing-2.ensures, c.judge_inner.ensures)
     (told-linked _ _ _ (held (start l.before.before)) l.judge_links-linked.ensures (past_head l.before)
-    m.linked-1.given.1)
+    m.in-Linked.is)
 
 pub judge_spec : {M : Type 1} → statement M
 judge_spec =

@@ -36,11 +36,11 @@ returns-2 : tie.Need-returns-then-not-fits
 returns-2 c =
     let d = c.before.before in
     let s = d.before.before.before in
-    rw (c.fault-then-not-fits.ensures, head-place s.requires s.args.first, placed d.before, tested d, c.if-not-fits.true)
+    rw (c.fault-then-not-fits.ensures, head-place s.requires s.args.first, placed d.before, tested d, c.if-not-fits.true-raw)
 
 -- its length fits: the identifier is left
 fits : (c : tie.Else-not-fits) → let a = (start c).args in Fits a.whole a.code
-fits c = tested c.before ∙ not-false _ c.if-not-fits.false
+fits c = tested c.before ∙ not-false _ c.if-not-fits.false-raw
 
 past2 : (c : tie.Else-not-fits) → let a = (start c).args in
     head_verdict a.msb a.first (tup_in a.msb a.file.now a.at)
@@ -63,13 +63,13 @@ returns-4 : tie.Need-returns-then-not-is_known
 returns-4 c =
     let k = c.before.before in
     let r = k.before in
-    rw (c.fault-then-not-is_known.ensures, past2 r.before.before, read r, ← k.is_known.ensures, c.if-not-is_known.true)
+    rw (c.fault-then-not-is_known.ensures, past2 r.before.before, read r, ← k.is_known.ensures, c.if-not-is_known.true-raw)
 
 returns-5 : tie.Need-returns
 returns-5 c =
     let k = c.before in
     let r = k.before in
-    rw (past2 r.before.before, read r, ← k.is_known.ensures, c.if-not-is_known.false)
+    rw (past2 r.before.before, read r, ← k.is_known.ensures, c.if-not-is_known.false-raw)
 
 pub judge_head_spec : {M : Type 1} → statement M
 judge_head_spec =

@@ -24,11 +24,11 @@ stands c = c.before.before
 abbrev elsewhere : tie.After-turn invariant-loop decreases-loop → tie.In-loop-w invariant-loop decreases-loop
 elsewhere t = t.before.before.before.before
 
-abbrev next : tie.After-struct_known-in-On-2-1 invariant-loop decreases-loop → tie.In-On-2 invariant-loop decreases-loop
+abbrev next : tie.After-struct_known-in-On-2-1 invariant-loop decreases-loop → tie.In-On invariant-loop decreases-loop
 next c = c.before.before
 
-abbrev turned : tie.In-On-2 invariant-loop decreases-loop → tie.After-turn invariant-loop decreases-loop
-turned c = c.before.before
+abbrev turned : tie.In-On invariant-loop decreases-loop → tie.After-turn invariant-loop decreases-loop
+turned c = c.before
 
 loop-holds : tie.Need-loop-w-init invariant-loop decreases-loop
 loop-holds c =
@@ -43,13 +43,13 @@ turn-requires c κs =
 
 -- the tuple passed: where the tally stands then, that it has bytes, and that it is within the part
 past : (c : tie.After-struct_known-in-On-2-1 invariant-loop decreases-loop) → let l = stands (elsewhere (turned (next c))) in let a = l.args in
-    ((next c).next-1.given.0.0.at ≡ l.loop-w.w.at + len_at a.msb (drop l.loop-w.at a.part.now))
+    ((next c).in-On.next.at ≡ l.loop-w.w.at + len_at a.msb (drop l.loop-w.at a.part.now))
     × (16 ≤ len_at a.msb (drop l.loop-w.at a.part.now))
     × (l.loop-w.at + len_at a.msb (drop l.loop-w.at a.part.now) ≤ length a.part.now)
 past c =
     let n = next c in
     let t = turned n in
-    running_past (stands (elsewhere t)).loop-w.invariant _ _ t.turn.ensures _ n.next-1.given.1
+    running_past (stands (elsewhere t)).loop-w.invariant _ _ t.turn.ensures _ n.in-On.is
 
 loop-again : tie.Need-loop-w-preserved invariant-loop decreases-loop
 loop-again c =
@@ -57,7 +57,7 @@ loop-again c =
     let t = turned n in
     let e = elsewhere t in
     let l = stands e in
-    running_again l.loop-w.invariant _ _ t.turn.ensures e.loop-w-test.true _ n.next-1.given.1 (n.next-1.given.0.0.at - l.loop-w.w.at)
+    running_again l.loop-w.invariant _ _ t.turn.ensures e.loop-w-test.true _ n.in-On.is (n.in-On.next.at - l.loop-w.w.at)
     (omega (arith, (past c).0))
 
 returns : tie.Need-returns-in-Done invariant-loop decreases-loop
@@ -77,7 +77,7 @@ run_on_spec =
     turn-requires
     (λ c. search rules)
     (λ c. omega (arith, (past c).0))
-    (λ c. omega (arith, (past c).0, (past c).2, (stands (elsewhere (turned (next c)))).good))
+    (λ c. omega (arith, (past c).0, (past c).2, (stands (elsewhere (turned (next c)))).well_formed))
     (λ c. omega (arith, (past c).0, (past c).1, (past c).2))
     loop-again
     (λ c. search rules)

@@ -36,10 +36,10 @@ passed c = c.before.before.before
 abbrev typed : tie.After-says_of → tie.After-kind_at-code
 typed c = (passed c).before
 
-abbrev of-sounder : tie.After-put_sounder-arg-1 → tie.In-Sounder-2
+abbrev of-sounder : tie.After-put_sounder-arg-1 → tie.In-Sounder
 of-sounder c = c.before.before
 
-abbrev of-channel : tie.After-put_channel-arg-1 → tie.In-Channel-2
+abbrev of-channel : tie.After-put_channel-arg-1 → tie.In-Channel
 of-channel c = c.before.before
 
 abbrev held : tie.Start → Tables
@@ -58,17 +58,17 @@ judge-requires c κs =
     (s.requires.1.1.1.0, (holds s.requires.1.1.1.1 s.requires.0 s.requires.1.0, search rules))
 
 -- no fault is found
-fine : (c : tie.In-Linked-2) → let s = start c.before.before in said s.args.msb (left s) s.args.w (held s) ≡ Fine
-fine c = (turn-fine _ _ _ _ c.judge.ensures c.compared-1.given.1).0
+fine : (c : tie.In-Linked) → let s = start c.before in said s.args.msb (left s) s.args.w (held s) ≡ Fine
+fine c = (turn-fine _ _ _ _ c.judge.ensures c.in-Linked.is).0
 
 -- and so many identifiers are compared
-cost : (c : tie.In-Linked-2) → let s = start c.before.before in
-    compares_at s.args.msb (left s) s.args.w (held s) ≡ c.compared-1.given.0.0
-cost c = (turn-fine _ _ _ _ c.judge.ensures c.compared-1.given.1).1
+cost : (c : tie.In-Linked) → let s = start c.before in
+    compares_at s.args.msb (left s) s.args.w (held s) ≡ c.in-Linked.compared
+cost c = (turn-fine _ _ _ _ c.judge.ensures c.in-Linked.is).1
 
-faulty : (c : tie.In-Faulty-2) → let s = start c.before.before in
-    said s.args.msb (left s) s.args.w (held s) ≡ Fault c.code-1.given.0.0 c.code-1.given.0.1.0
-faulty c = turn_fault _ _ _ _ c.judge.ensures c.code-1.given.1
+faulty : (c : tie.In-Faulty) → let s = start c.before in
+    said s.args.msb (left s) s.args.w (held s) ≡ Fault c.in-Faulty.code c.in-Faulty.offset
+faulty c = turn_fault _ _ _ _ c.judge.ensures c.in-Faulty.is
 
 add-refuse : tie.Need-overflow_add-at
 add-refuse c =
@@ -76,7 +76,7 @@ add-refuse c =
     let s = start c.before in
     omega (arith, s.requires.1.1.0)
 
-there : (c : tie.In-Linked-2) → let s = start c.before.before in
+there : (c : tie.In-Linked) → let s = start c.before in
     Whole s.args.msb s.args.part.now s.args.from (len_at s.args.msb (left s))
 there c = framing-whole _ _ _ (fine-parts _ _ _ _ _ (fine c)).framed
 
@@ -119,15 +119,15 @@ says-by c e = sym c.says_of.ensures ∙ e
 put-sounder-requires : tie.Need-put_sounder-requires
 put-sounder-requires c κs =
     let e = of-sounder c in
-    let m = e.before.before in
+    let m = e.before in
     let k = typed m in
     let s = from k in (
-      room-sounder _ s.requires.1.1.1.1 s.requires.0 (here k) (fine k.before.before) (says-by m e.maker-1.given.1),
+      room-sounder _ s.requires.1.1.1.1 s.requires.0 (here k) (fine k.before.before) (says-by m e.in-Sounder.is),
       omega (arith, s.requires.1.1.0),
     )
 
 add-next : tie.Need-overflow_add-next
-add-next c = let s = from (typed (of-sounder c.before.before).before.before) in omega (arith, s.requires.0.sounders)
+add-next c = let s = from (typed (of-sounder c.before.before).before) in omega (arith, s.requires.0.sounders)
 
 returns-7 : tie.Need-returns-in-Sounder
 returns-7 c =
@@ -153,22 +153,22 @@ channel-at-requires c κs =
     (says-by m e.in-Channel.is)
 
 -- there is room for it
-room_for : (e : tie.In-Channel-2) → let s = from (typed e.before.before) in s.args.w.channels < most_channels
+room_for : (e : tie.In-Channel) → let s = from (typed e.before) in s.args.w.channels < most_channels
 room_for e =
-    let m = e.before.before in
+    let m = e.before in
     let k = typed m in
     let s = from k in
-    room-channel _ s.requires.1.1.1.1 s.requires.0 (here k) (fine k.before.before) (says-by m e.maker-in-Channel-1.given.1)
+    room-channel _ s.requires.1.1.1.1 s.requires.0 (here k) (fine k.before.before) (says-by m e.in-Channel.is)
 
 put-channel-requires : tie.Need-put_channel-requires
 put-channel-requires c κs =
     let e = of-channel c in
-    let s = from (typed e.before.before) in
+    let s = from (typed e.before) in
     (room_for e, omega (arith, s.requires.1.1.0))
 
 add-next-2 : tie.Need-overflow_add-next-in-Channel
 add-next-2 c =
-    let s = from (typed (of-channel c.before.before.before.before).before.before) in
+    let s = from (typed (of-channel c.before.before.before.before.before).before) in
     omega (arith, s.requires.0.channels)
 
 returns-8 : tie.Need-returns-in-Channel
@@ -177,11 +177,11 @@ returns-8 c =
     let n = d.before.before in
     let e = n.before.before in
     let m = e in
-    let k = typed m in
+    let k = typed m.before in
     let s = from k in
-    rw ((passed m).past-next.ensures, d.put_channel.ensures.0, n.channel_at-it.ensures)
+    rw ((passed m.before).past-next.ensures, d.put_channel.ensures.0, n.channel_at-it.ensures)
     (turns-channel _ _ s.requires.1.1.1.1 s.requires.0 s.requires.1.0 _ (here k) (fine k.before.before)
-    (cost k.before.before) (says-by m e.in-Channel.is)
+    (cost k.before.before) (says-by m.before e.in-Channel.is)
     (subst (λ (x : Channel). channel_of (channel_row x s.args.w.at) ≡ x) n.channel_at-it.ensures d.put_channel.ensures.1))
 
 -- ---- the end of file
@@ -220,7 +220,7 @@ returns-2 c =
     let p = d.before in
     let k = p.before in
     let s = from k in
-    let q = sym d.may_declare.ensures ∙ not-true _ c.if-not-may_declare.true in
+    let q = sym d.may_declare.ensures ∙ not-true _ c.if-not-may_declare.true-raw in
     rw p.past-next.ensures (turns-other _ _ s.requires.1.1.1.1 s.requires.0 s.requires.1.0 _ (here k) (fine k.before.before)
     (cost k.before.before) (quiet-class k.kind_at-code.result q) c.if-code.false)
 
@@ -232,7 +232,7 @@ other m q =
     let k = typed m in
     let s = from k in
     let d = m.before.before in
-    let e = sym d.may_declare.ensures ∙ not-false _ m.if-not-may_declare.false in
+    let e = sym d.may_declare.ensures ∙ not-false _ m.if-not-may_declare.false-raw in
     subst (λ (x : Tally). TurnedTo s.args.msb s.args.total (left s) s.args.w (held s) (On x) (held s))
     (sym (passed m).past-next.ensures)
     (turns-other _ _ s.requires.1.1.1.1 s.requires.0 s.requires.1.0 _ (here k) (fine k.before.before)
@@ -274,7 +274,7 @@ turn_spec =
     (λ c. search rules)
     channel-at-requires
     put-channel-requires
-    (λ c κs. room_for (of-channel c.before.before))
+    (λ c κs. room_for (of-channel c.before.before.before))
     add-next-2
     returns-3
     returns-4

@@ -56,7 +56,7 @@ loop-again c =
     (counting-ping g h _ _ c.length_at-at.ensures p.kind_at.ensures (sym p.is_ping.ensures ∙ w.0.true)))
     (λ w. rw w.1
     (counting-other g h _ _ c.length_at-at.ensures p.kind_at.ensures (sym p.is_ping.ensures ∙ w.0.false)))
-    c.if-is_ping.branch
+    c.if-is_ping.branch-raw
 
 pub count_pings_spec : {M : Type 1} → statement M
 count_pings_spec =

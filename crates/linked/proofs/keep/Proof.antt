@@ -42,9 +42,9 @@ returns-5 c =
     let p = c.before.before in
     let i = p.before.before in
     let l = i.before in
-    let s = start (looked l) in
-    one_more _ _ s.requires.1.1.1 i.channel_at-it.result _ (new_channel s.requires.0 (said (looked l) l.in-Channel.is))
-    i.channel_at-it.ensures p.put_channel.ensures.1 (room l) _ p.put_channel.ensures.0
+    let s = start (looked l.before) in
+    one_more _ _ s.requires.1.1.1 i.channel_at-it.result _ (new_channel s.requires.0 (said (looked l.before) l.in-Channel.is))
+    i.channel_at-it.ensures p.put_channel.ensures.1 (room l.before) _ p.put_channel.ensures.0
 
 pub keep_spec : {M : Type 1} → statement M
 keep_spec =
@@ -59,7 +59,7 @@ keep_spec =
     (λ c κs. let s = (start (looked c)).requires.0 in
     channel-whole s.here (sound-fits s) (said (looked c) c.in-Channel.is))
     (λ c κs. let l = c.before.before in (room l, (start (looked l)).requires.1.0))
-    (λ c κs. room c.before.before.before.before)
+    (λ c κs. room c.before.before.before.before.before)
     (λ c. search rules)
     (λ c. let m = c.before in none m (new_nothing (start m).requires.0 (said m c.in-Nothing.is)))
     (λ c. let m = c.before in none m (new_sounder (start m).requires.0 (said m c.in-Sounder.is)))

@@ -15,9 +15,9 @@ returns c =
     let it = a.it in
     let k = c.struct_known-2-1.given in
     let e : it.samples % 65536 ≡ it.samples = omega (arith, k) in (
-      ap (λ (m : ℕ). set a.rows.now a.row (it.id-1.0 ∷ it.parent-1.0 ∷ a.place ∷ it.rate ∷ it.samples ∷ m ∷ []))
+      ap (λ (m : ℕ). set a.rows.now a.row (it.id.0 ∷ it.parent.0 ∷ a.place ∷ it.rate ∷ it.samples ∷ m ∷ []))
           n.number_of-number.ensures.0,
-      λ i. record { id-1 = it.id-1; parent-1 = it.parent-1; rate = it.rate; samples = e i; maker = n.number_of-number.ensures.1 i },
+      λ i. record { id-1 = it.id; parent-1 = it.parent; rate = it.rate; samples = e i; maker = n.number_of-number.ensures.1 i },
     )
 
 pub put_channel_spec : {M : Type 1} → statement M

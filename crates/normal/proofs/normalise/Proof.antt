@@ -13,22 +13,22 @@ use Rattle.normal.proofs.normalise.Statement.{statement}
 use Rattle.normal.proofs.normalise.Tie as tie
 
 -- places, named by what has been done there
-abbrev start : tie.In-Accepted-2 → tie.Start
-start c = c.before.before.before.before.before
+abbrev start : tie.In-Accepted → tie.Start
+start c = c.before.before.before.before
 
 abbrev measured : tie.After-is_unturnable → tie.After-measure_file-m
 measured c = c.before.before.before
 
-abbrev taken : tie.After-measure_file-m → tie.In-Accepted-2
+abbrev taken : tie.After-measure_file-m → tie.In-Accepted
 taken c = c.before.before
 
 -- the check accepts
-abbrev accepts : (c : tie.In-Accepted-2) → Accepts (start c).args.file.now
-accepts c = record { counts-1 = _; answer = sym c.check.ensures.is ∙ c.counts-1.given.1 }
+abbrev accepts : (c : tie.In-Accepted) → Accepts (start c).args.file.now
+accepts c = record { counts-1 = _; answer = sym c.check.ensures.is ∙ c.in-Accepted.is }
 
 -- what is measured
 found : (c : tie.After-measure_file-m)
-    → FoundOf (start (taken c)).args.file.now (accepts (taken c)).counts-1
+    → FoundOf (start (taken c)).args.file.now (accepts (taken c)).counts
     c.measure_file-m.result.bytes c.measure_file-m.result.unlisted
 found c =
     let a = accepts (taken c) in

@@ -20,7 +20,7 @@ abbrev start : tie.Else-not-is_marked → tie.Start
 start c = c.before.before.before.before.before
 
 marks : (c : tie.Else-not-is_marked) → marked (start c).args.file.now ≡ true
-marks c = sym c.is_marked.ensures ∙ not-false _ c.if-not-is_marked.false
+marks c = sym c.is_marked.ensures ∙ not-false _ c.if-not-is_marked.false-raw
 
 -- what the rules say that it keeps alone
 said : (c : tie.After-judge_alone) → let f = (start c.before.before).args.file.now in
@@ -36,7 +36,7 @@ returns-2 : tie.Need-returns-then-not-is_marked
 returns-2 c =
     rw c.refuse-then-not-is_marked.ensures
     (single_mark _ _ c.if-file-gt-LIMIT.false
-    (sym c.is_marked.ensures ∙ not-true _ c.if-not-is_marked.true))
+    (sym c.is_marked.ensures ∙ not-true _ c.if-not-is_marked.true-raw))
 
 add-refuse : tie.Need-overflow_add-offset
 add-refuse c =

@@ -145,8 +145,8 @@ returns-2 c =
       omega (arith, w.0, measured m, ap length (ending e), length-append (index s) (form s)),
       w.1
           ∙ ap (λ (l : List ℕ). sets l (a.to + n) (form s)) i.write_index.ensures
-          ∙ stored-behind (index s) (form s) a.out-1.now a.to (a.to + n) (omega (arith, measured m))
-          ∙ ap (sets a.out-1.now a.to) (sym (ending e)),
+          ∙ stored-behind (index s) (form s) a.out.now a.to (a.to + n) (omega (arith, measured m))
+          ∙ ap (sets a.out.now a.to) (sym (ending e)),
     )
 
 pub write_piece_spec : {M : Type 1} → statement M

@@ -20,7 +20,7 @@ returns c =
     let row = fields.before.before.before.before in
     let front = row.before.before.before in
     let a = front.args in
-    header-stored row.row.ensures a.msb (drop (a.at + 6) a.file.now) a.out-1.now _ a.to a.bytes a.code
+    header-stored row.row.ensures a.msb (drop (a.at + 6) a.file.now) a.out.now _ a.to a.bytes a.code
     (rw (fields.turn_row.ensures, front.open_frame.ensures))
 
 pub open_ping_spec : {M : Type 1} → statement M

@@ -19,20 +19,20 @@ returns c =
     let scan = judged.before in
     let start = scan.before.before.before in
     let a = start.args in
-    refused_c narrow a.numbers.now a.values.now (handed_length a.length) a.out-1.now _ scan.first_wordless-wordless.ensures _
+    refused_c narrow a.numbers.now a.values.now (handed_length a.length) a.out.now _ scan.first_wordless-wordless.ensures _
     judged.judge_packed-judged.ensures a.msb a.header a.attribute c.in_default.is
 
 -- what is known where the lists are sound
-ready : (c : tie.In-Accepted-2) → let scan = c.before.before.before in let a = scan.args in
+ready : (c : tie.In-Accepted) → let scan = c.before.before in let a = scan.args in
     Ready 2 256 a.numbers.now (length a.values.now) scan.first_wordless-wordless.result (handed_length a.length)
-    (length a.out-1.now) c.judged-1.given.0.0
+    (length a.out.now) c.in-Accepted.counts
 ready c =
-    let judged = c.before.before in
+    let judged = c.before in
     let scan = judged.before in
     let start = scan.before.before.before in
     let a = start.args in
-    ready_c narrow a.numbers.now a.values.now (handed_length a.length) a.out-1.now _ scan.first_wordless-wordless.ensures _
-    judged.judge_packed-judged.ensures c.judged-1.given.1
+    ready_c narrow a.numbers.now a.values.now (handed_length a.length) a.out.now _ scan.first_wordless-wordless.ensures _
+    judged.judge_packed-judged.ensures c.in-Accepted.is
 
 quiet-behind-requires : tie.Need-quiet_behind-quiet-requires
 quiet-behind-requires c κs = (ready c).long
@@ -91,7 +91,7 @@ returns-2 c =
     let vs = a.values.now in
     let l = handed_length a.length in
     let y = quiet.quiet_behind-quiet.ensures.0 in
-    written_c narrow ns vs l a.out-1.now _ scan.first_wordless-wordless.ensures _
+    written_c narrow ns vs l a.out.now _ scan.first_wordless-wordless.ensures _
     (sym sound.in-Accepted.is ∙ judged.judge_packed-judged.ensures) a.msb a.header a.attribute
     words.write_words-end.result _ _ refl y
     words.write_words-end.ensures.0

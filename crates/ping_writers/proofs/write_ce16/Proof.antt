@@ -19,20 +19,20 @@ returns c =
     let scan = judged.before in
     let start = scan.before.before.before in
     let a = start.args in
-    refused_c encoded a.numbers.now a.counts.now (handed_length a.length) a.out-1.now _ scan.first_codeless-codeless.ensures _
+    refused_c encoded a.numbers.now a.counts.now (handed_length a.length) a.out.now _ scan.first_codeless-codeless.ensures _
     judged.judge_packed-judged.ensures a.msb a.header a.attribute c.in_default.is
 
 -- what is known where the lists are sound
-ready : (c : tie.In-Accepted-2) → let scan = c.before.before.before in let a = scan.args in
+ready : (c : tie.In-Accepted) → let scan = c.before.before in let a = scan.args in
     Ready 2 256 a.numbers.now (length a.counts.now) scan.first_codeless-codeless.result (handed_length a.length)
-    (length a.out-1.now) c.judged-1.given.0.0
+    (length a.out.now) c.in-Accepted.said
 ready c =
-    let judged = c.before.before in
+    let judged = c.before in
     let scan = judged.before in
     let start = scan.before.before.before in
     let a = start.args in
-    ready_c encoded a.numbers.now a.counts.now (handed_length a.length) a.out-1.now _ scan.first_codeless-codeless.ensures _
-    judged.judge_packed-judged.ensures c.judged-1.given.1
+    ready_c encoded a.numbers.now a.counts.now (handed_length a.length) a.out.now _ scan.first_codeless-codeless.ensures _
+    judged.judge_packed-judged.ensures c.in-Accepted.is
 
 quiet-behind-requires : tie.Need-quiet_behind-quiet-requires
 quiet-behind-requires c κs = (ready c).long
@@ -94,7 +94,7 @@ returns-2 c =
     let vs = a.counts.now in
     let l = handed_length a.length in
     let y = quiet.quiet_behind-quiet.ensures.0 in
-    written_c encoded ns vs l a.out-1.now _ scan.first_codeless-codeless.ensures _
+    written_c encoded ns vs l a.out.now _ scan.first_codeless-codeless.ensures _
     (sym sound.in-Accepted.is ∙ judged.judge_packed-judged.ensures) a.msb a.header a.attribute
     words.write_codes-end.result _ _ refl y
     words.write_codes-end.ensures.0

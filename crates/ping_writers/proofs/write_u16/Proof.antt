@@ -19,21 +19,21 @@ returns c =
     let least = first.before in
     let start = least.before.before.before in
     let a = start.args in
-    refused_u narrow a.numbers.now a.values.now a.out-1.now _ _ least.smaller-least.ensures
+    refused_u narrow a.numbers.now a.values.now a.out.now _ _ least.smaller-least.ensures
     first.first_drop-first.ensures _ judged.judge_plain-judged.ensures a.msb a.header a.attribute c.in_default.is
 
 -- what is known where the lists are sound
-ready : (c : tie.In-Accepted-2) → let a = c.args in
-    (length a.values.now ≡ length a.numbers.now) × Ready (length a.numbers.now) 4 (length a.out-1.now)
-    c.judged-1.given.0.0
+ready : (c : tie.In-Accepted) → let a = c.args in
+    (length a.values.now ≡ length a.numbers.now) × Ready (length a.numbers.now) 4 (length a.out.now)
+    c.in-Accepted.counts
 ready c =
-    let judged = c.before.before in
+    let judged = c.before in
     let first = judged.before in
     let least = first.before in
     let start = least.before.before.before in
     let a = start.args in
-    ready_u narrow a.numbers.now a.values.now a.out-1.now _ _ least.smaller-least.ensures
-    first.first_drop-first.ensures _ judged.judge_plain-judged.ensures c.judged-1.given.1
+    ready_u narrow a.numbers.now a.values.now a.out.now _ _ least.smaller-least.ensures
+    first.first_drop-first.ensures _ judged.judge_plain-judged.ensures c.in-Accepted.is
 
 write-opening-requires : tie.Need-write_opening-requires
 write-opening-requires c κs =
@@ -73,7 +73,7 @@ returns-2 c =
     let least = first.before in
     let start = least.before.before.before in
     let a = start.args in
-    written_u narrow a.numbers.now a.values.now a.out-1.now _ _ least.smaller-least.ensures
+    written_u narrow a.numbers.now a.values.now a.out.now _ _ least.smaller-least.ensures
     first.first_drop-first.ensures _ (sym sound.in-Accepted.is ∙ judged.judge_plain-judged.ensures) a.msb a.header a.attribute
     (24 + 4 * length a.numbers.now) _ refl (omega arith)
     (rw (

@@ -21,26 +21,26 @@ returns c =
     let same = inner.before in
     let start = same.before.before.before in
     let a = start.args in
-    refused_a narrow_angles a.numbers.now a.alongship.now a.athwartship.now a.out-1.now
+    refused_a narrow_angles a.numbers.now a.alongship.now a.athwartship.now a.out.now
     _ same.same-equal.ensures _ _ _ inner.smaller.ensures least.smaller-least.ensures
     first.first_drop-first.ensures _ judged.judge_plain-judged.ensures a.msb a.header a.attribute c.in_default.is
 
 -- what is known where the lists are sound
-ready : (c : tie.In-Accepted-2) → let a = c.args in
+ready : (c : tie.In-Accepted) → let a = c.args in
     (length a.alongship.now ≡ length a.numbers.now) × (length a.athwartship.now ≡ length a.numbers.now)
-    × Ready (length a.numbers.now) 6 (length a.out-1.now)
-    c.judged-1.given.0.0
+    × Ready (length a.numbers.now) 6 (length a.out.now)
+    c.in-Accepted.counts
 ready c =
-    let judged = c.before.before in
+    let judged = c.before in
     let first = judged.before in
     let least = first.before in
     let inner = least.before in
     let same = inner.before in
     let start = same.before.before.before in
     let a = start.args in
-    ready_a narrow_angles a.numbers.now a.alongship.now a.athwartship.now a.out-1.now
+    ready_a narrow_angles a.numbers.now a.alongship.now a.athwartship.now a.out.now
     _ same.same-equal.ensures _ _ _ inner.smaller.ensures least.smaller-least.ensures
-    first.first_drop-first.ensures _ judged.judge_plain-judged.ensures c.judged-1.given.1
+    first.first_drop-first.ensures _ judged.judge_plain-judged.ensures c.in-Accepted.is
 
 write-opening-requires : tie.Need-write_opening-requires
 write-opening-requires c κs =
@@ -82,7 +82,7 @@ returns-2 c =
     let same = inner.before in
     let start = same.before.before.before in
     let a = start.args in
-    written_a narrow_angles a.numbers.now a.alongship.now a.athwartship.now a.out-1.now
+    written_a narrow_angles a.numbers.now a.alongship.now a.athwartship.now a.out.now
     _ same.same-equal.ensures _ _ _ inner.smaller.ensures least.smaller-least.ensures
     first.first_drop-first.ensures _ (sym sound.in-Accepted.is ∙ judged.judge_plain-judged.ensures) a.msb a.header a.attribute
     (24 + 6 * length a.numbers.now) _ refl (omega arith)

@@ -24,7 +24,7 @@ returns c =
     let h = g.before in
     let s = h.requires in
     fields-there s _ _ _ _ _ h.header_at.ensures
-    (to_z-of_z {w = w32} {z = g.signed4_at.result} (record { sfits = g.signed4_at.type-inv }) ∙ g.signed4_at.ensures)
+    (to_z-of_z {w = w32} {z = g.signed4_at.result} (record { sfits = g.signed4_at.type_inv }) ∙ g.signed4_at.ensures)
     t.kind_of.ensures n.count_values.ensures c.length_by.ensures
 
 pub fields_at_spec : {M : Type 1} → statement M

@@ -15,7 +15,7 @@ returns c =
     let n = c.before.before in
     let a = (start n).args in
     rw c.refuse.ensures
-    (lacking-numbers _ a.numbers-1.now a.alongship-1.now a.athwartship-1.now
+    (lacking-numbers _ a.numbers.now a.alongship.now a.athwartship.now
     (rw (← n.count_values-n.ensures) c.if-numbers-n.true))
 
 returns-2 : tie.Need-returns-then-alongship-n
@@ -23,7 +23,7 @@ returns-2 c =
     let n = c.before.before.before in
     let a = (start n).args in
     rw c.refuse-then-alongship-n.ensures
-    (lacking-alongship _ a.numbers-1.now a.alongship-1.now a.athwartship-1.now
+    (lacking-alongship _ a.numbers.now a.alongship.now a.athwartship.now
     (rw (← n.count_values-n.ensures) c.if-alongship-n.true))
 
 returns-3 : tie.Need-returns-then-athwartship-n
@@ -31,12 +31,12 @@ returns-3 c =
     let n = c.before.before.before.before in
     let a = (start n).args in
     rw c.refuse-then-athwartship-n.ensures
-    (lacking-athwartship _ a.numbers-1.now a.alongship-1.now a.athwartship-1.now
+    (lacking-athwartship _ a.numbers.now a.alongship.now a.athwartship.now
     (rw (← n.count_values-n.ensures) c.if-athwartship-n.true))
 
 -- no slice is short
 room : (c : tie.Else-athwartship-n) → let a = (start c.before.before.before).args in
-    AngleRoom (part_samples (shape_of a.code) a.msb a.part.now) a.numbers-1.now a.alongship-1.now a.athwartship-1.now
+    AngleRoom (part_samples (shape_of a.code) a.msb a.part.now) a.numbers.now a.alongship.now a.athwartship.now
 room c =
     let n = c.before.before.before in
     record {
@@ -59,7 +59,7 @@ returns-4 c =
     let a = (start n).args in
     let e = r.take_angles.ensures in
     rw (c.accept.ensures, n.count_values-n.ensures)
-    (handed-angles _ a.numbers-1.now a.alongship-1.now a.athwartship-1.now (room k) e.0 e.1.0 e.1.1)
+    (handed-angles _ a.numbers.now a.alongship.now a.athwartship.now (room k) e.0 e.1.0 e.1.1)
 
 pub hand_angles_spec : {M : Type 1} → statement M
 hand_angles_spec =

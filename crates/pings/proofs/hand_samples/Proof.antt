@@ -15,18 +15,18 @@ returns c =
     let n = c.before.before in
     let a = (start n).args in
     rw c.refuse.ensures
-    (short-numbers _ _ a.numbers-1.now a.values-1.now (rw (← n.count_values-n.ensures) c.if-numbers-n.true))
+    (short-numbers _ _ a.numbers.now a.values.now (rw (← n.count_values-n.ensures) c.if-numbers-n.true))
 
 returns-2 : tie.Need-returns-then-values-n
 returns-2 c =
     let n = c.before.before.before in
     let a = (start n).args in
     rw c.refuse-then-values-n.ensures
-    (short-values _ _ a.numbers-1.now a.values-1.now (rw (← n.count_values-n.ensures) c.if-values-n.true))
+    (short-values _ _ a.numbers.now a.values.now (rw (← n.count_values-n.ensures) c.if-values-n.true))
 
 -- neither slice is short
 room : (c : tie.Else-values-n) → let a = (start c.before.before).args in
-    Room (part_samples (shape_of a.code) a.msb a.part.now) a.numbers-1.now a.values-1.now
+    Room (part_samples (shape_of a.code) a.msb a.part.now) a.numbers.now a.values.now
 room c =
     let n = c.before.before in
     record {
@@ -47,7 +47,7 @@ returns-3 c =
     let n = k.before.before in
     let a = (start n).args in
     rw (c.accept.ensures, n.count_values-n.ensures)
-    (handed _ _ a.numbers-1.now a.values-1.now (room k) r.take_samples.ensures.0 r.take_samples.ensures.1)
+    (handed _ _ a.numbers.now a.values.now (room k) r.take_samples.ensures.0 r.take_samples.ensures.1)
 
 pub hand_samples_spec : {M : Type 1} → statement M
 hand_samples_spec =

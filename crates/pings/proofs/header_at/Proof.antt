@@ -20,7 +20,7 @@ returns c =
       transmitter_mode = c.read2-3.ensures i;
       ping_number = c.read4-2.ensures i;
       detected_bottom_range =
-          (to_z-of_z {w = w32} {z = c.signed4_at.result} (record { sfits = c.signed4_at.type-inv }) ∙ c.signed4_at.ensures) i;
+          (to_z-of_z {w = w32} {z = c.signed4_at.result} (record { sfits = c.signed4_at.type_inv }) ∙ c.signed4_at.ensures) i;
     })
     ∙ ap header_of (sym (values-at a.msb ping_row a.file.now a.place 6))
 

@@ -14,15 +14,15 @@ use Rattle.pings.proofs.read_angles.Statement.{statement}
 use Rattle.pings.proofs.read_angles.Tie as tie
 
 -- the ping that was opened: a listed one, long enough for a sample, in the file
-opened : (m : tie.In-Tuple-2) → let a = m.args in
-    Readable is_angled a.file.now a.place m.msb-1.given.0.0 m.msb-1.given.0.1.0 m.msb-1.given.0.1.1.0
-opened m = rw m.msb-1.given.1 at m.open_angled.ensures
+opened : (m : tie.In-Tuple) → let a = m.args in
+    Readable is_angled a.file.now a.place m.in-Tuple.msb m.in-Tuple.whole m.in-Tuple.code
+opened m = rw m.in-Tuple.is at m.open_angled.ensures
 
-listed : (m : tie.In-Tuple-2) → is_ping m.msb-1.given.0.1.1.0 ≡ true
+listed : (m : tie.In-Tuple) → is_ping m.in-Tuple.code ≡ true
 listed m = holder_ping 2 _ (opened m).asks
 
-room : (m : tie.In-Tuple-2) → let a = m.args in
-    (36 ≤ m.msb-1.given.0.1.0) × (m.msb-1.given.0.1.0 ≤ 262144) × (a.place + m.msb-1.given.0.1.0 ≤ length a.file.now)
+room : (m : tie.In-Tuple) → let a = m.args in
+    (36 ≤ m.in-Tuple.whole) × (m.in-Tuple.whole ≤ 262144) × (a.place + m.in-Tuple.whole ≤ length a.file.now)
 room m = whole-there (opened m) (listed m)
 
 hand-angles-requires : tie.Need-hand_angles-requires

@@ -38,7 +38,7 @@ returns c =
     let m = r.before.before.before.before in
     let a = (start m.before).args in
     let e = r.read_wide.ensures in
-    says-angles (of-wide m) a.numbers-1.now a.alongship-1.now a.athwartship-1.now e.0 e.1.0 e.1.1
+    says-angles (of-wide m) a.numbers.now a.alongship.now a.athwartship.now e.0 e.1.0 e.1.1
 
 returns-2 : tie.Need-returns-in_default
 returns-2 c =
@@ -46,7 +46,7 @@ returns-2 c =
     let m = r.before.before.before.before in
     let a = (start m.before).args in
     let e = r.read_narrow.ensures in
-    says-angles (of_narrow m) a.numbers-1.now a.alongship-1.now a.athwartship-1.now e.0 e.1.0 e.1.1
+    says-angles (of_narrow m) a.numbers.now a.alongship.now a.athwartship.now e.0 e.1.0 e.1.1
 
 pub take_angles_spec : {M : Type 1} → statement M
 take_angles_spec =

@@ -24,7 +24,7 @@ abbrev start : tie.After-slice_known-1 → tie.Start
 start k = k.before.before
 
 room : (k : tie.After-slice_known-1) → let a = (start k).args in
-    Room (part_samples (shape_of a.code) a.msb a.part.now) a.numbers-1.now a.values-1.now
+    Room (part_samples (shape_of a.code) a.msb a.part.now) a.numbers.now a.values.now
 room k = (start k).requires.1.1
 
 -- ---- the shapes of the compressed types, the last of which is left behind the arms
@@ -106,35 +106,35 @@ returns c =
     let r = c.before.before.before in
     let m = r.before.before.before in
     let a = (start m.before).args in
-    says-left (of-pairs m) a.numbers-1.now a.values-1.now r.read_pairs.ensures.0 r.read_pairs.ensures.1
+    says-left (of-pairs m) a.numbers.now a.values.now r.read_pairs.ensures.0 r.read_pairs.ensures.1
 
 returns-2 : tie.Need-returns-in-10010
 returns-2 c =
     let r = c.before.before.before in
     let m = r.before.before.before.before in
     let a = (start m.before).args in
-    says-left (of_words m) a.numbers-1.now a.values-1.now r.read_words.ensures.0 r.read_words.ensures.1
+    says-left (of_words m) a.numbers.now a.values.now r.read_words.ensures.0 r.read_words.ensures.1
 
 returns-3 : tie.Need-returns-in-10030
 returns-3 c =
     let r = c.before.before.before in
     let m = r.before.before.before in
     let a = (start m.before).args in
-    says-left (of-u16 m) a.numbers-1.now a.values-1.now r.read_samples.ensures.0 r.read_samples.ensures.1
+    says-left (of-u16 m) a.numbers.now a.values.now r.read_samples.ensures.0 r.read_samples.ensures.1
 
 returns-4 : tie.Need-returns-in-10040
 returns-4 c =
     let r = c.before.before.before in
     let w = r.before.before.before.before in
     let a = (start w.before.before).args in
-    says-left (of-c16 w) a.numbers-1.now a.values-1.now r.read_words-in-10040.ensures.0 r.read_words-in-10040.ensures.1
+    says-left (of-c16 w) a.numbers.now a.values.now r.read_words-in-10040.ensures.0 r.read_words-in-10040.ensures.1
 
 returns-5 : tie.Need-returns-in_default
 returns-5 c =
     let r = c.before.before.before in
     let w = r.before.before.before.before in
     let a = (start w.before.before).args in
-    says-left (of-ce16 w) a.numbers-1.now a.values-1.now r.read_words-in_default.ensures.0 r.read_words-in_default.ensures.1
+    says-left (of-ce16 w) a.numbers.now a.values.now r.read_words-in_default.ensures.0 r.read_words-in_default.ensures.1
 
 pub take_samples_spec : {M : Type 1} → statement M
 take_samples_spec =

@@ -39,7 +39,7 @@ returns c =
     let spanned = k.before.before.before in
     let s = start spanned in
     let a = s.args in
-    let n = length a.cases-1.now in
+    let n = length a.cases.now in
     let span = spanned.span_of-span.ensures in
     let rising = rises _ s.requires.0.rising in (
       filled-window case_in a.ping.quantity span rising a.first n k.clear.ensures.0 lain.lay.ensures.0,

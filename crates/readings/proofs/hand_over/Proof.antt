@@ -16,7 +16,7 @@ start k = k.before.before.before.before
 
 -- it has readings, so it has values
 has : (k : tie.Else-not-has_readings) → let x = (start k.before).args.ping in has_readings x.quantity (family_of x.code) ≡ true
-has k = sym k.has_readings.ensures ∙ not-false _ k.if-not-has_readings.false
+has k = sym k.has_readings.ensures ∙ not-false _ k.if-not-has_readings.false-raw
 
 valued : (k : tie.Else-not-has_readings) → is_valued (start k.before).args.ping.code ≡ true
 valued k = let x = (start k.before).args.ping in valued_by x.quantity x.code (start k.before).requires.listed (has k)
@@ -25,7 +25,7 @@ returns : tie.Need-returns-then-not-has_readings
 returns c =
     let k = c.before.before in
     let a = (start k).args in
-    refused_over a.ping a.counts a.first (sym k.has_readings.ensures ∙ not-true _ c.if-not-has_readings.true) _ _
+    refused_over a.ping a.counts a.first (sym k.has_readings.ensures ∙ not-true _ c.if-not-has_readings.true-raw) _ _
     c.refuse.ensures
 
 fill-requires : tie.Need-fill-requires
@@ -43,7 +43,7 @@ returns-2 c =
     let k = n.before in
     let a = (start k.before).args in
     let m = n.shorter_of-n.ensures in
-    handed-over a.ping a.counts a.first (has k) a.cases-1.now a.doubles-1.now m.0 m.1 over.fill.ensures.0
+    handed-over a.ping a.counts a.first (has k) a.cases.now a.doubles.now m.0 m.1 over.fill.ensures.0
     over.fill.ensures.1
 
 pub hand_over_spec : {M : Type 1} → statement M

@@ -13,7 +13,7 @@ returns : tie.Need-returns-then-not-is_valued
 returns c =
     let k = c.before in
     let s = k.before in
-    sym (has-none s.args.quantity s.args.code s.requires (sym k.is_valued.ensures ∙ not-true _ c.if-not-is_valued.true))
+    sym (has-none s.args.quantity s.args.code s.requires (sym k.is_valued.ensures ∙ not-true _ c.if-not-is_valued.true-raw))
 
 -- what the samples are told to be
 told : (c : tie.Else-not-is_valued) {x : Quantity} → let a = c.args in
@@ -21,7 +21,7 @@ told : (c : tie.Else-not-is_valued) {x : Quantity} → let a = c.args in
 told c e =
     let k = c.before in
     let s = k.before in
-    let valued = sym k.is_valued.ensures ∙ not-false _ c.if-not-is_valued.false in
+    let valued = sym k.is_valued.ensures ∙ not-false _ c.if-not-is_valued.false-raw in
     ap is_read (sym e) ∙ sym (has-valued s.args.quantity s.args.code s.requires valued)
 
 pub has_readings_spec : {M : Type 1} → statement M

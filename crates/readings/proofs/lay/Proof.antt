@@ -72,8 +72,8 @@ loop-again c =
       omega (arith, s.near, width.0),
       ap length laid.0 ∙ length-laid _ _ _ _ ∙ l.invariant.2,
       ap length laid.1 ∙ length-laid _ _ _ _ ∙ l.invariant.3,
-      laid-turn case_in a.quantity s width.0 divisor a.first l.cases-1 laid.0 ∙ l.invariant.4,
-      laid-turn double_in a.quantity s width.0 divisor a.first l.doubles-1 laid.1 ∙ l.invariant.5,
+      laid-turn case_in a.quantity s width.0 divisor a.first l.cases laid.0 ∙ l.invariant.4,
+      laid-turn double_in a.quantity s width.0 divisor a.first l.doubles laid.1 ∙ l.invariant.5,
     )
 
 returns : tie.Need-returns invariant-loop decreases-loop

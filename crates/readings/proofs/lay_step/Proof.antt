@@ -24,10 +24,10 @@ returns c =
     let z : read.reading_of.result ≡ cased a.quantity (double_of a.it.value a.divisor) =
     read.reading_of.ensures ∙ ap (λ (z : ℤ). cased a.quantity (double_of z a.divisor)) v in (
       laying.put_reading.ensures.0
-          ∙ ap₂ (λ (n : ℕ) (x : Reading). put a.first a.cases-1.now n (case_in x)) wide.wide.ensures z
+          ∙ ap₂ (λ (n : ℕ) (x : Reading). put a.first a.cases.now n (case_in x)) wide.wide.ensures z
           ∙ sym (laid_sample _ _ _ a.it then.if-it.true),
       laying.put_reading.ensures.1
-          ∙ ap₂ (λ (n : ℕ) (x : Reading). put a.first a.doubles-1.now n (double_in x)) wide.wide.ensures z
+          ∙ ap₂ (λ (n : ℕ) (x : Reading). put a.first a.doubles.now n (double_in x)) wide.wide.ensures z
           ∙ sym (laid_sample _ _ _ a.it then.if-it.true),
     )
 

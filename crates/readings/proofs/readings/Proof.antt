@@ -11,19 +11,19 @@ use Rattle.readings.proofs.readings.Tie as tie
 abbrev start : tie.After-check → tie.Start
 start k = k.before.before.before.before
 
-accepted : (c : tie.In-Accepted-2) → check_file (start c.before.before).args.file.now ≡ Accepted c.counts-1.given.0.0
-accepted c = sym c.check.ensures.is ∙ c.counts-1.given.1
+accepted : (c : tie.In-Accepted) → check_file (start c.before).args.file.now ≡ Accepted c.in-Accepted.counts
+accepted c = sym c.check.ensures.is ∙ c.in-Accepted.is
 
 find-requires : tie.Need-find-requires
 find-requires c κs = record { counts-1 = c.in-Accepted.counts; answer = accepted c }
 
 -- the linked ping
-found : (c : tie.In-Ping-2) → let a = (start c.before.before.before.before).args in
-    FoundPing a.file.now a.place c.ping-1.given.0.0
+found : (c : tie.In-Ping) → let a = (start c.before.before.before).args in
+    FoundPing a.file.now a.place c.in-Ping.ping
 found c =
-    let k = c.before.before in
+    let k = c.before in
     let a = (start k.before.before).args in
-    subst (FoundAt a.file.now a.place) c.ping-1.given.1 k.find.ensures
+    subst (FoundAt a.file.now a.place) c.in-Ping.is k.find.ensures
 
 hand-over-requires : tie.Need-hand_over-requires
 hand-over-requires c κs = (found c.before.before).here

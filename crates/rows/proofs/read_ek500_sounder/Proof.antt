@@ -31,14 +31,14 @@ read-row-requires c κs =
     let t = c.before.before.before in
     let d = start t in
     let a = d.args in
-    first-asks _ _ _ _ _ (parted t.row-row.ensures) a.file.now a.numbers-1.now a.at d.requires.0 d.requires.1
+    first-asks _ _ _ _ _ (parted t.row-row.ensures) a.file.now a.numbers.now a.at d.requires.0 d.requires.1
 
 read-row-requires-2 : tie.Need-read_row-requires-2
 read-row-requires-2 c κs =
-    let t = rowed c.before.before.before.before.before in
+    let t = rowed c.before.before.before.before.before.before in
     let d = start t in
     let a = d.args in
-    let x = other-asks _ _ _ _ _ (parted t.row-row.ensures) a.file.now a.numbers-1.now a.at d.requires.0 d.requires.1 in
+    let x = other-asks _ _ _ _ _ (parted t.row-row.ensures) a.file.now a.numbers.now a.at d.requires.0 d.requires.1 in
     (x.0, (x.1.0, omega (arith, x.1.1)))
 
 returns : tie.Need-returns
@@ -47,7 +47,7 @@ returns c =
     let f = first_read q in
     let t = rowed f in
     let a = (start t).args in
-    both _ _ _ _ _ (parted t.row-row.ensures) a.msb a.file.now a.numbers-1.now a.at f.read_row.ensures
+    both _ _ _ _ _ (parted t.row-row.ensures) a.msb a.file.now a.numbers.now a.at f.read_row.ensures
     q.read_row-2.ensures
 
 pub read_ek500_sounder_spec : {M : Type 1} → statement M

@@ -30,7 +30,7 @@ module _ (s : tie.Start) {k n : ℕ} {r : List ℕ} (e : s.args.listing ≡ k) (
   -- what its call asks
   asked : let a = s.args in
       (length (take n r) ≤ length (fields_of (take n r)))
-      × ((a.at + size (fields_of (take n r)) ≤ length a.file.now) × (0 + many (fields_of (take n r)) ≤ length a.numbers-1.now))
+      × ((a.at + size (fields_of (take n r)) ≤ length a.file.now) × (0 + many (fields_of (take n r)) ≤ length a.numbers.now))
   asked =
       let l = ap (λ (fs : List Field). length fs) of_listing in
       let m = ap (λ (i : ℕ). length (listed_fields i)) e in
@@ -40,21 +40,21 @@ module _ (s : tie.Start) {k n : ℕ} {r : List ℕ} (e : s.args.listing ≡ k) (
 
   -- and what it leaves
   left : {numbers : List ℕ} → let a = s.args in
-      numbers ≡ sets a.numbers-1.now 0 (numbers_in (values_of a.msb (fields_of (take n r)) (drop a.at a.file.now)))
-      → numbers ≡ sets a.numbers-1.now 0 (numbers_in (values_of a.msb (listed_fields a.listing) (drop a.at a.file.now)))
+      numbers ≡ sets a.numbers.now 0 (numbers_in (values_of a.msb (fields_of (take n r)) (drop a.at a.file.now)))
+      → numbers ≡ sets a.numbers.now 0 (numbers_in (values_of a.msb (listed_fields a.listing) (drop a.at a.file.now)))
   left g =
       let a = s.args in
-      g ∙ ap (λ (fs : List Field). sets a.numbers-1.now 0 (numbers_in (values_of a.msb fs (drop a.at a.file.now)))) of_listing
+      g ∙ ap (λ (fs : List Field). sets a.numbers.now 0 (numbers_in (values_of a.msb fs (drop a.at a.file.now)))) of_listing
 
 -- in an arm that reads its row in parts: what its call asks, and what it leaves
 module _ (s : tie.Start) (k : ℕ) (e : s.args.listing ≡ k) where
   parts-asked : let a = s.args in
-      (a.at + size (listed_fields k) ≤ length a.file.now) × (many (listed_fields k) ≤ length a.numbers-1.now)
+      (a.at + size (listed_fields k) ≤ length a.file.now) × (many (listed_fields k) ≤ length a.numbers.now)
   parts-asked = rw e at s.requires.1
 
   parts-left : {numbers : List ℕ} → let a = s.args in
-      numbers ≡ sets a.numbers-1.now 0 (numbers_in (values_of a.msb (listed_fields k) (drop a.at a.file.now)))
-      → numbers ≡ sets a.numbers-1.now 0 (numbers_in (values_of a.msb (listed_fields a.listing) (drop a.at a.file.now)))
+      numbers ≡ sets a.numbers.now 0 (numbers_in (values_of a.msb (listed_fields k) (drop a.at a.file.now)))
+      → numbers ≡ sets a.numbers.now 0 (numbers_in (values_of a.msb (listed_fields a.listing) (drop a.at a.file.now)))
   parts-left g = rw e g
 
 -- behind the fourteen arms one listing is left
@@ -164,7 +164,7 @@ read_listed_spec =
     (λ c. search rules)
     (λ c κs. let r = c.before.before.before in
     let m = r.before in
-    asked m.before.before.before (last m) r.row-in_default.ensures refl)
+    asked m.before.before.before (last m.before) r.row-in_default.ensures refl)
     (λ c. search rules)
     (λ c. let t = c.before.before in
     let r = t.before.before.before.before in
@@ -236,4 +236,4 @@ read_listed_spec =
     (λ c. let t = c.before.before in
     let r = t.before.before.before.before in
     let m = r.before in
-    left m.before.before.before (last m) r.row-in_default.ensures refl t.read_row-in_default.ensures))
+    left m.before.before.before (last m.before) r.row-in_default.ensures refl t.read_row-in_default.ensures))

@@ -13,7 +13,7 @@ returns : tie.Need-returns-in-Refused
 returns c =
     let o = c.before in
     let a = o.args in
-    unopened a.code-1 a.file.now a.place a.numbers-1.now _ _ (rw c.in-Refused.is at o.open_record.ensures)
+    unopened a.code a.file.now a.place a.numbers.now _ _ (rw c.in-Refused.is at o.open_record.ensures)
 
 pub read_row_spec : {M : Type 1} → statement M
 read_row_spec =

@@ -94,14 +94,14 @@ returns-2 c =
     let m = e.before in
     let d = start m.before in
     let a = d.args in
-    taken d.requires a.numbers-1.now _ (many-told m) e.if-numbers-many.false _ _
+    taken d.requires a.numbers.now _ (many-told m) e.if-numbers-many.false _ _
     (λ i. record {
       place = ap (λ (n : ℕ). a.place + 6 + n) (before-told m) i;
       length = (ap (λ (n : ℕ). a.whole - 14 - n) (bare-told m) ∙ text-there d.requires) i;
     })
     (λ i. sets
     ((q.read_listed.ensures
-    ∙ ap (λ (fs : List Field). sets a.numbers-1.now 0 (numbers_in (values_of a.msb fs (drop (a.place + 6) a.file.now))))
+    ∙ ap (λ (fs : List Field). sets a.numbers.now 0 (numbers_in (values_of a.msb fs (drop (a.place + 6) a.file.now))))
     (in_row m.before))
     i)
     (get_or m.measure-measure.result 0 0)
@@ -119,17 +119,17 @@ take_row_spec =
     (λ c κs. listed c)
     (λ c. search rules)
     returns
-    (λ c. let d = start c.before.before in omega (arith, (inside d).0, (inside d).1, d.good.0.0))
+    (λ c. let d = start c.before.before in omega (arith, (inside d).0, (inside d).1, d.well_formed.0.0))
     read-listed-requires
-    (λ c. let d = attribute c in omega (arith, (inside d).0, d.good.0.0))
+    (λ c. let d = attribute c in omega (arith, (inside d).0, d.well_formed.0.0))
     (λ c. let d = attribute c in omega (arith, (inside d).1))
     (λ c κs. let d = attribute c in omega (arith, (inside d).0, (inside d).1))
     (λ c. search rules)
     (λ c. search rules)
-    (λ c. let d = started c in omega (arith, (inside d).0, (inside d).1, d.good.0.0))
+    (λ c. let d = started c in omega (arith, (inside d).0, (inside d).1, d.well_formed.0.0))
     (λ c. search rules)
     (λ c. let d = started c in
-    omega (arith, (inside d).0, (inside d).1, d.good.0.0, before-told (measuring c), before-size (fields (measuring c).before)))
+    omega (arith, (inside d).0, (inside d).1, d.well_formed.0.0, before-told (measuring c), before-size (fields (measuring c).before)))
     (λ c. let d = started c in omega (arith, (inside d).1))
     (λ c. search rules)
     (λ c. let d = started c in omega (arith, (inside d).1, bare-told (measuring c), bare-size (fields (measuring c).before)))

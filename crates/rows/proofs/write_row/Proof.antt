@@ -51,14 +51,14 @@ recorded : (r : tie.After-is_record) → r.is_record.result ≡ is_record (start
 recorded r = r.is_record.ensures
 
 is : (e : tie.Else-not-is_record) → is_record (start e.before).args.code ≡ true
-is e = sym (recorded e.before) ∙ not-false _ e.if-not-is_record.false
+is e = sym (recorded e.before) ∙ not-false _ e.if-not-is_record.false-raw
 
 returns : tie.Need-returns-then-not-is_record
 returns c =
     let r = c.before.before in
     let a = (start r).args in
-    rw c.refuse.ensures (no_record a.code a.numbers.now a.text.now a.msb a.out-1.now
-    (sym (recorded r) ∙ not-true _ c.if-not-is_record.true))
+    rw c.refuse.ensures (no_record a.code a.numbers.now a.text.now a.msb a.out.now
+    (sym (recorded r) ∙ not-true _ c.if-not-is_record.true-raw))
 
 -- ---- its listing, and what the tables say of it
 at-listing : (l : tie.After-listing_of) → l.listing_of.result ≡ place_in (start l.before.before).args.code
@@ -89,7 +89,7 @@ returns-2 c =
     let m = c.before.before in
     let a = (start (typed_at m)).args in
     rw c.refuse-then-numbers-many.ensures
-    (too_few a.code a.numbers.now a.text.now a.msb a.out-1.now (is m.before.before) (many-told m)
+    (too_few a.code a.numbers.now a.text.now a.msb a.out.now (is m.before.before) (many-told m)
     c.if-numbers-many.true)
 
 -- ---- its length
@@ -109,9 +109,9 @@ returns-3 c =
     let m = f.before.before in
     let a = (start (typed_at m)).args in
     rw c.refuse-then-not-fits.ensures
-    (unfit a.code a.numbers.now a.text.now a.msb a.out-1.now (is m.before.before) (many-told m) f.if-numbers-many.false
+    (unfit a.code a.numbers.now a.text.now a.msb a.out.now (is m.before.before) (many-told m) f.if-numbers-many.false
     (as-length m)
-    (sym (fitted f) ∙ not-true _ c.if-not-fits.true))
+    (sym (fitted f) ∙ not-true _ c.if-not-fits.true-raw))
 
 returns-4 : tie.Need-returns-then-whole-gt-MOST
 returns-4 c =
@@ -120,9 +120,9 @@ returns-4 c =
     let m = f.before.before in
     let a = (start (typed_at m)).args in
     rw c.refuse-then-whole-gt-MOST.ensures
-    (over a.code a.numbers.now a.text.now a.msb a.out-1.now (is m.before.before) (many-told m) f.if-numbers-many.false
+    (over a.code a.numbers.now a.text.now a.msb a.out.now (is m.before.before) (many-told m) f.if-numbers-many.false
     (as-length m)
-    (sym (fitted f) ∙ not-false _ e.if-not-fits.false) c.if-whole-gt-MOST.true)
+    (sym (fitted f) ∙ not-false _ e.if-not-fits.false-raw) c.if-whole-gt-MOST.true)
 
 -- ---- all rules are kept
 kept : (l : tie.Else-whole-gt-MOST)
@@ -137,7 +137,7 @@ kept l =
       numbers = many-told m;
       there = f.if-numbers-many.false;
       whole = as-length m;
-      fits = sym (fitted f) ∙ not-false _ l.if-not-fits.false;
+      fits = sym (fitted f) ∙ not-false _ l.if-not-fits.false-raw;
       most = l.if-whole-gt-MOST.false;
     }
 
@@ -161,18 +161,18 @@ returns-5 c =
     let w = c.before.before in
     let h = w.before.before.before in
     let g = h.before in
-    own-written (kept (kept_at g)) _ _ _
-    (ap (pattern_of 4) (to_z-of_z {w = w32} {z = g.signed4-attribute.result} (record { sfits = g.signed4-attribute.type-inv })) ∙ last g)
-    (own-less h) w.write_tuple.ensures
+    own-written (kept (kept_at g.before)) _ _ _
+    (ap (pattern_of 4) (to_z-of_z {w = w32} {z = g.signed4-attribute.result} (record { sfits = g.signed4-attribute.type_inv })) ∙ last g.before)
+    (own-less h.before) w.write_tuple.ensures
 
 returns-6 : tie.Need-returns
 returns-6 c =
     let w = c.before.before in
     let h = w.before.before.before in
     let g = h.before in
-    behind-written (kept (kept_at g)) _ _ _
-    (ap (pattern_of 4) (to_z-of_z {w = w32} {z = g.signed4-attribute.result} (record { sfits = g.signed4-attribute.type-inv })) ∙ last g)
-    (behind-full h) w.write_tuple-2.ensures
+    behind-written (kept (kept_at g.before)) _ _ _
+    (ap (pattern_of 4) (to_z-of_z {w = w32} {z = g.signed4-attribute.result} (record { sfits = g.signed4-attribute.type_inv })) ∙ last g.before)
+    (behind-full h.before) w.write_tuple-2.ensures
 
 -- the row is small, and a slice's length is far from the largest number
 few_bytes : (m : tie.After-measure-measure) → get_or m.measure-measure.result 2 0 ≤ 255
@@ -205,10 +205,10 @@ write_row_spec =
     (λ c κs. search rules)
     (λ c. search rules)
     (λ c. search rules)
-    (λ c κs. let h = c.before.before in own_handable (kept (kept_at h.before)) (own-less h))
+    (λ c κs. let h = c.before.before in own_handable (kept (kept_at h.before.before.before.before.before)) (own-less h.before.before.before.before))
     (λ c. search rules)
     returns-5
     (λ c. search rules)
-    (λ c κs. let h = c.before.before in behind_handable (kept (kept_at h.before)) (behind-full h))
+    (λ c κs. let h = c.before.before in behind_handable (kept (kept_at h.before.before.before.before.before)) (behind-full h.before.before.before.before))
     (λ c. search rules)
     returns-6)

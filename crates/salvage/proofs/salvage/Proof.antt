@@ -16,7 +16,7 @@ marking c = c.before.before
 
 -- the file has its mark
 has-mark : (c : tie.Else-not-is_marked) → marked (marking c).args.file.now ≡ true
-has-mark c = sym c.is_marked.ensures ∙ not-false _ c.if-not-is_marked.false
+has-mark c = sym c.is_marked.ensures ∙ not-false _ c.if-not-is_marked.false-raw
 
 returns : tie.Need-returns-then-file-gt-LIMIT
 returns c = rw c.refuse.ensures (over-limit _ _ _ c.if-file-gt-LIMIT.true)
@@ -25,7 +25,7 @@ returns-2 : tie.Need-returns-then-not-is_marked
 returns-2 c =
     let m = c.before.before in
     rw c.refuse-then-not-is_marked.ensures
-    (no_mark _ _ _ m.if-file-gt-LIMIT.false (sym m.is_marked.ensures ∙ not-true _ c.if-not-is_marked.true))
+    (no_mark _ _ _ m.if-file-gt-LIMIT.false (sym m.is_marked.ensures ∙ not-true _ c.if-not-is_marked.true-raw))
 
 -- the sums, where there are some, are of the file's order
 save-requires : tie.Need-save-requires

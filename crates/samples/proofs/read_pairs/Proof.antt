@@ -48,7 +48,7 @@ loop-again : tie.Need-loop-p-preserved invariant-loop decreases-loop
 loop-again c =
     let head = c.before.before.before.before in
     let a = head.args in
-    let v = to_z-of_z {w = w32} {z = c.signed4.result} (record { sfits = c.signed4.type-inv })
+    let v = to_z-of_z {w = w32} {z = c.signed4.result} (record { sfits = c.signed4.type_inv })
     ∙ c.signed4.ensures
     ∙ ap (signed_of 4) (c.read4-in-loop-p.ensures ∙ value-at wide refl a.msb a.part.now head.loop-p.p) in
     (omega arith, omega arith, handing_one _ _ v (next c.before.before))

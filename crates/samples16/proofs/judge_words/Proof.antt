@@ -86,7 +86,7 @@ good c =
     let p = placed (record { before = found; find_bad-at = x.2 }) in
     sym (le-ltb (first_bad (lettered w) (these w)) (length (these w)) (omega (arith, x.3.false, p, ended w))))
     (λ x. sym (bad-held (lettered w) a.count (all_words 2 a.msb a.part.now) (sym w.look-seen.ensures.1.0 ∙ x.false)))
-    c.if-seen.branch
+    c.if-seen.branch-raw
 
 returns : tie.Need-returns-then-values-gt-MOST
 returns c =

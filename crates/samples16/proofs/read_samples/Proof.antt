@@ -48,10 +48,10 @@ slice-set-from-values c = entry-values (next c.before.before)
 
 -- the value here, read through its bits
 held : (c : tie.After-signed2 invariant-loop decreases-loop) → to_z w16 (of_z w16 c.signed2.result) ≡ c.signed2.result
-held c = to_z-of_z w16 c.signed2.result (record { sfits = c.signed2.type-inv })
+held c = to_z-of_z w16 c.signed2.result (record { sfits = c.signed2.type_inv })
 
 cast-values : tie.Need-overflow_cast-values invariant-loop decreases-loop
-cast-values c = subst (SFits w32) (sym (held c)) (record { sfits = widens c.signed2.result c.signed2.type-inv })
+cast-values c = subst (SFits w32) (sym (held c)) (record { sfits = widens c.signed2.result c.signed2.type_inv })
 
 loop-again : tie.Need-loop-p-preserved invariant-loop decreases-loop
 loop-again c =

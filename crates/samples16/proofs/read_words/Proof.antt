@@ -96,7 +96,7 @@ loop-again c =
       omega (arith, w.4),
       rw (w.2, w.3, w.4, w.5) (handing_one _ _ v (value (record { before = run; if-is_run = w.0 }))),
     ))
-    c.if-is_run.branch
+    c.if-is_run.branch-raw
 
 returns : tie.Need-returns invariant-loop decreases-loop
 unfolding decode_from

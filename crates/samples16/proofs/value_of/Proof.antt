@@ -13,15 +13,15 @@ returns : tie.Need-returns-then-encoded
 returns c =
     let a = c.args in
     let n = c.count_of.result in
-    to_z-of_z w32 n (record { sfits = c.count_of.type-inv })
-    ∙ value-encoded a.encoded a.word n c.if-encoded.true c.count_of.type-inv c.count_of.ensures
+    to_z-of_z w32 n (record { sfits = c.count_of.type_inv })
+    ∙ value-encoded a.encoded a.word n c.if-encoded.true c.count_of.type_inv c.count_of.ensures
 
 -- a word's signed number, read through its bits
 narrow : (c : tie.After-signed2) → to_z w16 (of_z w16 c.signed2.result) ≡ c.signed2.result
-narrow c = to_z-of_z w16 c.signed2.result (record { sfits = c.signed2.type-inv })
+narrow c = to_z-of_z w16 c.signed2.result (record { sfits = c.signed2.type_inv })
 
 cast-result : tie.Need-overflow_cast-result
-cast-result c = subst (SFits w32) (sym (narrow c)) (record { sfits = widens c.signed2.result c.signed2.type-inv })
+cast-result c = subst (SFits w32) (sym (narrow c)) (record { sfits = widens c.signed2.result c.signed2.type_inv })
 
 returns-2 : tie.Need-returns
 returns-2 c =

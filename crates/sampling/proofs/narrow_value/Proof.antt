@@ -13,7 +13,7 @@ returns : tie.Need-returns
 returns c =
     let a = c.args in
     word-valued (words_by a.encoded) (radix-by a.encoded) a.word c.is_run.ensures
-    (to_z-of_z {w = w32} {z = c.value_of.result} (record { sfits = c.value_of.type-inv }) ∙ c.value_of.ensures)
+    (to_z-of_z {w = w32} {z = c.value_of.result} (record { sfits = c.value_of.type_inv }) ∙ c.value_of.ensures)
 
 pub narrow_value_spec : {M : Type 1} → statement M
 narrow_value_spec = tie.close (tie.spec

@@ -19,7 +19,7 @@ returns-2 c =
     let run = c.before.before in
     let b = run.args.encoded in
     value-passed (words_by b) (radix-by b) _ _ (sym run.is_run.ensures ∙ c.if-is_run.false)
-    (to_z-of_z {w = w32} {z = c.value_of.result} (record { sfits = c.value_of.type-inv }) ∙ c.value_of.ensures)
+    (to_z-of_z {w = w32} {z = c.value_of.result} (record { sfits = c.value_of.type_inv }) ∙ c.value_of.ensures)
 
 pub narrow_word_spec : {M : Type 1} → statement M
 narrow_word_spec =

@@ -65,17 +65,17 @@ read2-requires-4 m κs = omega (arith, room m.before.before (codes16 m))
 
 -- ---- a value of two bytes, read through its bits
 held : (c : tie.After-signed2) → to_z w16 (of_z w16 c.signed2.result) ≡ c.signed2.result
-held c = to_z-of_z w16 c.signed2.result (record { sfits = c.signed2.type-inv })
+held c = to_z-of_z w16 c.signed2.result (record { sfits = c.signed2.type_inv })
 
 cast-t17 : tie.Need-overflow_cast-result-in-10030
-cast-t17 c = subst (SFits w32) (sym (held c)) (record { sfits = widens c.signed2.result c.signed2.type-inv })
+cast-t17 c = subst (SFits w32) (sym (held c)) (record { sfits = widens c.signed2.result c.signed2.type_inv })
 
 -- ---- what stands there
 returns : tie.Need-returns-in-10000
 returns c =
     let n = c.before.before in
     let m = n.before in
-    let v = to_z-of_z w32 c.signed4.result (record { sfits = c.signed4.type-inv })
+    let v = to_z-of_z w32 c.signed4.result (record { sfits = c.signed4.type_inv })
     ∙ c.signed4.ensures
     ∙ ap (signed_of 4) c.read4-in-10000.ensures in
     plain-stepped wide _ _ _ _ (pairs m) refl (room m.before.before (pairs m)) n.read4.ensures v

@@ -13,7 +13,7 @@ returns : tie.Need-returns
 unfolding meant
 returns c =
     word-valued wide refl c.args.word c.is_run.ensures
-    (to_z-of_z {w = w32} {z = c.signed4.result} (record { sfits = c.signed4.type-inv }) ∙ c.signed4.ensures)
+    (to_z-of_z {w = w32} {z = c.signed4.result} (record { sfits = c.signed4.type_inv }) ∙ c.signed4.ensures)
 
 pub wide_value_spec : {M : Type 1} → statement M
 wide_value_spec = tie.close (tie.spec

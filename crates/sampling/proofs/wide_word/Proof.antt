@@ -26,7 +26,7 @@ unfolding meant
 returns-2 c =
     let run = c.before.before in
     value-passed wide refl _ _ (sym run.is_run.ensures ∙ c.if-is_run.false)
-    (to_z-of_z {w = w32} {z = c.signed4.result} (record { sfits = c.signed4.type-inv }) ∙ c.signed4.ensures)
+    (to_z-of_z {w = w32} {z = c.signed4.result} (record { sfits = c.signed4.type_inv }) ∙ c.signed4.ensures)
 
 pub wide_word_spec : {M : Type 1} → statement M
 wide_word_spec =

@@ -148,7 +148,7 @@ fill_with_spec =
     (λ c κs. omega (arith, (there c.before).long, (there c.before).fits))
     role-at-requires
     line-of-requires
-    (λ c κs. line-room c.before)
+    (λ c κs. line-room c)
     put-row-requires
     keep-requires
     add_at
@@ -157,4 +157,4 @@ fill_with_spec =
     (λ c. (filling_long c.loop-at.invariant).0)
     (λ c. (filling_long c.loop-at.invariant).1)
     (λ c. (filling_long c.loop-at.invariant).2)
-    (λ c. let d = filling_done c.loop-at.invariant c.loop-at-test.false in (d.pings-1, (d.thresholds-1, d.attitudes-1))))
+    (λ c. let d = filling_done c.loop-at.invariant c.loop-at-test.false in (d.pings, (d.thresholds, d.attitudes))))

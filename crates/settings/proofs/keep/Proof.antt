@@ -7,8 +7,8 @@ use Rattle.settings.proofs.keep.Statement.{statement}
 use Rattle.settings.proofs.keep.Tie as tie
 
 -- there is room for a channel that is declared
-room : (c : tie.In-Declares-2) → c.args.h.channels < most_channels
-room c = rw c.role-1.given.1 at c.requires.1
+room : (c : tie.In-Declares) → c.args.h.channels < most_channels
+room c = rw c.in-Declares.is at c.requires.1
 
 returns-5 : tie.Need-returns-in-Declares
 returns-5 c =

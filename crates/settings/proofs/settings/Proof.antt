@@ -11,7 +11,7 @@ use Rattle.settings.proofs.settings.Tie as tie
 abbrev start : tie.After-check → tie.Start
 start c = c.before.before.before.before.before
 
-abbrev checked : tie.After-count_pings-n → tie.In-Accepted-2
+abbrev checked : tie.After-count_pings-n → tie.In-Accepted
 checked c = c.before
 
 abbrev counted : tie.Else-attitudes-n → tie.After-count_pings-n
@@ -24,8 +24,8 @@ abbrev roomed : tie.After-fill → tie.Else-attitudes-n
 roomed c = c.before.before.before.before
 
 -- the check accepts
-accepted : (c : tie.In-Accepted-2) → check_file (start c.before.before).args.file.now ≡ Accepted c.counts-1.given.0.0
-accepted c = sym c.check.ensures.is ∙ c.counts-1.given.1
+accepted : (c : tie.In-Accepted) → check_file (start c.before).args.file.now ≡ Accepted c.in-Accepted.counts
+accepted c = sym c.check.ensures.is ∙ c.in-Accepted.is
 
 returns : tie.Need-returns-then-pings-n
 returns c =
@@ -46,8 +46,8 @@ fill-requires : tie.Need-fill-requires
 fill-requires c κs =
     let r = c.before.before.before in
     let n = counted r in
-    let s = (start (checked n).before.before).args in
-    roomy s.file.now s.pings-1.now s.thresholds-1.now s.attitudes-1.now _ _ (accepted (checked n)) n.count_pings-n.ensures
+    let s = (start (checked n).before).args in
+    roomy s.file.now s.pings.now s.thresholds.now s.attitudes.now _ _ (accepted (checked n)) n.count_pings-n.ensures
     r.if-pings-n.false r.if-thresholds-n.false r.if-attitudes-n.false
 
 returns-4 : tie.Need-returns-in-Refused

@@ -11,14 +11,14 @@ returns : tie.Need-returns-then-not-is_record
 returns c =
     let a = c.args in
     ap (λ (b : Bool). b && eqb a.code a.asked)
-    (sym (not-true _ c.if-not-is_record.true)
+    (sym (not-true _ c.if-not-is_record.true-raw)
     ∙ c.is_record.ensures)
 
 returns-2 : tie.Need-returns
 returns-2 c =
     let a = c.args in
     ap (λ (b : Bool). b && eqb a.code a.asked)
-    (sym (not-false _ c.if-not-is_record.false)
+    (sym (not-false _ c.if-not-is_record.false-raw)
     ∙ c.is_record.ensures)
 
 pub asks_record_spec : {M : Type 1} → statement M

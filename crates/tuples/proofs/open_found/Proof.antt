@@ -7,7 +7,7 @@ use Rattle.tuples.proofs.open_found.Statement.{statement}
 use Rattle.tuples.proofs.open_found.Tie as tie
 
 returns : tie.Need-returns-then-not-asked
-returns c asks e = unasked c.requires.found asks (e ∙ not-true _ c.if-not-asked.true)
+returns c asks e = unasked c.requires.found asks (e ∙ not-true _ c.if-not-asked.true-raw)
 
 judge-own-requires : tie.Need-judge_own-requires
 judge-own-requires c κs = let g = c.requires in rw g.msb (here g.found)
@@ -23,14 +23,14 @@ returns-2 : tie.Need-returns-in-Fault
 returns-2 c asks e =
     let j = c.before in
     let g = j.requires in
-    faulty g.found asks _ _ (e ∙ not-false _ j.if-not-asked.false)
+    faulty g.found asks _ _ (e ∙ not-false _ j.if-not-asked.false-raw)
     (rw g.msb at (sym j.judge_own.ensures ∙ c.in-Fault.is))
 
 returns-3 : tie.Need-returns-in-Fine
 returns-3 c asks e =
     let g = c.requires in
     let own = rw g.msb at (sym c.judge_own.ensures ∙ c.in-Fine.is) in
-    let asked = e ∙ not-false _ c.if-not-asked.false in
+    let asked = e ∙ not-false _ c.if-not-asked.false-raw in
     record { answer = fine g.found asks asked own; msb = g.msb; found = g.found; asks = asked; own = own }
 
 pub open_found_spec : {M : Type 1} → statement M

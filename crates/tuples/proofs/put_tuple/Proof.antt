@@ -94,7 +94,7 @@ returns c =
       take-length a.behind.now,
     )
     (put a.msb a.numbers.now a.remark.now a.behind.now a.whole (pattern_of 4 a.attribute) a.code d.requires.0
-    a.out-1.now)
+    a.out.now)
 
 pub put_tuple_spec : {M : Type 1} → statement M
 put_tuple_spec =

@@ -9,7 +9,7 @@ use Rattle.tuples.proofs.signed4_at.Tie as tie
 
 returns : tie.Need-returns
 returns c =
-    to_z-of_z {w = w32} {z = c.signed4.result} (record { sfits = c.signed4.type-inv })
+    to_z-of_z {w = w32} {z = c.signed4.result} (record { sfits = c.signed4.type_inv })
     ∙ c.signed4.ensures
     ∙ ap (signed_of 4) c.read4.ensures
 

@@ -39,9 +39,9 @@ returns-2 c =
     let d = fits.before.before.before.before.before in
     let a = d.args in
     rw c.accept.ensures
-    (with_room (bytes d) a.out-1.now a.whole (many d) fits.if-out-whole.false _
+    (with_room (bytes d) a.out.now a.whole (many d) fits.if-out-whole.false _
     (put.put_tuple.ensures
-    ∙ ap (λ (z : ℤ). sets a.out-1.now 0
+    ∙ ap (λ (z : ℤ). sets a.out.now 0
     (plain_bytes a.msb a.code
     (handed_values (shape_of a.code) a.numbers.now a.remark.now a.behind.now (pattern_of 4 z))))
     (to_z-of_z {w = w32} {z = a.attribute} d.ranges.attribute)))

@@ -99,7 +99,7 @@ read_row_spec =
     (λ c. let f = counting c in
     let d = begun f in
     let l = d.loop-i.invariant in
-    omega (arith, (room d).1, l.room, f.read_field-passed.ensures.1.1, (starts d).good.1.1.1.1.0.0))
+    omega (arith, (room d).1, l.room, f.read_field-passed.ensures.1.1, (starts d).well_formed.1.1.1.1.0.0))
     (λ c. let f = counting c.before in
     let d = begun f in
     omega (arith, (room d).0, d.loop-i.invariant.read, f.read_field-passed.ensures.1.0.0))
@@ -119,7 +119,7 @@ read_row_spec =
     (λ c. let f = counting2 c in
     let d = begun2 f in
     let l = d.loop-i-2.invariant in
-    omega (arith, (room2 d).1, l.room, f.read_field-passed-in-loop-i-2.ensures.1.1, (starts2 d).good.1.1.1.1.0.0))
+    omega (arith, (room2 d).1, l.room, f.read_field-passed-in-loop-i-2.ensures.1.1, (starts2 d).well_formed.1.1.1.1.0.0))
     (λ c. let f = counting2 c.before in
     let d = begun2 f in
     omega (arith, (room2 d).0, d.loop-i-2.invariant.read, f.read_field-passed-in-loop-i-2.ensures.1.0.0))

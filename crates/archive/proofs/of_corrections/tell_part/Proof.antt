@@ -17,7 +17,7 @@ returns c =
     let a = x.args in
     let e = x.accept.ensures in (
       t.tell_found.ensures.0 ∙ ap (λ (y : Answer). (numbers y).code) e,
-      t.tell_found.ensures.1 ∙ ap (λ (y : Answer). sets a.answer-1.now 0 (five y ++ (a.mark ∷ a.from ∷ []))) e,
+      t.tell_found.ensures.1 ∙ ap (λ (y : Answer). sets a.answer.now 0 (five y ++ (a.mark ∷ a.from ∷ []))) e,
     )
 
 pub tell_part_spec : {M : Type 1} → statement M

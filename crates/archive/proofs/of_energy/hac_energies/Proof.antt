@@ -24,7 +24,7 @@ told c = c.before.before.before.before.before.before.before
 returns : tie.Need-returns-then-answer-lt-HEAD
 returns c =
     let a = (start c.before).args in
-    untold 0 five _ a.answer-1.now (a.places-1.now, a.energies.now, a.codes-1.now) c.if-answer-lt-HEAD.true
+    untold 0 five _ a.answer.now (a.places.now, a.energies.now, a.codes.now) c.if-answer-lt-HEAD.true
 
 returns-2 : tie.Need-returns
 returns-2 c =
@@ -32,7 +32,7 @@ returns-2 c =
     let k = told t in
     let e = asking k in
     let a = (start e.before).args in
-    answer-told _ a.answer-1.now (a.places-1.now, a.energies.now, a.codes-1.now) k.energies.result _ _ _ e.if-answer-lt-HEAD.false
+    answer-told _ a.answer.now (a.places.now, a.energies.now, a.codes.now) k.energies.result _ _ _ e.if-answer-lt-HEAD.false
     k.energies.ensures t.tell_answer.ensures
 
 pub hac_energies_spec : {M : Type 1} → statement M

@@ -12,22 +12,22 @@ use Rattle.archive.proofs.of_energy.hac_energy.Statement.{statement}
 use Rattle.archive.proofs.of_energy.hac_energy.Tie as tie
 
 -- what was asked for, from where it is told
-abbrev asking : tie.After-tell_found → tie.In-Sum-2
+abbrev asking : tie.After-tell_found → tie.In-Sum
 asking t = t.before.before.before
 
 returns : tie.Need-returns-then-answer-lt-ENERGY
 returns c =
     let a = c.args in
-    alone-untold 1 (told energy_numbers energy_fields) (EnergyTold a.file.now a.place) a.answer-1.now c.if-answer-lt-ENERGY.true
+    alone-untold 1 (told energy_numbers energy_fields) (EnergyTold a.file.now a.place) a.answer.now c.if-answer-lt-ENERGY.true
 
 returns-2 : tie.Need-returns-in-Sum
 returns-2 c =
     let t = c.before.before in
     let g = asking t in
-    let q = g.before.before in
+    let q = g.before in
     let a = q.args in
-    alone-told 1 (told energy_numbers energy_fields) (EnergyTold a.file.now a.place) a.answer-1.now q.energy.result _ _ _
-    q.if-answer-lt-ENERGY.false (omega arith) q.energy.ensures (ap (told energy_numbers energy_fields) g.units-1.given.1)
+    alone-told 1 (told energy_numbers energy_fields) (EnergyTold a.file.now a.place) a.answer.now q.energy.result _ _ _
+    q.if-answer-lt-ENERGY.false (omega arith) q.energy.ensures (ap (told energy_numbers energy_fields) g.in-Sum.is)
     t.tell_found.ensures.0 t.tell_found.ensures.1
 
 returns-3 : tie.Need-returns-in-Refused
@@ -36,7 +36,7 @@ returns-3 c =
     let g = t.before.before in
     let q = g.before in
     let a = q.args in
-    alone-told 1 (told energy_numbers energy_fields) (EnergyTold a.file.now a.place) a.answer-1.now q.energy.result _ _ _
+    alone-told 1 (told energy_numbers energy_fields) (EnergyTold a.file.now a.place) a.answer.now q.energy.result _ _ _
     q.if-answer-lt-ENERGY.false (omega arith) q.energy.ensures (ap (told energy_numbers energy_fields) g.in-Refused.is)
     t.tell_refusal.ensures.0 t.tell_refusal.ensures.1
 

@@ -13,22 +13,22 @@ use Rattle.archive.proofs.of_files.hac_ask.Statement.{statement}
 use Rattle.archive.proofs.of_files.hac_ask.Tie as tie
 
 -- what was asked for, from where it is told
-abbrev asking : tie.After-tell_found → tie.In-Parents-2
+abbrev asking : tie.After-tell_found → tie.In-Parents
 asking t = t.before.before.before.before.before
 
 returns : tie.Need-returns-then-answer-lt-ASK
 returns c =
     let a = c.args in
-    alone-untold 6 (told asked_numbers asked_fields) (AskedFor a.file.now a.place) a.answer-1.now c.if-answer-lt-ASK.true
+    alone-untold 6 (told asked_numbers asked_fields) (AskedFor a.file.now a.place) a.answer.now c.if-answer-lt-ASK.true
 
 returns-2 : tie.Need-returns-in-Parents
 returns-2 c =
     let t = c.before.before in
     let g = asking t in
-    let q = g.before.before in
+    let q = g.before in
     let a = q.args in
-    alone-told 6 (told asked_numbers asked_fields) (AskedFor a.file.now a.place) a.answer-1.now q.ask.result _ _ _
-    q.if-answer-lt-ASK.false (omega arith) q.ask.ensures (ap (told asked_numbers asked_fields) g.channel-1.given.1)
+    alone-told 6 (told asked_numbers asked_fields) (AskedFor a.file.now a.place) a.answer.now q.ask.result _ _ _
+    q.if-answer-lt-ASK.false (omega arith) q.ask.ensures (ap (told asked_numbers asked_fields) g.in-Parents.is)
     t.tell_found.ensures.0 t.tell_found.ensures.1
 
 returns-3 : tie.Need-returns-in-Refused
@@ -37,7 +37,7 @@ returns-3 c =
     let g = t.before.before in
     let q = g.before in
     let a = q.args in
-    alone-told 6 (told asked_numbers asked_fields) (AskedFor a.file.now a.place) a.answer-1.now q.ask.result _ _ _
+    alone-told 6 (told asked_numbers asked_fields) (AskedFor a.file.now a.place) a.answer.now q.ask.result _ _ _
     q.if-answer-lt-ASK.false (omega arith) q.ask.ensures (ap (told asked_numbers asked_fields) g.in-Refused.is)
     t.tell_refusal.ensures.0 t.tell_refusal.ensures.1
 

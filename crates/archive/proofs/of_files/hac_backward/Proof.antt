@@ -14,7 +14,7 @@ use Rattle.archive.proofs.of_files.hac_backward.Tie as tie
 returns : tie.Need-returns-then-answer-lt-STEP
 returns c =
     let a = c.args in
-    alone-untold 4 (told step_numbers step_fields) (SteppedBackward a.file.now a.place) a.answer-1.now c.if-answer-lt-STEP.true
+    alone-untold 4 (told step_numbers step_fields) (SteppedBackward a.file.now a.place) a.answer.now c.if-answer-lt-STEP.true
 
 returns-2 : tie.Need-returns
 returns-2 c =
@@ -23,7 +23,7 @@ returns-2 c =
     let e = k.before.before in
     let a = e.args in
     let s = k.backward.result in
-    alone-told 4 (told step_numbers step_fields) (SteppedBackward a.file.now a.place) a.answer-1.now s
+    alone-told 4 (told step_numbers step_fields) (SteppedBackward a.file.now a.place) a.answer.now s
     (told step_numbers step_fields s) _ _
     e.if-answer-lt-STEP.false (step-short s) k.backward.ensures refl t.tell_step.ensures.0 t.tell_step.ensures.1
 

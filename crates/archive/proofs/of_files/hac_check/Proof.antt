@@ -11,7 +11,7 @@ use Rattle.archive.proofs.of_files.hac_check.Statement.{statement}
 use Rattle.archive.proofs.of_files.hac_check.Tie as tie
 
 returns : tie.Need-returns-then-answer-lt-HEAD
-returns c = let a = c.args in alone-untold 0 five (Checked a.file.now) a.answer-1.now c.if-answer-lt-HEAD.true
+returns c = let a = c.args in alone-untold 0 five (Checked a.file.now) a.answer.now c.if-answer-lt-HEAD.true
 
 returns-2 : tie.Need-returns
 returns-2 c =
@@ -19,7 +19,7 @@ returns-2 c =
     let k = t.before in
     let e = k.before.before in
     let a = e.args in
-    alone-answer (Checked a.file.now) a.answer-1.now k.check.result _ _ e.if-answer-lt-HEAD.false k.check.ensures
+    alone-answer (Checked a.file.now) a.answer.now k.check.result _ _ e.if-answer-lt-HEAD.false k.check.ensures
     t.tell_answer.ensures
 
 pub hac_check_spec : {M : Type 1} → statement M

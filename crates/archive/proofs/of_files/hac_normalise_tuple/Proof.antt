@@ -13,7 +13,7 @@ use Rattle.archive.proofs.of_files.hac_normalise_tuple.Tie as tie
 returns : tie.Need-returns-then-answer-lt-HEAD
 returns c =
     let a = c.args in
-    untold 0 five (NormalisedTuple a.file.now a.out-1.now) a.answer-1.now a.out-1.now c.if-answer-lt-HEAD.true
+    untold 0 five (NormalisedTuple a.file.now a.out.now) a.answer.now a.out.now c.if-answer-lt-HEAD.true
 
 returns-2 : tie.Need-returns
 returns-2 c =
@@ -21,7 +21,7 @@ returns-2 c =
     let k = t.before.before.before in
     let e = k.before.before.before in
     let a = e.args in
-    answer-told (NormalisedTuple a.file.now a.out-1.now) a.answer-1.now a.out-1.now k.normalise_tuple.result _ _ _
+    answer-told (NormalisedTuple a.file.now a.out.now) a.answer.now a.out.now k.normalise_tuple.result _ _ _
     e.if-answer-lt-HEAD.false k.normalise_tuple.ensures t.tell_answer.ensures
 
 pub hac_normalise_tuple_spec : {M : Type 1} → statement M

@@ -21,7 +21,7 @@ use Rattle.archive.proofs.of_narrow_writers.hac_write_ce16.Tie as tie
 returns : tie.Need-returns-then-answer-lt-HEAD
 returns c =
     let a = c.args in
-    untold 0 five _ a.answer-1.now a.out-1.now c.if-answer-lt-HEAD.true
+    untold 0 five _ a.answer.now a.out.now c.if-answer-lt-HEAD.true
 
 returns-2 : tie.Need-returns
 returns-2 c =
@@ -35,9 +35,9 @@ returns-2 c =
     let header : ℤ → PingHeader = λ z.
     header_with a.time-fraction a.time-cpu a.software-channel-identifier a.transmitter-mode a.ping-number z in
     let W : PingHeader → ℤ → Option ℕ → Type 0 = λ h z n.
-    WrittenC encoded a.msb h z a.numbers.now a.values.now n a.out-1.now k.write_ce16.result
+    WrittenC encoded a.msb h z a.numbers.now a.values.now n a.out.now k.write_ce16.result
     k.write_ce16.new.1.1.1.1.1.1.0 in
-    answer-told _ a.answer-1.now a.out-1.now k.write_ce16.result _ _ _ e.if-answer-lt-HEAD.false
+    answer-told _ a.answer.now a.out.now k.write_ce16.result _ _ _ e.if-answer-lt-HEAD.false
     (subst (W (header a.detected-bottom-range) a.tuple-attribute) l.handed_length-length.ensures
     (of_same (λ (h : PingHeader) (z : ℤ). W h z (handed_length l.handed_length-length.result)) header s.ranges.detected-bottom-range
     s.ranges.tuple-attribute g.header_of-header.ensures k.write_ce16.ensures))

@@ -19,7 +19,7 @@ use Rattle.archive.proofs.of_narrow_writers.hac_write_u16_angles.Tie as tie
 returns : tie.Need-returns-then-answer-lt-HEAD
 returns c =
     let a = c.args in
-    untold 0 five _ a.answer-1.now a.out-1.now c.if-answer-lt-HEAD.true
+    untold 0 five _ a.answer.now a.out.now c.if-answer-lt-HEAD.true
 
 returns-2 : tie.Need-returns
 returns-2 c =
@@ -29,10 +29,10 @@ returns-2 c =
     let e = g.before in
     let s = e.before.before.before.before in
     let a = s.args in
-    answer-told _ a.answer-1.now a.out-1.now k.write_u16_angles.result _ _ _ e.if-answer-lt-HEAD.false
+    answer-told _ a.answer.now a.out.now k.write_u16_angles.result _ _ _ e.if-answer-lt-HEAD.false
     (of_same
     (λ (h : PingHeader) (z : ℤ).
-    WrittenA narrow_angles a.msb h z a.numbers.now a.alongship.now a.athwartship.now a.out-1.now
+    WrittenA narrow_angles a.msb h z a.numbers.now a.alongship.now a.athwartship.now a.out.now
     k.write_u16_angles.result k.write_u16_angles.new.1.1.1.1.1.1.0)
     (header_with a.time-fraction a.time-cpu a.software-channel-identifier a.transmitter-mode a.ping-number)
     s.ranges.detected-bottom-range s.ranges.tuple-attribute g.header_of-header.ensures k.write_u16_angles.ensures)

@@ -18,7 +18,7 @@ use Rattle.archive.proofs.of_pings.hac_read_ping.Tie as tie
 returns : tie.Need-returns-then-answer-lt-PING
 returns c =
     let a = c.args in
-    alone-untold 11 (told ping_numbers read_fields) (PingAt a.file.now a.place) a.answer-1.now c.if-answer-lt-PING.true
+    alone-untold 11 (told ping_numbers read_fields) (PingAt a.file.now a.place) a.answer.now c.if-answer-lt-PING.true
 
 returns-2 : tie.Need-returns-in-Read
 returns-2 c =
@@ -28,7 +28,7 @@ returns-2 c =
     let q = g.before in
     let a = q.args in
     let x = g.in-Read.header.given.0 in
-    alone-told 11 (told ping_numbers read_fields) (PingAt a.file.now a.place) a.answer-1.now q.read_ping.result _ _ _
+    alone-told 11 (told ping_numbers read_fields) (PingAt a.file.now a.place) a.answer.now q.read_ping.result _ _ _
     q.if-answer-lt-PING.false (omega (arith, two-told x.1.1.1.1.0)) q.read_ping.ensures
     (ap (told ping_numbers read_fields) g.in-Read.is
     ∙ (λ i.
@@ -43,7 +43,7 @@ returns-3 c =
     let g = t.before.before in
     let q = g.before in
     let a = q.args in
-    alone-told 11 (told ping_numbers read_fields) (PingAt a.file.now a.place) a.answer-1.now q.read_ping.result _ _ _
+    alone-told 11 (told ping_numbers read_fields) (PingAt a.file.now a.place) a.answer.now q.read_ping.result _ _ _
     q.if-answer-lt-PING.false (omega arith) q.read_ping.ensures (ap (told ping_numbers read_fields) g.in-Refused.is)
     t.tell_refusal.ensures.0 t.tell_refusal.ensures.1
 

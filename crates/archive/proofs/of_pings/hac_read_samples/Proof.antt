@@ -15,7 +15,7 @@ use Rattle.archive.proofs.of_pings.hac_read_samples.Tie as tie
 returns : tie.Need-returns-then-answer-lt-HEAD
 returns c =
     let a = c.args in
-    untold 0 five _ a.answer-1.now (a.numbers-1.now, a.values-1.now) c.if-answer-lt-HEAD.true
+    untold 0 five _ a.answer.now (a.numbers.now, a.values.now) c.if-answer-lt-HEAD.true
 
 returns-2 : tie.Need-returns
 returns-2 c =
@@ -23,7 +23,7 @@ returns-2 c =
     let k = t.before.before.before.before in
     let e = k.before.before.before.before in
     let a = e.args in
-    answer-told _ a.answer-1.now (a.numbers-1.now, a.values-1.now) k.read_samples.result _ _ _ e.if-answer-lt-HEAD.false
+    answer-told _ a.answer.now (a.numbers.now, a.values.now) k.read_samples.result _ _ _ e.if-answer-lt-HEAD.false
     k.read_samples.ensures
     t.tell_answer.ensures
 

@@ -33,7 +33,7 @@ returns c =
       t.tell_found.ensures.0 ∙ ap (λ (y : Answer). (numbers y).code) e,
       t.tell_found.ensures.1
           ∙ (λ i.
-          sets a.answer-1.now 0
+          sets a.answer.now 0
           (five (e i)
           ++ (h.time_fraction
           ∷ h.time_cpu

@@ -25,7 +25,7 @@ told c = c.before.before.before.before.before
 returns : tie.Need-returns-then-answer-lt-HEAD
 returns c =
     let a = (start c.before).args in
-    untold 0 five _ a.answer-1.now (a.cases-1.now, a.doubles-1.now) c.if-answer-lt-HEAD.true
+    untold 0 five _ a.answer.now (a.cases.now, a.doubles.now) c.if-answer-lt-HEAD.true
 
 returns-2 : tie.Need-returns
 returns-2 c =
@@ -33,7 +33,7 @@ returns-2 c =
     let k = told t in
     let e = asking k in
     let a = (start e.before).args in
-    answer-told _ a.answer-1.now (a.cases-1.now, a.doubles-1.now) k.readings.result _ _ _ e.if-answer-lt-HEAD.false
+    answer-told _ a.answer.now (a.cases.now, a.doubles.now) k.readings.result _ _ _ e.if-answer-lt-HEAD.false
     k.readings.ensures t.tell_answer.ensures
 
 pub hac_readings_spec : {M : Type 1} → statement M

@@ -18,7 +18,7 @@ use Rattle.archive.proofs.of_records.hac_read_record.Tie as tie
 returns : tie.Need-returns-then-answer-lt-RECORD
 returns c =
     let a = c.args in
-    untold 2 (told answer_numbers row_fields) (RowAt a.code-1 a.file.now a.place a.numbers-1.now) a.answer-1.now a.numbers-1.now
+    untold 2 (told answer_numbers row_fields) (RowAt a.code a.file.now a.place a.numbers.now) a.answer.now a.numbers.now
     c.if-answer-lt-RECORD.true
 
 returns-2 : tie.Need-returns-in-Read
@@ -30,12 +30,12 @@ returns-2 c =
     let b = q.before.before in
     let a = b.args in
     let x = g.in-Read.text in
-    told_as 2 (told answer_numbers row_fields) (RowAt a.code-1 a.file.now a.place a.numbers-1.now) a.answer-1.now
-    a.numbers-1.now
+    told_as 2 (told answer_numbers row_fields) (RowAt a.code a.file.now a.place a.numbers.now) a.answer.now
+    a.numbers.now
     q.read_row.result (five (accepting 1 0) ++ (x.place ∷ x.length ∷ [])) _ _ _ b.if-answer-lt-RECORD.false (omega arith) q.read_row.ensures
     (ap (told answer_numbers row_fields) g.in-Read.is)
-    (t.tell_found.ensures.0 ∙ ap (λ (y : Answer). (numbers y).code-1) e)
-    (t.tell_found.ensures.1 ∙ ap (λ (y : Answer). sets a.answer-1.now 0 (five y ++ (x.place ∷ x.length ∷ []))) e)
+    (t.tell_found.ensures.0 ∙ ap (λ (y : Answer). (numbers y).code) e)
+    (t.tell_found.ensures.1 ∙ ap (λ (y : Answer). sets a.answer.now 0 (five y ++ (x.place ∷ x.length ∷ []))) e)
 
 returns-3 : tie.Need-returns-in-Refused
 returns-3 c =
@@ -44,8 +44,8 @@ returns-3 c =
     let q = g.before.before.before in
     let b = q.before.before in
     let a = b.args in
-    told_as 2 (told answer_numbers row_fields) (RowAt a.code-1 a.file.now a.place a.numbers-1.now) a.answer-1.now
-    a.numbers-1.now
+    told_as 2 (told answer_numbers row_fields) (RowAt a.code a.file.now a.place a.numbers.now) a.answer.now
+    a.numbers.now
     q.read_row.result _ _ _ _ b.if-answer-lt-RECORD.false (omega arith) q.read_row.ensures
     (ap (told answer_numbers row_fields) g.in-Refused.is)
     t.tell_refusal.ensures.0 t.tell_refusal.ensures.1

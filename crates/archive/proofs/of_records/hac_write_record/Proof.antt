@@ -15,7 +15,7 @@ use Rattle.archive.proofs.of_records.hac_write_record.Tie as tie
 returns : tie.Need-returns-then-answer-lt-HEAD
 returns c =
     let a = c.args in
-    untold 0 five (RowWritten a.code a.numbers.now a.text.now a.msb a.out-1.now) a.answer-1.now a.out-1.now
+    untold 0 five (RowWritten a.code a.numbers.now a.text.now a.msb a.out.now) a.answer.now a.out.now
     c.if-answer-lt-HEAD.true
 
 returns-2 : tie.Need-returns
@@ -24,7 +24,7 @@ returns-2 c =
     let k = t.before.before.before in
     let e = k.before.before.before in
     let a = e.args in
-    answer-told (RowWritten a.code a.numbers.now a.text.now a.msb a.out-1.now) a.answer-1.now a.out-1.now
+    answer-told (RowWritten a.code a.numbers.now a.text.now a.msb a.out.now) a.answer.now a.out.now
     k.write_row.result _ _ _
     e.if-answer-lt-HEAD.false k.write_row.ensures t.tell_answer.ensures
 

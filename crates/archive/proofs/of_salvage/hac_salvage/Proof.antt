@@ -29,7 +29,7 @@ making c = c.before.before.before
 returns : tie.Need-returns-then-answer-lt-SALVAGE
 returns c =
     let a = c.args in
-    untold 2 telling (promise a.file.now a.out-1.now a.table-1.now) a.answer-1.now (a.out-1.now, a.table-1.now) c.if-answer-lt-SALVAGE.true
+    untold 2 telling (promise a.file.now a.out.now a.table.now) a.answer.now (a.out.now, a.table.now) c.if-answer-lt-SALVAGE.true
 
 returns-2 : tie.Need-returns-in-Saved
 returns-2 c =
@@ -38,7 +38,7 @@ returns-2 c =
     let q = g.before.before.before.before.before in
     let e = making q in
     let a = (start e).args in
-    told_as 2 telling (promise a.file.now a.out-1.now a.table-1.now) a.answer-1.now (a.out-1.now, a.table-1.now)
+    told_as 2 telling (promise a.file.now a.out.now a.table.now) a.answer.now (a.out.now, a.table.now)
     q.salvage.result _ _ _ _ e.if-answer-lt-SALVAGE.false (omega arith) q.salvage.ensures (ap telling g.ranges.given.1)
     t.tell_found.ensures.0 t.tell_found.ensures.1
 
@@ -49,7 +49,7 @@ returns-3 c =
     let q = g.before.before.before.before.before in
     let e = making q in
     let a = (start e).args in
-    told_as 2 telling (promise a.file.now a.out-1.now a.table-1.now) a.answer-1.now (a.out-1.now, a.table-1.now)
+    told_as 2 telling (promise a.file.now a.out.now a.table.now) a.answer.now (a.out.now, a.table.now)
     q.salvage.result _ _ _ _ e.if-answer-lt-SALVAGE.false (omega arith) q.salvage.ensures (ap telling g.in-Refused.is)
     t.tell_refusal.ensures.0 t.tell_refusal.ensures.1
 

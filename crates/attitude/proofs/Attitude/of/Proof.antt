@@ -26,12 +26,12 @@ returns n9 =
       time_cpu = n1.unsigned4.ensures i;
       software_channel_identifier = record { 0 = n2.unsigned2-2.ensures i };
       platform_referred_to = n3.unsigned2-3.ensures i;
-      alongship_offset = held-signed w16 n4.signed2.type-inv n4.signed2.ensures i;
-      athwartship_offset = held-signed w16 n5.signed2-2.type-inv n5.signed2-2.ensures i;
-      pitch = held-signed w16 n6.signed2-3.type-inv n6.signed2-3.ensures i;
-      roll = held-signed w16 n7.signed2-4.type-inv n7.signed2-4.ensures i;
-      heave = held-signed w16 n8.signed2-5.type-inv n8.signed2-5.ensures i;
-      tuple_attribute = held-signed w32 n9.signed4.type-inv n9.signed4.ensures i;
+      alongship_offset = held-signed w16 n4.signed2.type_inv n4.signed2.ensures i;
+      athwartship_offset = held-signed w16 n5.signed2-2.type_inv n5.signed2-2.ensures i;
+      pitch = held-signed w16 n6.signed2-3.type_inv n6.signed2-3.ensures i;
+      roll = held-signed w16 n7.signed2-4.type_inv n7.signed2-4.ensures i;
+      heave = held-signed w16 n8.signed2-5.type_inv n8.signed2-5.ensures i;
+      tuple_attribute = held-signed w32 n9.signed4.type_inv n9.signed4.ensures i;
     }
 
 pub of_spec : {M : Type 1} → statement M

@@ -45,10 +45,10 @@ returns n24 =
       transceiver_channel_number = record { 0 = n5.unsigned2-4.ensures i };
       acoustic_frequency = n6.unsigned4-3.ensures i;
       installation_depth_of_transducer = n7.unsigned4-4.ensures i;
-      alongship_angle_offset_of_the_transducer_face = held-signed w16 n8.signed2.type-inv n8.signed2.ensures i;
-      athwartship_angle_offset_of_the_transducer_face = held-signed w16 n9.signed2-2.type-inv n9.signed2-2.ensures i;
-      alongship_angle_offset_of_the_main_axis_of_the_acoustic_beam = held-signed w16 n10.signed2-3.type-inv n10.signed2-3.ensures i;
-      athwartship_angle_offset_of_the_main_axis_of_the_acoustic_beam = held-signed w16 n11.signed2-4.type-inv n11.signed2-4.ensures i;
+      alongship_angle_offset_of_the_transducer_face = held-signed w16 n8.signed2.type_inv n8.signed2.ensures i;
+      athwartship_angle_offset_of_the_transducer_face = held-signed w16 n9.signed2-2.type_inv n9.signed2-2.ensures i;
+      alongship_angle_offset_of_the_main_axis_of_the_acoustic_beam = held-signed w16 n10.signed2-3.type_inv n10.signed2-3.ensures i;
+      athwartship_angle_offset_of_the_main_axis_of_the_acoustic_beam = held-signed w16 n11.signed2-4.type_inv n11.signed2-4.ensures i;
       absorption_of_sound = n12.unsigned2-5.ensures i;
       pulse_length = n13.unsigned2-6.ensures i;
       bandwidth = n14.unsigned2-7.ensures i;
@@ -56,12 +56,12 @@ returns n24 =
       beamwidth_3_db_of_the_transducer_beam = n16.unsigned2-9.ensures i;
       beam_pattern = n17.unsigned2-10.ensures i;
       wide_beam_drop_off = n18.unsigned2-11.ensures i;
-      calibration_receiving_sensitivity = held-signed w16 n19.signed2-5.type-inv n19.signed2-5.ensures i;
-      receiver_gain = held-signed w16 n20.signed2-6.type-inv n20.signed2-6.ensures i;
-      bottom_detection_minimum_level = held-signed w16 n21.signed2-7.type-inv n21.signed2-7.ensures i;
+      calibration_receiving_sensitivity = held-signed w16 n19.signed2-5.type_inv n19.signed2-5.ensures i;
+      receiver_gain = held-signed w16 n20.signed2-6.type_inv n20.signed2-6.ensures i;
+      bottom_detection_minimum_level = held-signed w16 n21.signed2-7.type_inv n21.signed2-7.ensures i;
       bottom_window_min = n22.unsigned4-5.ensures i;
       bottom_window_max = n23.unsigned4-6.ensures i;
-      tuple_attribute = held-signed w32 n24.signed4.type-inv n24.signed4.ensures i;
+      tuple_attribute = held-signed w32 n24.signed4.type_inv n24.signed4.ensures i;
     }
 
 pub of_spec : {M : Type 1} → statement M

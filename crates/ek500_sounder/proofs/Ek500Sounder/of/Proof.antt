@@ -39,11 +39,11 @@ returns n15 =
       super_layer_type = n8.unsigned2-8.ensures i;
       super_layer_number = n9.unsigned2-9.ensures i;
       super_layer_range = n10.unsigned2-10.ensures i;
-      super_layer_start = held-signed w32 n11.signed4.type-inv n11.signed4.ensures i;
+      super_layer_start = held-signed w32 n11.signed4.type_inv n11.signed4.ensures i;
       super_layer_margin = n12.unsigned2-11.ensures i;
-      super_layer_sv_threshold = held-signed w16 n13.signed2.type-inv n13.signed2.ensures i;
+      super_layer_sv_threshold = held-signed w16 n13.signed2.type_inv n13.signed2.ensures i;
       ek_500_version = n14.unsigned4-2.ensures i;
-      tuple_attribute = held-signed w32 n15.signed4-2.type-inv n15.signed4-2.ensures i;
+      tuple_attribute = held-signed w32 n15.signed4-2.type_inv n15.signed4-2.ensures i;
     }
 
 pub of_spec : {M : Type 1} → statement M

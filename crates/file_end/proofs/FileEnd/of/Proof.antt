@@ -19,7 +19,7 @@ returns n3 =
       time_fraction = n0.unsigned2.ensures i;
       time_cpu = n1.unsigned4.ensures i;
       closing_mode = n2.unsigned2-2.ensures i;
-      tuple_attribute = held-signed w32 n3.signed4.type-inv n3.signed4.ensures i;
+      tuple_attribute = held-signed w32 n3.signed4.type_inv n3.signed4.ensures i;
     }
 
 pub of_spec : {M : Type 1} → statement M

@@ -35,10 +35,10 @@ module _ (c : tie.After-is_digit invariant-loop decreases-loop) where
       ∙ c.before.before.before.loop-i.invariant.1
 
 returns : tie.Need-returns-then-not-is_digit invariant-loop decreases-loop
-returns c = split c.before false (not-true _ c.if-not-is_digit.true)
+returns c = split c.before false (not-true _ c.if-not-is_digit.true-raw)
 
 loop-again : tie.Need-loop-i-preserved invariant-loop decreases-loop
-loop-again c = (search rules, split c.before true (not-false _ c.if-not-is_digit.false))
+loop-again c = (search rules, split c.before true (not-false _ c.if-not-is_digit.false-raw))
 
 returns-2 : tie.Need-returns invariant-loop decreases-loop
 returns-2 c =

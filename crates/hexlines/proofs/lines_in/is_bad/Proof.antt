@@ -17,7 +17,7 @@ returns-3 c =
     rw (
       ne_eqb _ 0 tested.if-line-eq0.false,
       eq-eqb _ 0 tested.if-line-ne0.false,
-      sym c.all_digits.ensures ∙ not-true _ c.if-not-all_digits.true,
+      sym c.all_digits.ensures ∙ not-true _ c.if-not-all_digits.true-raw,
     )
 
 returns-4 : tie.Need-returns
@@ -26,7 +26,7 @@ returns-4 c =
     rw (
       ne_eqb _ 0 tested.if-line-eq0.false,
       eq-eqb _ 0 tested.if-line-ne0.false,
-      sym c.all_digits.ensures ∙ not-false _ c.if-not-all_digits.false,
+      sym c.all_digits.ensures ∙ not-false _ c.if-not-all_digits.false-raw,
     )
 
 pub is_bad_spec : {M : Type 1} → statement M

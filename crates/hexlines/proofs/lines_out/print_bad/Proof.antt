@@ -11,7 +11,7 @@ abbrev start : tie.After-put_decimal-to → tie.Start
 start c = c.before.before.before.before.before.before.before.before
 
 put-requires-2 : tie.Need-put-requires
-put-requires-2 c κs = omega (arith, at-most_twenty (start c.before.before.before.before).args.number)
+put-requires-2 c κs = omega (arith, at-most_twenty (start c.before.before.before.before.before).args.number)
 
 returns : tie.Need-returns
 returns c =

@@ -65,7 +65,7 @@ turns : (c : tie.In-loop-at invariant-loop decreases-loop) →
     let form = put.before.before.before.before.before.args.form.now in
     let l = c.loop-at in
     (n : ℕ) → n ≡ len_at false (drop l.at form)
-    → Turn form put.put_line-to.new.0 put.put_line-to.result (tuples_of form) l.out-1 l.to l.at n
+    → Turn form put.put_line-to.new.0 put.put_line-to.result (tuples_of form) l.out l.to l.at n
 turns c n e = printing_turn _ _ _ _ _ _ _ c.loop-at-test.true c.loop-at.invariant n e
 
 length-at-requires : tie.Need-length_at-requires invariant-loop decreases-loop

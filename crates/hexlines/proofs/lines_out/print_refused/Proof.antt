@@ -14,7 +14,7 @@ abbrev coded : tie.After-put-to-2 → tie.After-put_decimal-to
 coded c = c.before.before.before.before.before
 
 put-requires-2 : tie.Need-put-to-requires-2
-put-requires-2 c κs = omega (arith, at-most_twenty (start c.before.before.before.before).args.code)
+put-requires-2 c κs = omega (arith, at-most_twenty (start c.before.before.before.before.before).args.code)
 
 put-decimal-requires-2 : tie.Need-put_decimal-to-requires-2
 put-decimal-requires-2 c κs = omega (arith, at-most_twenty (start (coded c.before.before.before)).args.code)
@@ -22,7 +22,7 @@ put-decimal-requires-2 c κs = omega (arith, at-most_twenty (start (coded c.befo
 put-requires-3 : tie.Need-put-requires
 put-requires-3 c κs =
     let place = c.before.before.before.before in
-    let s = start (coded place.before.before.before.before) in
+    let s = start (coded place.before.before.before.before.before) in
     omega (arith, at-most_twenty s.args.code, at-most_twenty s.args.place)
 
 returns : tie.Need-returns

@@ -21,9 +21,9 @@ returns n5 =
       time_fraction = n0.unsigned2.ensures i;
       time_cpu = n1.unsigned4.ensures i;
       navigation_system = n2.unsigned2-2.ensures i;
-      heading = held-signed w16 n3.signed2.type-inv n3.signed2.ensures i;
+      heading = held-signed w16 n3.signed2.type_inv n3.signed2.ensures i;
       navigation_speed = n4.unsigned2-3.ensures i;
-      tuple_attribute = held-signed w32 n5.signed4.type-inv n5.signed4.ensures i;
+      tuple_attribute = held-signed w32 n5.signed4.type_inv n5.signed4.ensures i;
     }
 
 pub of_spec : {M : Type 1} → statement M

@@ -16,7 +16,7 @@ returns : tie.Need-returns-then-bytes-eq0
 returns c =
     let a = c.args in
     let e = c.if-bytes-eq0.true in
-    (omega (arith, e), ap (λ (i : ℕ). sets a.out-1.now a.at (replicate i 0)) (sym e))
+    (omega (arith, e), ap (λ (i : ℕ). sets a.out.now a.at (replicate i 0)) (sym e))
 
 returns-2 : tie.Need-returns
 returns-2 c =
@@ -25,7 +25,7 @@ returns-2 c =
     let s = rest.before.before in
     let a = s.args in
     let two = past a.bytes s.requires.1 rest.if-bytes-eq0.false in
-    (omega (arith, two), store.store2.ensures ∙ ap (λ (i : ℕ). sets a.out-1.now a.at (replicate i 0)) (sym two))
+    (omega (arith, two), store.store2.ensures ∙ ap (λ (i : ℕ). sets a.out.now a.at (replicate i 0)) (sym two))
 
 pub put_space_spec : {M : Type 1} → statement M
 put_space_spec =

@@ -40,7 +40,7 @@ pub record Room (s : tie.Start) : Type 0 where
   pub there : s.args.at + s.args.whole ≤ length s.args.file.now
   pub ends : (30 ≤ s.args.end) × (s.args.end + 8 ≤ s.args.whole)
   pub words : filled s + 36 ≤ s.args.whole
-  pub room : s.args.to + 36 + filled s ≤ length s.args.out-1.now
+  pub room : s.args.to + 36 + filled s ≤ length s.args.out.now
 
 room : (k : tie.After-shared_slice_known-1) → Room k.before
 room k =
@@ -102,14 +102,14 @@ close-form-requires c κs =
     let t = spaced c in
     let r = room (known (packing t)) in
     let e = tail t in
-    (omega (arith, r.least, r.there), (omega (arith, r.room), omega (arith, r.words-1, r.most)))
+    (omega (arith, r.least, r.there), (omega (arith, r.room), omega (arith, r.words, r.most)))
 
 open-ping-requires : tie.Need-open_ping-requires
 open-ping-requires c κs =
     let t = spaced (closed c).before in
     let r = room (known (packing t)) in
     let e = tail t in
-    (omega (arith, r.least, r.there), (omega (arith, r.room), (omega arith, omega (arith, r.words-1, r.most))))
+    (omega (arith, r.least, r.there), (omega (arith, r.room), (omega arith, omega (arith, r.words, r.most))))
 
 returns : tie.Need-returns
 returns c =
@@ -143,9 +143,9 @@ returns c =
     (omega (arith, t.put_space-tail.ensures.0, length-replicate {A = ℕ} ((2 * length us) % 4) 0)) in
     let m = length-packed a.encoded s.requires.0 (bytes k) s.requires.1.1.0 (length us) refl in (
       omega (arith, m.0, size),
-      packed-stored a.msb a.file.now a.at a.whole (bytes k) a.out-1.now _ a.to j count q l a.encoded s.requires.0
+      packed-stored a.msb a.file.now a.at a.whole (bytes k) a.out.now _ a.to j count q l a.encoded s.requires.0
           s.requires.1.1.0 (behind p) size n.read4-count.ensures
-          (subst (λ (ws : List ℕ). PackedAt 2 a.out-1.now (a.to + 28) (packed 256 respelled ws) l q) s.requires.1.0.words
+          (subst (λ (ws : List ℕ). PackedAt 2 a.out.now (a.to + 28) (packed 256 respelled ws) l q) s.requires.1.0.words
           p.pack_words-behind.ensures.1)
           (store.store4.ensures
           ∙ ap (λ (x : List ℕ). sets x (a.to + 24) (bytes_of false 4 count)) o.open_ping.ensures
@@ -168,7 +168,7 @@ write_packed_spec =
     (λ c. omega (arith, behind c.before.before.before))
     put-space-requires
     (λ c. omega (arith, tail c.before.before))
-    (λ c. let r = room (known (packing c.before.before)) in omega (arith, tail c.before.before, r.words-1, r.most))
+    (λ c. let r = room (known (packing c.before.before)) in omega (arith, tail c.before.before, r.words, r.most))
     (λ c. let r = room (known (packing c.before.before)) in omega (arith, r.least))
     (λ c. let r = room (known (packing c.before.before)) in omega (arith, r.there))
     close-form-requires

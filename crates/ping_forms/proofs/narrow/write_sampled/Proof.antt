@@ -55,7 +55,7 @@ spread-words-requires c κs =
     let s = k.before in
     let p = s.requires in
     let r = room k in
-    let w = p.1.0.words-1 in
+    let w = p.1.0.words in
     let far = ap (λ (ws : List ℕ). behind 0 (decode 256 ws)) w in
     let many = ap (λ (ws : List ℕ). length (decode 256 ws)) w in (
       (held-part false p.0 p.1.0).2,
@@ -73,7 +73,7 @@ returns c =
     let k = known pairs.before in
     let s = k.before in
     let a = s.args in
-    sampled-stored s.requires.0 (bytes k) s.requires.1.1.0 a.out-1.now a.to a.bytes s.requires.1.1.1.0
+    sampled-stored s.requires.0 (bytes k) s.requires.1.1.0 a.out.now a.to a.bytes s.requires.1.1.1.0
     header.open_ping.ensures pairs.spread_words.ensures s.requires.1.0.words back.close_form.ensures
 
 pub write_sampled_spec : {M : Type 1} → statement M

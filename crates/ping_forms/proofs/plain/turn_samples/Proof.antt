@@ -45,10 +45,10 @@ fits k e = fits_as e (length k.args.part.now + 32) k.requires.1.1
 
 -- what an arm leaves, by its family
 left : (k : tie.After-shared_slice_known-1) {f : Family} → family_of k.args.code ≡ f → (out : List ℕ)
-    → let a = k.args in out ≡ sets a.out-1.now a.to (spaced (unsampled f false (all_samples f a.msb a.part.now)))
-    → out ≡ sets a.out-1.now a.to
+    → let a = k.args in out ≡ sets a.out.now a.to (spaced (unsampled f false (all_samples f a.msb a.part.now)))
+    → out ≡ sets a.out.now a.to
     (spaced (unsampled (family_of a.code) false (all_samples (family_of a.code) a.msb a.part.now)))
-left k e out h = let a = k.args in turned_as e a.msb a.part.now a.out-1.now out a.to h
+left k e out h = let a = k.args in turned_as e a.msb a.part.now a.out.now out a.to h
 
 turn-triples-requires : tie.Need-turn_triples-requires
 turn-triples-requires c κs =
@@ -63,7 +63,7 @@ returns c =
     let k = m.before.before in
     let a = k.args in
     let f = family-U m.in-10000.is in
-    left k f _ (t.turn_words.ensures ∙ ap (sets a.out-1.now a.to) (turned-wide a.msb a.part.now (bytes k) (fits k f)))
+    left k f _ (t.turn_words.ensures ∙ ap (sets a.out.now a.to) (turned-wide a.msb a.part.now (bytes k) (fits k f)))
 
 returns-2 : tie.Need-returns-in-10001
 returns-2 c =
@@ -72,7 +72,7 @@ returns-2 c =
     let k = m.before.before in
     let a = k.args in
     left k (family-angles m.in-10001.is) _
-    (t.turn_angles.ensures ∙ ap (sets a.out-1.now a.to) (turned-angles a.msb a.part.now))
+    (t.turn_angles.ensures ∙ ap (sets a.out.now a.to) (turned-angles a.msb a.part.now))
 
 returns-3 : tie.Need-returns-in-10030
 returns-3 c =
@@ -81,7 +81,7 @@ returns-3 c =
     let k = m.before.before in
     let a = k.args in
     let f = family-U16 m.in-10030.is in
-    left k f _ (t.turn_words-in-10030.ensures ∙ ap (sets a.out-1.now a.to) (turned-narrow a.msb a.part.now (bytes k) (fits k f)))
+    left k f _ (t.turn_words-in-10030.ensures ∙ ap (sets a.out.now a.to) (turned-narrow a.msb a.part.now (bytes k) (fits k f)))
 
 returns-4 : tie.Need-returns-in_default
 returns-4 c =

@@ -36,7 +36,7 @@ returns c =
     let k = known test.before in
     let a = k.args in
     rw (zeros.store2.ensures, words.turn_words.ensures)
-    (turned-odd a.msb a.part.now (bytes k) k.requires.1 (end k) (omega arith) (omega (arith, test.if-end-part.true)) a.out-1.now
+    (turned-odd a.msb a.part.now (bytes k) k.requires.1 (end k) (omega arith) (omega (arith, test.if-end-part.true)) a.out.now
     a.to _ (omega arith))
 
 returns-2 : tie.Need-returns-else-end-part
@@ -45,7 +45,7 @@ returns-2 c =
     let k = known c.before in
     let a = k.args in
     words.turn_words.ensures
-    ∙ ap (sets a.out-1.now a.to)
+    ∙ ap (sets a.out.now a.to)
     (turned-even a.msb a.part.now (bytes k) k.requires.1 (end k) (omega arith) (omega (arith, c.if-end-part.false)))
 
 pub turn_triples_spec : {M : Type 1} → statement M

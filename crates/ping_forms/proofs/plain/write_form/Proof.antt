@@ -60,7 +60,7 @@ returns c =
     let s = known.before in
     let a = s.args in
     let bytes = bytes_of_lem a.file.now (λ i. (known.shared_slice_known-1.given i).fits) in
-    plain-written s.requires.0 a.out-1.now _ a.to bytes _ s.requires.1.0
+    plain-written s.requires.0 a.out.now _ a.to bytes _ s.requires.1.0
     (rw (back.close_form.ensures, samples.turn_samples.ensures, header.open_ping.ensures))
 
 pub write_form_spec : {M : Type 1} → statement M

@@ -36,7 +36,7 @@ pub record Room (s : tie.Start) : Type 0 where
   pub most : s.args.whole ≤ 262144
   pub there : s.args.at + s.args.whole ≤ length s.args.file.now
   pub words : length (packing-of s) ≤ 131072
-  pub room : s.args.to + 36 + 4 * length (packing-of s) ≤ length s.args.out-1.now
+  pub room : s.args.to + 36 + 4 * length (packing-of s) ≤ length s.args.out.now
 
 room : (k : tie.After-shared_slice_known-1) → Room k.before
 room k =
@@ -69,14 +69,14 @@ pack-words-requires c κs =
     ((words-part k.requires.0).2, omega (arith, (room k).room))
 
 add-bytes : tie.Need-overflow_add-bytes
-add-bytes c = let p = c.before.before in omega (arith, p.pack_words-end.ensures.0, (room (known p)).words-1)
+add-bytes c = let p = c.before.before in omega (arith, p.pack_words-end.ensures.0, (room (known p)).words)
 
 close-form-requires : tie.Need-close_form-requires
 close-form-requires c κs =
     let p = packing c in
     let r = room (known p) in (
       omega (arith, r.least, r.there),
-      (omega (arith, r.room, p.pack_words-end.ensures.0), omega (arith, p.pack_words-end.ensures.0, r.words-1)),
+      (omega (arith, r.room, p.pack_words-end.ensures.0), omega (arith, p.pack_words-end.ensures.0, r.words)),
     )
 
 open-ping-requires : tie.Need-open_ping-requires
@@ -84,7 +84,7 @@ open-ping-requires c κs =
     let p = packing (closed c).before in
     let r = room (known p) in (
       omega (arith, r.least, r.there),
-      (omega (arith, r.room), (omega (arith, p.pack_words-end.ensures.0), omega (arith, p.pack_words-end.ensures.0, r.words-1))),
+      (omega (arith, r.room), (omega (arith, p.pack_words-end.ensures.0), omega (arith, p.pack_words-end.ensures.0, r.words))),
     )
 
 returns : tie.Need-returns
@@ -107,7 +107,7 @@ returns c =
     let packed-there = p.pack_words-end.last.1.1.0 in
     let m = length-packed s.requires.0 (bytes k) s.requires.1.0 _ refl in (
       omega (arith, m.0, p.pack_words-end.ensures.0),
-      packed-stored s.requires.0 (bytes k) a.out-1.now _ a.to s.requires.1.0 j count q packed-there p.pack_words-end.ensures.0 refl
+      packed-stored s.requires.0 (bytes k) a.out.now _ a.to s.requires.1.0 j count q packed-there p.pack_words-end.ensures.0 refl
           n.read4-count.ensures p.pack_words-end.ensures.1
           (store.store4.ensures ∙ ap fill (o.open_ping.ensures ∙ ap head back.close_form.ensures)),
     )

@@ -13,7 +13,7 @@ use Rattle.ping_writers.proofs.judging.judge_plain.Tie as tie
 returns : tie.Need-returns-then-not-equal
 returns c =
     let a = c.args in
-    c.refuse.ensures ∙ plain-said a.equal a.n a.first a.sample a.room (here c.if-not-equal.true)
+    c.refuse.ensures ∙ plain-said a.equal a.n a.first a.sample a.room (here c.if-not-equal.true-raw)
 
 returns-2 : tie.Need-returns-then-n-gt-MOST
 returns-2 c =
@@ -21,7 +21,7 @@ returns-2 c =
     let a = equal.args in
     c.refuse-then-n-gt-MOST.ensures
     ∙ plain-said a.equal a.n a.first a.sample a.room
-    (pass equal.if-not-equal.false (here (lt-ltb 32764 a.n c.if-n-gt-MOST.true)))
+    (pass equal.if-not-equal.false-raw (here (lt-ltb 32764 a.n c.if-n-gt-MOST.true)))
 
 returns-3 : tie.Need-returns-then-n-eq0
 returns-3 c =
@@ -30,7 +30,7 @@ returns-3 c =
     let a = equal.args in
     c.refuse-then-n-eq0.ensures
     ∙ plain-said a.equal a.n a.first a.sample a.room
-    (pass equal.if-not-equal.false (pass (le-ltb 32764 a.n few.if-n-gt-MOST.false) (here (eq-eqb a.n 0 c.if-n-eq0.true))))
+    (pass equal.if-not-equal.false-raw (pass (le-ltb 32764 a.n few.if-n-gt-MOST.false) (here (eq-eqb a.n 0 c.if-n-eq0.true))))
 
 returns-4 : tie.Need-returns-then-first-n
 returns-4 c =
@@ -40,7 +40,7 @@ returns-4 c =
     let a = equal.args in
     c.refuse-then-first-n.ensures
     ∙ plain-said a.equal a.n a.first a.sample a.room
-    (pass equal.if-not-equal.false (pass (le-ltb 32764 a.n few.if-n-gt-MOST.false)
+    (pass equal.if-not-equal.false-raw (pass (le-ltb 32764 a.n few.if-n-gt-MOST.false)
     (pass (ne_eqb a.n 0 some.if-n-eq0.false) (here (lt-ltb a.first a.n c.if-first-n.true)))))
 
 -- the samples' bytes are few
@@ -75,7 +75,7 @@ returns-5 c =
     let a = equal.args in
     c.refuse-then-room-whole.ensures
     ∙ plain-said a.equal a.n a.first a.sample a.room
-    (pass equal.if-not-equal.false (pass (le-ltb 32764 a.n few.if-n-gt-MOST.false)
+    (pass equal.if-not-equal.false-raw (pass (le-ltb 32764 a.n few.if-n-gt-MOST.false)
     (pass (ne_eqb a.n 0 some.if-n-eq0.false) (pass (le-ltb a.first a.n rise.if-first-n.false)
     (here (lt-ltb a.room (plain_size a.sample a.n) (omega (arith, c.if-room-whole.true, size rise))))))))
 
@@ -89,7 +89,7 @@ returns-6 c =
     let a = equal.args in
     rw (c.accept.ensures, size rise)
     (plain-said a.equal a.n a.first a.sample a.room
-    (pass equal.if-not-equal.false (pass (le-ltb 32764 a.n few.if-n-gt-MOST.false)
+    (pass equal.if-not-equal.false-raw (pass (le-ltb 32764 a.n few.if-n-gt-MOST.false)
     (pass (ne_eqb a.n 0 some.if-n-eq0.false) (pass (le-ltb a.first a.n rise.if-first-n.false)
     (pass (le-ltb a.room (plain_size a.sample a.n) (omega (arith, fits.if-room-whole.false, size rise))) none))))))
 

@@ -26,7 +26,7 @@ returns c =
       time.store4.ensures,
       fraction.store2.ensures,
     )
-    (header-stored a.msb a.out-1.now a.header)
+    (header-stored a.msb a.out.now a.header)
 
 pub write_header_spec : {M : Type 1} → statement M
 write_header_spec =

@@ -10,7 +10,7 @@ returns c =
     let opening = header.before.before.before.before in
     let a = opening.args in
     rw (header.write_header.ensures, opening.open_frame.ensures)
-    (opening-stored a.msb a.out-1.now 0 a.whole a.code _)
+    (opening-stored a.msb a.out.now 0 a.whole a.code _)
 
 pub write_opening_spec : {M : Type 1} → statement M
 write_opening_spec = tie.close (tie.spec

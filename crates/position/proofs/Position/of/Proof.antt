@@ -19,13 +19,13 @@ returns n6 =
     let n0 = n1.before in
     λ i.
     record {
-      time_fraction = held-signed w16 n0.signed2.type-inv n0.signed2.ensures i;
+      time_fraction = held-signed w16 n0.signed2.type_inv n0.signed2.ensures i;
       time_cpu = n1.unsigned4.ensures i;
       gps_time = n2.unsigned4-2.ensures i;
       positioning_system = n3.unsigned2.ensures i;
-      latitude = held-signed w32 n4.signed4.type-inv n4.signed4.ensures i;
-      longitude = held-signed w32 n5.signed4-2.type-inv n5.signed4-2.ensures i;
-      tuple_attribute = held-signed w32 n6.signed4-3.type-inv n6.signed4-3.ensures i;
+      latitude = held-signed w32 n4.signed4.type_inv n4.signed4.ensures i;
+      longitude = held-signed w32 n5.signed4-2.type_inv n5.signed4-2.ensures i;
+      tuple_attribute = held-signed w32 n6.signed4-3.type_inv n6.signed4-3.ensures i;
     }
 
 pub of_spec : {M : Type 1} → statement M

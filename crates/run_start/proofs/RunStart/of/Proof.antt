@@ -17,7 +17,7 @@ returns n2 =
     record {
       time_fraction = n0.unsigned2.ensures i;
       time_cpu = n1.unsigned4.ensures i;
-      tuple_attribute = held-signed w32 n2.signed4.type-inv n2.signed4.ensures i;
+      tuple_attribute = held-signed w32 n2.signed4.type_inv n2.signed4.ensures i;
     }
 
 pub of_spec : {M : Type 1} → statement M

@@ -61,17 +61,17 @@ angles c =
     let first = c.before.before in
     let head = first.before.before.before in
     let a = head.args in
-    angles-at 2 a.msb a.part.now head.loop-p.p first.read2-in-loop-p.result c.read2-in-loop-p-2.result first.read2-in-loop-p.type-inv
+    angles-at 2 a.msb a.part.now head.loop-p.p first.read2-in-loop-p.result c.read2-in-loop-p-2.result first.read2-in-loop-p.type_inv
     first.read2-in-loop-p.ensures c.read2-in-loop-p-2.ensures
 
 loop-again : tie.Need-loop-p-preserved invariant-loop decreases-loop
 loop-again c =
     let first = c.before.before in
     let both = angles c.before in
-    let u = to_z-of_z w16 first.signed2.result (record { sfits = first.signed2.type-inv })
+    let u = to_z-of_z w16 first.signed2.result (record { sfits = first.signed2.type_inv })
     ∙ first.signed2.ensures
     ∙ ap (signed_of 2) (sym both.0) in
-    let v = to_z-of_z w16 c.signed2-in-loop-p.result (record { sfits = c.signed2-in-loop-p.type-inv })
+    let v = to_z-of_z w16 c.signed2-in-loop-p.result (record { sfits = c.signed2-in-loop-p.type_inv })
     ∙ c.signed2-in-loop-p.ensures
     ∙ ap (signed_of 2) (sym both.1) in
     (omega arith, omega arith, angled-one _ _ _ u v (next first.before.before))

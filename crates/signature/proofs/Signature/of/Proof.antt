@@ -19,7 +19,7 @@ returns n3 =
       hac_version = n0.unsigned2.ensures i;
       acquisition_software_version = n1.unsigned2-2.ensures i;
       acquisition_software_identifier = n2.unsigned4.ensures i;
-      tuple_attribute = held-signed w32 n3.signed4.type-inv n3.signed4.ensures i;
+      tuple_attribute = held-signed w32 n3.signed4.type_inv n3.signed4.ensures i;
     }
 
 pub of_spec : {M : Type 1} → statement M

@@ -29,15 +29,15 @@ returns n12 =
       echosounder_document_identifier = record { 0 = n1.unsigned4.ensures i };
       sound_speed = n2.unsigned2-2.ensures i;
       ping_interval = n3.unsigned2-3.ensures i;
-      transmitter_attenuation_setting = held-signed w16 n4.signed2.type-inv n4.signed2.ensures i;
+      transmitter_attenuation_setting = held-signed w16 n4.signed2.type_inv n4.signed2.ensures i;
       multiplexing_mode = n5.unsigned2-4.ensures i;
-      blanking_at_tvg_max_range = held-signed w16 n6.signed2-2.type-inv n6.signed2-2.ensures i;
+      blanking_at_tvg_max_range = held-signed w16 n6.signed2-2.type_inv n6.signed2-2.ensures i;
       tvg_max_range = n7.unsigned2-5.ensures i;
       blanking_up_to_range = n8.unsigned2-6.ensures i;
-      calibrator_signal = held-signed w16 n9.signed2-3.type-inv n9.signed2-3.ensures i;
+      calibrator_signal = held-signed w16 n9.signed2-3.type_inv n9.signed2-3.ensures i;
       calibrator_mode = n10.unsigned2-7.ensures i;
       calibrator_separator = n11.unsigned2-8.ensures i;
-      tuple_attribute = held-signed w32 n12.signed4.type-inv n12.signed4.ensures i;
+      tuple_attribute = held-signed w32 n12.signed4.type_inv n12.signed4.ensures i;
     }
 
 pub of_spec : {M : Type 1} → statement M

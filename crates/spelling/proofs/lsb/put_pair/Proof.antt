@@ -14,7 +14,7 @@ returns c =
     let number = value.before.before.before.before in
     let start = number.before.before.before in
     let a = start.args in
-    sample_put wide refl false a.out-1.now _ _ a.at a.number a.value (omega (arith, start.ranges.value))
+    sample_put wide refl false a.out.now _ _ a.at a.number a.value (omega (arith, start.ranges.value))
     number.store4.ensures
     value.store4-2.ensures
 

@@ -50,7 +50,7 @@ loop-holds c =
 left : (c : tie.In-loop-at invariant-loop decreases-loop) →
     let a = c.args in
     let l = c.loop-at in
-    (4 ≤ length a.part.now - l.p) × (l.at + 8 ≤ a.end) × (a.end ≤ length l.out-1)
+    (4 ≤ length a.part.now - l.p) × (l.at + 8 ≤ a.end) × (a.end ≤ length l.out)
 left c =
     let s = c.before.before.before.before in
     let l = c.loop-at in

@@ -28,7 +28,7 @@ loop-holds c = let a = c.args in (
   omega arith,
   refl,
   turning_begin 4 (lit< tt) a.msb false a.part.now
-      a.out-1.now a.to,
+      a.out.now a.to,
 )
 
 loop-again : tie.Need-loop-p-preserved invariant-loop decreases-loop
@@ -39,7 +39,7 @@ loop-again c =
     let a = (start c).args in (
       omega arith,
       put.store4.auto.0 ∙ l.invariant.1,
-      turning_one 4 (lit< tt) a.msb false a.part.now a.out-1.now a.to l.out-1 _ l.p _ (omega arith) read.read4.ensures
+      turning_one 4 (lit< tt) a.msb false a.part.now a.out.now a.to l.out _ l.p _ (omega arith) read.read4.ensures
           put.store4.ensures l.invariant.2,
     )
 
@@ -47,7 +47,7 @@ returns : tie.Need-returns invariant-loop decreases-loop
 returns c =
     let l = c.loop-p in
     let a = c.args in
-    turning_end 4 (lit< tt) a.msb false a.part.now a.out-1.now a.to l.out-1 l.p c.loop-p-test.false l.invariant.2
+    turning_end 4 (lit< tt) a.msb false a.part.now a.out.now a.to l.out l.p c.loop-p-test.false l.invariant.2
 
 pub turn_words_spec : {M : Type 1} → statement M
 turn_words_spec =

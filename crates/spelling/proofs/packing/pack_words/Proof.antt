@@ -64,7 +64,7 @@ ahead : (c : tie.After-ends_run-ends invariant-loop decreases-loop) →
     ++ (given (not run.is_run-run.result) read.read4-word.result
     ++ pack_from radix same (bool_byte run.is_run-run.result * ((l.quiet + length.run_length.result) % 65536))
     (words_from 4 a.msb a.part.now (l.p + 4))))
-    a.out-1.now a.to l.out-1 l.at
+    a.out.now a.to l.out l.at
 ahead c =
     let length = c.before in
     let run = length.before in
@@ -80,7 +80,7 @@ ahead c =
 
 -- there is room for both
 room : (c : tie.After-ends_run-ends invariant-loop decreases-loop) → let l = (looping c).loop-p in
-    l.at + 4 * bool_byte c.ends_run-ends.result + 4 * bool_byte (not c.is_run-run.result) + 8 ≤ length l.out-1
+    l.at + 4 * bool_byte c.ends_run-ends.result + 4 * bool_byte (not c.is_run-run.result) + 8 ≤ length l.out
 room c =
     let length = c.before in
     let run = length.before in
@@ -129,7 +129,7 @@ loop-again c =
 last : (c : tie.After-loop-p invariant-loop decreases-loop) →
     let l = c.loop-p in
     let a = (start c.before).args in
-    Packing 4 (packed radix same (all_words 4 a.msb a.part.now)) (gap radix l.quiet) a.out-1.now a.to l.out-1 l.at
+    Packing 4 (packed radix same (all_words 4 a.msb a.part.now)) (gap radix l.quiet) a.out.now a.to l.out l.at
 unfolding pack_from
 last c =
     let l = c.loop-p in
@@ -144,7 +144,7 @@ returns c =
       omega (arith, put.write_gap.ensures.0, v.ends),
       λ t n.
           ap (λ (x : List ℕ). sets x put.write_gap.result t) put.write_gap.ensures.1
-          ∙ stored-behind (unwords 4 false (gap radix l.quiet)) t l.out-1 l.at put.write_gap.result
+          ∙ stored-behind (unwords 4 false (gap radix l.quiet)) t l.out l.at put.write_gap.result
           (omega (arith, put.write_gap.ensures.0, length-unwords 4 false (gap radix l.quiet)))
           ∙ v.bytes t n,
     )

@@ -50,8 +50,8 @@ loop-again c =
       put.store4.auto.0 ∙ l.invariant.0,
       omega (arith, ap length f),
       ap (λ (x : List ℕ). sets x (l.to + 4) (unwords 4 o (gap radix (l.false - 65536)))) put.store4.ensures
-          ∙ past_word 4 o l.out-1 l.to 4294967295 (gap radix (l.false - 65536))
-          ∙ ap (λ (ws : List ℕ). sets l.out-1 l.to (unwords 4 o ws)) (sym f)
+          ∙ past_word 4 o l.out l.to 4294967295 (gap radix (l.false - 65536))
+          ∙ ap (λ (ws : List ℕ). sets l.out l.to (unwords 4 o ws)) (sym f)
           ∙ l.invariant.2,
     )
 
@@ -65,7 +65,7 @@ returns c =
     let l = head.loop-left in
     let o = head.args.msb in
     let e : gap radix l.false ≡ [] = ap (gap radix) c.if-left-eq0.true ∙ gap-none radix (lit< tt) in
-    (omega (arith, ap length e), ap (λ (ws : List ℕ). sets l.out-1 l.to (unwords 4 o ws)) (sym e) ∙ l.invariant.2)
+    (omega (arith, ap length e), ap (λ (ws : List ℕ). sets l.out l.to (unwords 4 o ws)) (sym e) ∙ l.invariant.2)
 
 store4-requires-2 : tie.Need-store4-requires-2 invariant-loop decreases-loop
 store4-requires-2 c κs = omega (arith, ap length (last c.before))
@@ -87,8 +87,8 @@ returns-2 c =
     let f = last rest in (
       omega (arith, ap length f),
       put.store4-2.ensures
-          ∙ past_word 4 o l.out-1 l.to (4294901760 + (l.false - 1)) []
-          ∙ ap (λ (ws : List ℕ). sets l.out-1 l.to (unwords 4 o ws)) (sym f)
+          ∙ past_word 4 o l.out l.to (4294901760 + (l.false - 1)) []
+          ∙ ap (λ (ws : List ℕ). sets l.out l.to (unwords 4 o ws)) (sym f)
           ∙ l.invariant.2,
     )
 

@@ -43,11 +43,11 @@ loop-again c =
       omega arith,
       put.store4-in-loop-i.auto.0 ∙ first.store4.auto.0 ∙ l.invariant.1,
       omega arith,
-      sample_stored wide refl a.msb l.out-1 _ _ l.to (get_or a.numbers.now l.i 0) said.pattern4.result
-          (omega (arith, said.pattern4.type-inv)) first.store4.ensures put.store4-in-loop-i.ensures rest
-          ∙ ap (λ (v : ℕ). sets l.out-1 l.to (unsampled wide a.msb ((get_or a.numbers.now l.i 0, v) ∷ rest)))
+      sample_stored wide refl a.msb l.out _ _ l.to (get_or a.numbers.now l.i 0) said.pattern4.result
+          (omega (arith, said.pattern4.type_inv)) first.store4.ensures put.store4-in-loop-i.ensures rest
+          ∙ ap (λ (v : ℕ). sets l.out l.to (unsampled wide a.msb ((get_or a.numbers.now l.i 0, v) ∷ rest)))
           (pattern-read w32 4 (get_or a.values.now l.i (pos 0)) _ said.pattern4-arg-1.given said.pattern4.ensures)
-          ∙ ap (λ (s : List Sample). sets l.out-1 l.to (unsampled wide a.msb s))
+          ∙ ap (λ (s : List Sample). sets l.out l.to (unsampled wide a.msb s))
           (sym (paired-next 4 a.numbers.now a.values.now l.i (omega arith) (omega arith)))
           ∙ l.invariant.3,
     )
@@ -57,7 +57,7 @@ unfolding unsampled
 returns c =
     let l = c.loop-i in
     let a = c.args in
-    ap (λ (s : List Sample). sets l.out-1 l.to (unsampled wide a.msb s))
+    ap (λ (s : List Sample). sets l.out l.to (unsampled wide a.msb s))
     (sym (paired-end 4 a.numbers.now a.values.now l.i c.loop-i-test.false))
     ∙ l.invariant.3
 

@@ -97,7 +97,7 @@ loop-again c =
       omega (arith, words number, gone.write_gap-behind.ensures),
       sample_turn 4 (word_for wide) a.numbers.now a.values.now l.i n (omega arith) (omega arith) number.wide-number.ensures.0
           l.next a.quiet radix (lit< tt) 4 a.msb
-          l.out-1 _ _ l.to gone.write_gap-behind.result said.pattern4.result
+          l.out _ _ l.to gone.write_gap-behind.result said.pattern4.result
           gone.write_gap-behind.ensures.0 gone.write_gap-behind.ensures.1
           (pattern-read w32 4 (get_or a.values.now l.i (pos 0)) _ said.pattern4-arg-1.given said.pattern4.ensures
           ∙ unfold word_for in refl)
@@ -134,7 +134,7 @@ returns c =
     let l = after.loop-i in
     let a = after.args in
     put.write_gap.ensures.1
-    ∙ ap (λ (ws : List ℕ). sets l.out-1 l.to (unwords 4 a.msb ws)) (sym (quiet-left after))
+    ∙ ap (λ (ws : List ℕ). sets l.out l.to (unwords 4 a.msb ws)) (sym (quiet-left after))
     ∙ l.invariant.4
 
 pub write_words_spec : {M : Type 1} → statement M

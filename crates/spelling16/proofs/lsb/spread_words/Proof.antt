@@ -53,7 +53,7 @@ loop-holds c =
 left : (c : tie.In-loop-at invariant-loop decreases-loop) →
     let a = c.args in
     let l = c.loop-at in
-    (2 ≤ length a.part.now - l.p) × (l.at + 4 ≤ a.end) × (a.end ≤ length l.out-1)
+    (2 ≤ length a.part.now - l.p) × (l.at + 4 ≤ a.end) × (a.end ≤ length l.out)
 left c =
     let s = c.before.before.before.before in
     let l = c.loop-at in

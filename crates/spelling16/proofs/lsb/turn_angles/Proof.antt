@@ -32,7 +32,7 @@ start c = c.before.before.before.before
 loop-holds : tie.Need-loop-p-init invariant-loop decreases-loop
 loop-holds c =
     let a = c.args in
-    (omega arith, refl, sampling-begin wide_angles a.msb false a.part.now a.out-1.now a.to)
+    (omega arith, refl, sampling-begin wide_angles a.msb false a.part.now a.out.now a.to)
 
 store2-requires : tie.Need-store2-requires invariant-loop decreases-loop
 store2-requires c κs =
@@ -64,12 +64,12 @@ loop-again c =
     let a = (start (inside put)).args in (
       omega (arith, (inside put).loop-p-test.true),
       third.store2-in-loop-p.auto.0 ∙ second.store2.kept.0 ∙ put.store4.kept.0 ∙ l.invariant.1,
-      sampling-one wide_angles a.msb false a.part.now a.out-1.now a.to l.out-1 _ l.p (n, x + 65536 * y)
+      sampling-one wide_angles a.msb false a.part.now a.out.now a.to l.out _ l.p (n, x + 65536 * y)
           (omega (arith, (inside put).loop-p-test.true))
           (angles-at wide_angles refl a.msb a.part.now l.p (l.p + 4) (l.p + 6) n x y refl (omega arith)
           put.read4.ensures second.read2.ensures third.read2-in-loop-p.ensures)
-          (angles-put wide_angles refl false l.out-1 _ _ _ (a.to + l.p) _ _ n x y
-          (omega (arith, second.read2.ok)) (omega (arith, third.read2-in-loop-p.type-inv)) (omega arith) (omega arith)
+          (angles-put wide_angles refl false l.out _ _ _ (a.to + l.p) _ _ n x y
+          (omega (arith, second.read2.ok)) (omega (arith, third.read2-in-loop-p.type_inv)) (omega arith) (omega arith)
           put.store4.ensures second.store2.ensures third.store2-in-loop-p.ensures)
           l.invariant.2,
     )
@@ -78,7 +78,7 @@ returns : tie.Need-returns invariant-loop decreases-loop
 returns c =
     let l = c.loop-p in
     let a = c.args in
-    sampling-end wide_angles a.msb false a.part.now a.out-1.now a.to l.out-1 l.p
+    sampling-end wide_angles a.msb false a.part.now a.out.now a.to l.out l.p
     (omega (arith, c.loop-p-test.false)) l.invariant.2
 
 pub turn_angles_spec : {M : Type 1} → statement M

@@ -26,7 +26,7 @@ start c = c.before.before.before.before.before.before.before.before.before
 loop-holds : tie.Need-loop-p-init invariant-loop decreases-loop
 loop-holds c =
     let a = c.args in
-    (omega arith, refl, turning_begin 2 (lit< tt) a.msb false a.part.now a.out-1.now a.to)
+    (omega arith, refl, turning_begin 2 (lit< tt) a.msb false a.part.now a.out.now a.to)
 
 loop-again : tie.Need-loop-p-preserved invariant-loop decreases-loop
 loop-again c =
@@ -36,7 +36,7 @@ loop-again c =
     let a = (start c).args in (
       omega arith,
       put.store2.auto.0 ∙ l.invariant.1,
-      turning_one 2 (lit< tt) a.msb false a.part.now a.out-1.now a.to l.out-1 _ l.p _ (omega arith) read.read2.ensures
+      turning_one 2 (lit< tt) a.msb false a.part.now a.out.now a.to l.out _ l.p _ (omega arith) read.read2.ensures
           put.store2.ensures l.invariant.2,
     )
 
@@ -44,7 +44,7 @@ returns : tie.Need-returns invariant-loop decreases-loop
 returns c =
     let l = c.loop-p in
     let a = c.args in
-    turning_end 2 (lit< tt) a.msb false a.part.now a.out-1.now a.to l.out-1 l.p c.loop-p-test.false l.invariant.2
+    turning_end 2 (lit< tt) a.msb false a.part.now a.out.now a.to l.out l.p c.loop-p-test.false l.invariant.2
 
 pub turn_words_spec : {M : Type 1} → statement M
 turn_words_spec =

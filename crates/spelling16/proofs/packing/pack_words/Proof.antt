@@ -66,7 +66,7 @@ ahead : (c : tie.After-ends_run-ends invariant-loop decreases-loop) →
     ++ (given (not run.is_run-run.result) (respelled read.read2-word.result)
     ++ pack_from 256 respelled (bool_byte run.is_run-run.result * ((l.quiet + length.run_length.result) % 256))
     (words_from 2 a.msb a.part.now (l.p + 2))))
-    a.out-1.now a.to l.out-1 l.at
+    a.out.now a.to l.out l.at
 ahead c =
     let length = c.before in
     let run = length.before in
@@ -81,7 +81,7 @@ ahead c =
 
 -- there is room for both
 room : (c : tie.After-ends_run-ends invariant-loop decreases-loop) → let l = (looping c).loop-p in
-    l.at + 2 * bool_byte c.ends_run-ends.result + 2 * bool_byte (not c.is_run-run.result) + 8 ≤ length l.out-1
+    l.at + 2 * bool_byte c.ends_run-ends.result + 2 * bool_byte (not c.is_run-run.result) + 8 ≤ length l.out
 room c =
     let length = c.before in
     let run = length.before in
@@ -136,7 +136,7 @@ loop-again c =
 last : (c : tie.After-loop-p invariant-loop decreases-loop) →
     let l = c.loop-p in
     let a = (start c.before).args in
-    Packing 2 (packed 256 respelled (all_words 2 a.msb a.part.now)) (gap 256 l.quiet) a.out-1.now a.to l.out-1 l.at
+    Packing 2 (packed 256 respelled (all_words 2 a.msb a.part.now)) (gap 256 l.quiet) a.out.now a.to l.out l.at
 unfolding pack_from
 last c =
     let l = c.loop-p in
@@ -151,7 +151,7 @@ returns c =
       omega (arith, put.write_gap.ensures.0, v.ends),
       λ t n.
           ap (λ (x : List ℕ). sets x put.write_gap.result t) put.write_gap.ensures.1
-          ∙ stored-behind (unwords 2 false (gap 256 l.quiet)) t l.out-1 l.at put.write_gap.result
+          ∙ stored-behind (unwords 2 false (gap 256 l.quiet)) t l.out l.at put.write_gap.result
           (omega (arith, put.write_gap.ensures.0, length-unwords 2 false (gap 256 l.quiet)))
           ∙ v.bytes t n,
     )

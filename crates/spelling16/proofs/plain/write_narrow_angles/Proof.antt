@@ -63,8 +63,8 @@ loop-again c =
       omega arith,
       put.store2-in-loop-i-2.auto.0 ∙ first.store2-in-loop-i.kept.0 ∙ number.store2.kept.0 ∙ l.invariant.1,
       omega arith,
-      angles-turn narrow_angles refl a.msb l.out-1 _ _ _ l.to _ _ (get_or ns l.i 0) x.pattern2.result y.pattern2-in-loop-i.result
-          (omega (arith, x.pattern2.ok)) (omega (arith, y.pattern2-in-loop-i.type-inv)) (omega arith) (omega arith)
+      angles-turn narrow_angles refl a.msb l.out _ _ _ l.to _ _ (get_or ns l.i 0) x.pattern2.result y.pattern2-in-loop-i.result
+          (omega (arith, x.pattern2.ok)) (omega (arith, y.pattern2-in-loop-i.type_inv)) (omega arith) (omega arith)
           number.store2.ensures first.store2-in-loop-i.ensures put.store2-in-loop-i-2.ensures refl ns xs ys l.i (omega arith)
           start.requires.0 start.requires.1.0 refl
           (pattern-read w16 2 (get_or xs l.i (pos 0)) _ x.pattern2-arg-1.given x.pattern2.ensures)
@@ -77,7 +77,7 @@ unfolding unsampled
 returns c =
     let l = c.loop-i in
     let a = c.args in
-    ap (λ (s : List Sample). sets l.out-1 l.to (unsampled narrow_angles a.msb s))
+    ap (λ (s : List Sample). sets l.out l.to (unsampled narrow_angles a.msb s))
     (sym (angled-end a.numbers.now a.alongship.now a.athwartship.now l.i c.loop-i-test.false))
     ∙ l.invariant.3
 

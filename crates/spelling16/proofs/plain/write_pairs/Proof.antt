@@ -43,11 +43,11 @@ loop-again c =
       omega arith,
       put.store2-in-loop-i.auto.0 ∙ first.store2.auto.0 ∙ l.invariant.1,
       omega arith,
-      sample_stored narrow refl a.msb l.out-1 _ _ l.to (get_or a.numbers.now l.i 0) said.pattern2.result
-          (omega (arith, said.pattern2.type-inv)) first.store2.ensures put.store2-in-loop-i.ensures rest
-          ∙ ap (λ (v : ℕ). sets l.out-1 l.to (unsampled narrow a.msb ((get_or a.numbers.now l.i 0, v) ∷ rest)))
+      sample_stored narrow refl a.msb l.out _ _ l.to (get_or a.numbers.now l.i 0) said.pattern2.result
+          (omega (arith, said.pattern2.type_inv)) first.store2.ensures put.store2-in-loop-i.ensures rest
+          ∙ ap (λ (v : ℕ). sets l.out l.to (unsampled narrow a.msb ((get_or a.numbers.now l.i 0, v) ∷ rest)))
           (pattern-read w16 2 (get_or a.values.now l.i (pos 0)) _ said.pattern2-arg-1.given said.pattern2.ensures)
-          ∙ ap (λ (s : List Sample). sets l.out-1 l.to (unsampled narrow a.msb s))
+          ∙ ap (λ (s : List Sample). sets l.out l.to (unsampled narrow a.msb s))
           (sym (paired-next 2 a.numbers.now a.values.now l.i (omega arith) (omega arith)))
           ∙ l.invariant.3,
     )
@@ -57,7 +57,7 @@ unfolding unsampled
 returns c =
     let l = c.loop-i in
     let a = c.args in
-    ap (λ (s : List Sample). sets l.out-1 l.to (unsampled narrow a.msb s))
+    ap (λ (s : List Sample). sets l.out l.to (unsampled narrow a.msb s))
     (sym (paired-end 2 a.numbers.now a.values.now l.i c.loop-i-test.false))
     ∙ l.invariant.3
 

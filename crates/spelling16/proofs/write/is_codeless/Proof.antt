@@ -30,7 +30,7 @@ returns-2 c =
     let code = test.before in
     let said = code.before in
     let back : c.pattern4.result ≡ pattern_of 4 (count_of code.code_of-code.result) =
-    pattern-read w32 4 count.count_of.result _ count.count_of.type-inv c.pattern4.ensures
+    pattern-read w32 4 count.count_of.result _ count.count_of.type_inv c.pattern4.ensures
     ∙ ap (pattern_of 4) count.count_of.ensures in
     codeless_short said.pattern4-value.result code.code_of-code.result _ _ _ code.code_of-code.ensures test.if-code-gt-MOST_WORD.false
     run.is_run.ensures bad.is_bad.ensures back

@@ -110,7 +110,7 @@ loop-again c =
       omega (arith, words number, gone.write_gap-behind.ensures),
       sample_turn 4 (word_for encoded) a.numbers.now a.counts.now l.i n (omega arith) (omega arith) number.wide-number.ensures.0
           l.next a.quiet 256 (lit< tt) 2 a.msb
-          l.out-1 _ _ l.to gone.write_gap-behind.result code.code_of.result
+          l.out _ _ l.to gone.write_gap-behind.result code.code_of.result
           gone.write_gap-behind.ensures.0 gone.write_gap-behind.ensures.1
           (code.code_of.ensures
           ∙ ap code_of
@@ -149,7 +149,7 @@ returns c =
     let a = after.args in (
       omega (arith, put.write_gap.ensures.0, ap length (quiet-left after), l.invariant.3),
       put.write_gap.ensures.1
-          ∙ ap (λ (ws : List ℕ). sets l.out-1 l.to (unwords 2 a.msb ws)) (sym (quiet-left after))
+          ∙ ap (λ (ws : List ℕ). sets l.out l.to (unwords 2 a.msb ws)) (sym (quiet-left after))
           ∙ l.invariant.4,
     )
 

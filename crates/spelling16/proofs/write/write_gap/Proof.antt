@@ -50,8 +50,8 @@ loop-again c =
       put.store2.auto.0 ∙ l.invariant.0,
       omega (arith, ap length f),
       ap (λ (x : List ℕ). sets x (l.to + 2) (unwords 2 o (gap 256 (l.false - 256)))) put.store2.ensures
-          ∙ past_word 2 o l.out-1 l.to 65535 (gap 256 (l.false - 256))
-          ∙ ap (λ (ws : List ℕ). sets l.out-1 l.to (unwords 2 o ws)) (sym f)
+          ∙ past_word 2 o l.out l.to 65535 (gap 256 (l.false - 256))
+          ∙ ap (λ (ws : List ℕ). sets l.out l.to (unwords 2 o ws)) (sym f)
           ∙ l.invariant.2,
     )
 
@@ -65,7 +65,7 @@ returns c =
     let l = head.loop-left in
     let o = head.args.msb in
     let e : gap 256 l.false ≡ [] = ap (gap 256) c.if-left-eq0.true ∙ gap-none 256 (lit< tt) in
-    (omega (arith, ap length e), ap (λ (ws : List ℕ). sets l.out-1 l.to (unwords 2 o ws)) (sym e) ∙ l.invariant.2)
+    (omega (arith, ap length e), ap (λ (ws : List ℕ). sets l.out l.to (unwords 2 o ws)) (sym e) ∙ l.invariant.2)
 
 store2-requires-2 : tie.Need-store2-requires-2 invariant-loop decreases-loop
 store2-requires-2 c κs = omega (arith, ap length (last c.before))
@@ -87,8 +87,8 @@ returns-2 c =
     let f = last rest in (
       omega (arith, ap length f),
       put.store2-2.ensures
-          ∙ past_word 2 o l.out-1 l.to (65280 + (l.false - 1)) []
-          ∙ ap (λ (ws : List ℕ). sets l.out-1 l.to (unwords 2 o ws)) (sym f)
+          ∙ past_word 2 o l.out l.to (65280 + (l.false - 1)) []
+          ∙ ap (λ (ws : List ℕ). sets l.out l.to (unwords 2 o ws)) (sym f)
           ∙ l.invariant.2,
     )
 

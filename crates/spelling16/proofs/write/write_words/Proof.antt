@@ -96,7 +96,7 @@ loop-again c =
       omega (arith, words number, gone.write_gap-behind.ensures),
       sample_turn 2 (word_for narrow) a.numbers.now a.values.now l.i n (omega arith) (omega arith) number.wide-number.ensures.0
           l.next a.quiet 256 (lit< tt) 2 a.msb
-          l.out-1 _ _ l.to gone.write_gap-behind.result said.pattern2.result
+          l.out _ _ l.to gone.write_gap-behind.result said.pattern2.result
           gone.write_gap-behind.ensures.0 gone.write_gap-behind.ensures.1
           (pattern-read w16 2 (get_or a.values.now l.i (pos 0)) _ said.pattern2-arg-1.given said.pattern2.ensures
           ∙ unfold word_for in refl)
@@ -133,7 +133,7 @@ returns c =
     let a = after.args in (
       omega (arith, put.write_gap.ensures.0, ap length (quiet-left after), l.invariant.3),
       put.write_gap.ensures.1
-          ∙ ap (λ (ws : List ℕ). sets l.out-1 l.to (unwords 2 a.msb ws)) (sym (quiet-left after))
+          ∙ ap (λ (ws : List ℕ). sets l.out l.to (unwords 2 a.msb ws)) (sym (quiet-left after))
           ∙ l.invariant.4,
     )
 

@@ -35,7 +35,7 @@ returns n11 =
       tvt_evaluation_starting_tvt_ping_number = n8.unsigned4-2.ensures i;
       tvt_offset_parameter_or_constant_threshold = n9.unsigned4-3.ensures i;
       tvt_amplification_parameter = n10.unsigned4-4.ensures i;
-      tuple_attribute = held-signed w32 n11.signed4.type-inv n11.signed4.ensures i;
+      tuple_attribute = held-signed w32 n11.signed4.type_inv n11.signed4.ensures i;
     }
 
 pub of_spec : {M : Type 1} → statement M

@@ -32,7 +32,6 @@ write_spec =
     (tie.spec
     (λ c κs. search rules)
     (λ c. search rules)
-    (λ c. search rules)
     (λ c κs. search rules)
     (λ c. search rules)
     returns)
