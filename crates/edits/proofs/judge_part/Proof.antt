@@ -37,7 +37,7 @@ abbrev kept : tie.After-stretch_end-end invariant-loop decreases-loop → tie.El
 kept c = c.before
 
 abbrev measured : tie.After-run_on invariant-loop decreases-loop → tie.After-struct_known-1 invariant-loop decreases-loop
-measured r = r.before.before.before.before.before
+measured r = r.before.before.before.before
 
 -- the part's elements are bytes
 bytes : (l : Loop) → Bytes l.before.before.args.part.now

@@ -16,7 +16,7 @@ use Rattle.edits.proofs.measure.Tie as tie
 
 -- places, named by what has been done there
 abbrev third : tie.After-index_length-index → tie.After-survey-z
-third c = c.before.before.before
+third c = c.before.before
 
 abbrev second : tie.After-survey-z → tie.After-survey-b
 second c = c.before.before

@@ -96,7 +96,7 @@ remove_spec =
     (λ c. search rules)
     (λ c κs. search rules)
     (λ c. search rules)
-    (λ c κs. record { counts-1 = _; answer = accepted c })
+    (λ c κs. record { counts = _; answer = accepted c })
     (λ c κs. search rules)
     returns
     (λ c κs. search rules)

@@ -48,7 +48,7 @@ energy_spec =
     (λ c κs. search rules)
     (λ c. search rules)
     (λ c. search rules)
-    (λ c κs. record { counts-1 = _; answer = accepted c })
+    (λ c κs. record { counts = _; answer = accepted c })
     (λ c. search rules)
     (λ c. search rules)
     (λ c κs. search rules)

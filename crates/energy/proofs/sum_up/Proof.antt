@@ -125,7 +125,7 @@ loop-again c =
     (added (record {
       before = record {
         before = record {
-          before = record { before = record { before = record { before = c.before; if-sampled = w.0 }; struct_told-1 = w.1 }; if-value-gt0 = w.2 };
+          before = record { before = record { before = record { before = c.before; if-sampled = w.0 }; struct_told = w.1 }; if-value-gt0 = w.2 };
           negated_of = w.3;
         };
         if-depth-gt-QUIETEST = w.4;

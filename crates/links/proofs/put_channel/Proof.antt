@@ -17,7 +17,7 @@ returns c =
     let e : it.samples % 65536 ≡ it.samples = omega (arith, k) in (
       ap (λ (m : ℕ). set a.rows.now a.row (it.id.0 ∷ it.parent.0 ∷ a.place ∷ it.rate ∷ it.samples ∷ m ∷ []))
           n.number_of-number.ensures.0,
-      λ i. record { id-1 = it.id; parent-1 = it.parent; rate = it.rate; samples = e i; maker = n.number_of-number.ensures.1 i },
+      λ i. record { id = it.id; parent = it.parent; rate = it.rate; samples = e i; maker = n.number_of-number.ensures.1 i },
     )
 
 pub put_channel_spec : {M : Type 1} → statement M

@@ -13,7 +13,7 @@ returns c =
     let a = n.args in
     let it = a.it in (
       ap (λ (m : ℕ). set a.rows.now a.row (it.doc.0 ∷ it.says ∷ a.place ∷ 0 ∷ 0 ∷ m ∷ [])) n.number_of-number.ensures.0,
-      λ i. record { doc-1 = it.doc; says = it.says; maker = n.number_of-number.ensures.1 i },
+      λ i. record { doc = it.doc; says = it.says; maker = n.number_of-number.ensures.1 i },
     )
 
 pub put_sounder_spec : {M : Type 1} → statement M

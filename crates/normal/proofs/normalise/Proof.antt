@@ -24,7 +24,7 @@ taken c = c.before.before
 
 -- the check accepts
 abbrev accepts : (c : tie.In-Accepted) → Accepts (start c).args.file.now
-accepts c = record { counts-1 = _; answer = sym c.check.ensures.is ∙ c.in-Accepted.is }
+accepts c = record { counts = _; answer = sym c.check.ensures.is ∙ c.in-Accepted.is }
 
 -- what is measured
 found : (c : tie.After-measure_file-m)

@@ -15,7 +15,7 @@ accepted : (c : tie.In-Accepted) → check_file (start c.before).args.file.now �
 accepted c = sym c.check.ensures.is ∙ c.in-Accepted.is
 
 find-requires : tie.Need-find-requires
-find-requires c κs = record { counts-1 = c.in-Accepted.counts; answer = accepted c }
+find-requires c κs = record { counts = c.in-Accepted.counts; answer = accepted c }
 
 -- the linked ping
 found : (c : tie.In-Ping) → let a = (start c.before.before.before).args in

@@ -17,14 +17,14 @@ abbrev start : tie.After-row-row → tie.Start
 start c = c.before.before.before
 
 abbrev rowed : tie.After-read_row → tie.After-row-row
-rowed c = c.before.before.before.before
+rowed c = c.before.before.before
 
 abbrev first_read : tie.After-read_row-2 → tie.After-read_row
-first_read c = c.before.before.before.before.before.before
+first_read c = c.before.before.before.before.before.before.before
 
 parted : {r : List ℕ} → r ≡ get_or row_codes 4 [] → Parted 4 14 13 36 14 r
 unfolding row_codes listings fields_of field_of
-parted e = rw e (record { first = lit≤ tt; other = lit≤ tt; bytes = refl; numbers-1 = refl; whole = refl })
+parted e = rw e (record { first = lit≤ tt; other = lit≤ tt; bytes = refl; numbers = refl; whole = refl })
 
 read-row-requires : tie.Need-read_row-requires
 read-row-requires c κs =

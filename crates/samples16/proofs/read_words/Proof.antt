@@ -90,7 +90,7 @@ loop-again c =
       rw (w.2, w.3, w.4, w.5, w.1.ensures) (handing_as d l.invariant.3),
     ))
     (λ w.
-    let v = to_z-of_z {w = w32} {z = w.1.result} (record { sfits = w.1.ok }) ∙ w.1.ensures in (
+    let v = to_z-of_z {w = w32} {z = w.1.result} (record { sfits = w.1.type_inv }) ∙ w.1.ensures in (
       omega arith,
       omega (arith, w.5),
       omega (arith, w.4),

@@ -38,7 +38,7 @@ abbrev roled : tie.After-line_of-line invariant-loop decreases-loop → tie.Afte
 roled c = c.before.before.before.before.before
 
 abbrev lined : tie.After-told_of-told invariant-loop decreases-loop → tie.After-line_of-line invariant-loop decreases-loop
-lined c = c.before.before
+lined c = c.before
 
 abbrev tolded : tie.After-put_row-row invariant-loop decreases-loop → tie.After-told_of-told invariant-loop decreases-loop
 tolded c = c.before.before.before.before
@@ -133,7 +133,7 @@ loop-again c =
     let k = c.keep-h.ensures in
     filling_again l.loop-at.invariant l.loop-at-test.true r.role_at-role.result r.role_at-role.ensures t.told_of-told.result (told t) _
     r.length_at-whole.ensures _ _ e.0
-    (record { pings-1 = e.1.0; thresholds-1 = e.1.1.0; attitudes-1 = e.1.1.1 }) _ _ _ k.0 k.1.0 k.1.1.0
+    (record { pings = e.1.0; thresholds = e.1.1.0; attitudes = e.1.1.1 }) _ _ _ k.0 k.1.0 k.1.1.0
     (k.1.1.1 ∙ ap (λ (i : ℕ). lines_by r.role_at-role.result l.loop-at.at i l.loop-at.lines) n.line_of-line.ensures)
 
 pub fill_with_spec : {M : Type 1} → statement M

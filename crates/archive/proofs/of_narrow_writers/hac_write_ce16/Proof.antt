@@ -33,14 +33,14 @@ returns-2 c =
     let s = e.before.before.before.before in
     let a = s.args in
     let header : ℤ → PingHeader = λ z.
-    header_with a.time-fraction a.time-cpu a.software-channel-identifier a.transmitter-mode a.ping-number z in
+    header_with a.time_fraction a.time_cpu a.software_channel_identifier a.transmitter_mode a.ping_number z in
     let W : PingHeader → ℤ → Option ℕ → Type 0 = λ h z n.
     WrittenC encoded a.msb h z a.numbers.now a.values.now n a.out.now k.write_ce16.result
     k.write_ce16.new.1.1.1.1.1.1.0 in
     answer-told _ a.answer.now a.out.now k.write_ce16.result _ _ _ e.if-answer-lt-HEAD.false
-    (subst (W (header a.detected-bottom-range) a.tuple-attribute) l.handed_length-length.ensures
-    (of_same (λ (h : PingHeader) (z : ℤ). W h z (handed_length l.handed_length-length.result)) header s.ranges.detected-bottom-range
-    s.ranges.tuple-attribute g.header_of-header.ensures k.write_ce16.ensures))
+    (subst (W (header a.detected_bottom_range) a.tuple_attribute) l.handed_length-length.ensures
+    (of_same (λ (h : PingHeader) (z : ℤ). W h z (handed_length l.handed_length-length.result)) header s.ranges.detected_bottom_range
+    s.ranges.tuple_attribute g.header_of-header.ensures k.write_ce16.ensures))
     t.tell_answer.ensures
 
 pub hac_write_ce16_spec : {M : Type 1} → statement M

@@ -34,8 +34,8 @@ returns-2 c =
     (λ (h : PingHeader) (z : ℤ).
     WrittenU narrow a.msb h z a.numbers.now a.values.now a.out.now k.write_u16.result
     k.write_u16.new.1.1.1.1.1.0)
-    (header_with a.time-fraction a.time-cpu a.software-channel-identifier a.transmitter-mode a.ping-number)
-    s.ranges.detected-bottom-range s.ranges.tuple-attribute g.header_of-header.ensures k.write_u16.ensures)
+    (header_with a.time_fraction a.time_cpu a.software_channel_identifier a.transmitter_mode a.ping_number)
+    s.ranges.detected_bottom_range s.ranges.tuple_attribute g.header_of-header.ensures k.write_u16.ensures)
     t.tell_answer.ensures
 
 pub hac_write_u16_spec : {M : Type 1} → statement M

@@ -29,7 +29,7 @@ returns c =
     let s = p.before in
     let a = (start s).args in
     let h = a.header in
-    let both = (λ j. w.has_number.ensures j ∷ n.length_number.ensures j ∷ []) ∙ both_told a.ping-length in (
+    let both = (λ j. w.has_number.ensures j ∷ n.length_number.ensures j ∷ []) ∙ both_told a.ping_length in (
       t.tell_found.ensures.0 ∙ ap (λ (y : Answer). (numbers y).code) e,
       t.tell_found.ensures.1
           ∙ (λ i.

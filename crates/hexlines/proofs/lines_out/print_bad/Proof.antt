@@ -8,7 +8,7 @@ use Rattle.hexlines.proofs.lines_out.print_bad.Tie as tie
 
 -- places, named by what has been done there
 abbrev start : tie.After-put_decimal-to → tie.Start
-start c = c.before.before.before.before.before.before.before.before
+start c = c.before.before.before.before.before.before.before.before.before
 
 put-requires-2 : tie.Need-put-requires
 put-requires-2 c κs = omega (arith, at-most_twenty (start c.before.before.before.before.before).args.number)

@@ -8,10 +8,10 @@ use Rattle.hexlines.proofs.lines_out.print_refused.Tie as tie
 
 -- places, named by what has been done there
 abbrev start : tie.After-put_decimal-to → tie.Start
-start c = c.before.before.before.before.before.before.before.before
+start c = c.before.before.before.before.before.before.before.before.before
 
 abbrev coded : tie.After-put-to-2 → tie.After-put_decimal-to
-coded c = c.before.before.before.before.before
+coded c = c.before.before.before.before.before.before
 
 put-requires-2 : tie.Need-put-to-requires-2
 put-requires-2 c κs = omega (arith, at-most_twenty (start c.before.before.before.before.before).args.code)

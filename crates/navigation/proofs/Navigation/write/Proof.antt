@@ -13,7 +13,7 @@ use Rattle.navigation.proofs.Navigation.write.Tie as tie
 
 -- ---- places: from where the row is written back to its numbers, and to the start
 abbrev numbered : tie.After-write_row → tie.After-numbers
-numbered w = w.before.before.before.before
+numbered w = w.before.before.before.before.before
 
 abbrev start : tie.After-write_row → tie.Start
 start w = (numbered w).before.before

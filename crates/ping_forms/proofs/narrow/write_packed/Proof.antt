@@ -52,7 +52,7 @@ room k =
       most = (most p.0).1;
       there = (most p.0).2;
       ends = (p.1.0.least, p.1.0.most);
-      words-1 = omega (arith, m.1);
+      words = omega (arith, m.1);
       room = omega (arith, m.0, p.1.1.1);
     }
 

@@ -46,7 +46,7 @@ room k =
       least = long p.0;
       most = (most p.0).1;
       there = (most p.0).2;
-      words-1 = omega (arith, m.1, (most p.0).1);
+      words = omega (arith, m.1, (most p.0).1);
       room = omega (arith, m.0, p.1.1);
     }
 

@@ -69,7 +69,7 @@ loop-again c =
           (angles-at wide_angles refl a.msb a.part.now l.p (l.p + 4) (l.p + 6) n x y refl (omega arith)
           put.read4.ensures second.read2.ensures third.read2-in-loop-p.ensures)
           (angles-put wide_angles refl false l.out _ _ _ (a.to + l.p) _ _ n x y
-          (omega (arith, second.read2.ok)) (omega (arith, third.read2-in-loop-p.type_inv)) (omega arith) (omega arith)
+          (omega (arith, second.read2.type_inv)) (omega (arith, third.read2-in-loop-p.type_inv)) (omega arith) (omega arith)
           put.store4.ensures second.store2.ensures third.store2-in-loop-p.ensures)
           l.invariant.2,
     )

@@ -64,7 +64,7 @@ loop-again c =
       put.store2-in-loop-i.auto.0 ∙ first.store2.kept.0 ∙ number.store4.kept.0 ∙ l.invariant.1,
       omega arith,
       angles-turn wide_angles refl a.msb l.out _ _ _ l.to _ _ (get_or ns l.i 0) x.pattern2.result y.pattern2-in-loop-i.result
-          (omega (arith, x.pattern2.ok)) (omega (arith, y.pattern2-in-loop-i.type_inv)) (omega arith) (omega arith)
+          (omega (arith, x.pattern2.type_inv)) (omega (arith, y.pattern2-in-loop-i.type_inv)) (omega arith) (omega arith)
           number.store4.ensures first.store2.ensures put.store2-in-loop-i.ensures refl ns xs ys l.i (omega arith)
           start.requires.0 start.requires.1.0 refl
           (pattern-read w16 2 (get_or xs l.i (pos 0)) _ x.pattern2-arg-1.given x.pattern2.ensures)
