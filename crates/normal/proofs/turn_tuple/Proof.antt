@@ -64,7 +64,7 @@ write-form-requires c κs =
     let measured = fits.before.before in
     let u = measured.before.before in (
       sound u.before.before.before,
-      omega (arith, measured.measure_form-form.ensures.bytes, fits.if-out-bytes.false, stored.store4.auto.0),
+      omega (arith, measured.measure_form-form.ensures.bytes, fits.if-out-bytes.false, stored.store4.auto.out),
     )
 
 returns-4 : tie.Need-returns

@@ -92,7 +92,7 @@ loop-again c =
     written.write_piece-to.ensures.0 written.write_piece-to.ensures.1
 
 same_length : tie.Need-shape_of-out invariant-loop decreases-loop
-same_length c = writing-length _ _ _ _ _ _ _ c.loop-at.invariant ∙ c.store4.auto.0
+same_length c = writing-length _ _ _ _ _ _ _ c.loop-at.invariant ∙ c.store4.auto.out
 
 returns : tie.Need-returns invariant-loop decreases-loop
 returns c =

@@ -64,7 +64,7 @@ put-kept-requires c κs =
     let o = (ordering k).is_msb-msb.ensures in
     let e = p.piece_at-range.ensures in (
       within_of (first-lying _ _ _ s.marked more o e) (omega arith),
-      omega (arith, length-first _ _ _ s.marked more o e, s.output, (marking k).store4.auto.0),
+      omega (arith, length-first _ _ _ s.marked more o e, s.output, (marking k).store4.auto.out),
     )
 
 loop-holds : tie.Need-loop-range-init invariant-loop decreases-loop
@@ -77,7 +77,7 @@ loop-holds c =
     u.put_kept-to.ensures.0
     (record {
       marked = s.marked;
-      output = omega (arith, s.output, (marking k).store4.auto.0, u.put_kept-to.auto.1);
+      output = omega (arith, s.output, (marking k).store4.auto.out, u.put_kept-to.auto.1);
       report = s.report;
     })
 
@@ -111,7 +111,7 @@ same-length-3 : tie.Need-shape_of-table invariant-loop decreases-loop
 same-length-3 c =
     let r = c.before.before in
     let l = r.before.before.before.before in
-    omega (arith, table-length l.loop-range.invariant, r.put_row.auto.0)
+    omega (arith, table-length l.loop-range.invariant, r.put_row.auto.out)
 
 returns-2 : tie.Need-returns invariant-loop decreases-loop
 unfolding mark

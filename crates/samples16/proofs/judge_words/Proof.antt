@@ -82,10 +82,10 @@ good c =
     ⊎_elim
     (λ x.
     let found : tie.After-find_bad-arg-1 =
-    record { before = record { before = c.before; if-seen = x.0 }; find_bad-arg-1 = x.1 } in
-    let p = placed (record { before = found; find_bad-at = x.2 }) in
-    sym (le-ltb (first_bad (lettered w) (these w)) (length (these w)) (omega (arith, x.3.false, p, ended w))))
-    (λ x. sym (bad-held (lettered w) a.count (all_words 2 a.msb a.part.now) (sym w.look-seen.ensures.1.0 ∙ x.false)))
+    record { before = record { before = c.before; if-seen = x.if-seen }; find_bad-arg-1 = x.find_bad-arg-1 } in
+    let p = placed (record { before = found; find_bad-at = x.find_bad-at }) in
+    sym (le-ltb (first_bad (lettered w) (these w)) (length (these w)) (omega (arith, x.if-at-end.false, p, ended w))))
+    (λ x. sym (bad-held (lettered w) a.count (all_words 2 a.msb a.part.now) (sym w.look-seen.ensures.1.0 ∙ x.if-seen.false)))
     c.if-seen.branch-raw
 
 returns : tie.Need-returns-then-values-gt-MOST

@@ -83,18 +83,18 @@ loop-again c =
     ⊎_elim
     (λ w.
     let d = ap (revalued (meant (words_by read.args.encoded)))
-    (ap (decode_from 256 l.number) step ∙ decode-run 256 (lit< tt) _ word _ (sym run.is_run.ensures ∙ w.0.true)) in (
+    (ap (decode_from 256 l.number) step ∙ decode-run 256 (lit< tt) _ word _ (sym run.is_run.ensures ∙ w.if-is_run.true)) in (
       omega arith,
-      omega (arith, w.5),
-      omega (arith, w.4, w.1.ensures, run_short 256 (lit< tt) word),
-      rw (w.2, w.3, w.4, w.5, w.1.ensures) (handing_as d l.invariant.3),
+      omega (arith, w.entry-is),
+      omega (arith, w.number-is, w.run_length.ensures, run_short 256 (lit< tt) word),
+      rw (w.numbers-is, w.values-is, w.number-is, w.entry-is, w.run_length.ensures) (handing_as d l.invariant.3),
     ))
     (λ w.
-    let v = to_z-of_z {w = w32} {z = w.1.result} (record { sfits = w.1.type_inv }) ∙ w.1.ensures in (
+    let v = to_z-of_z {w = w32} {z = w.value_of.result} (record { sfits = w.value_of.type_inv }) ∙ w.value_of.ensures in (
       omega arith,
-      omega (arith, w.5),
-      omega (arith, w.4),
-      rw (w.2, w.3, w.4, w.5) (handing_one _ _ v (value (record { before = run; if-is_run = w.0 }))),
+      omega (arith, w.entry-is),
+      omega (arith, w.number-is),
+      rw (w.numbers-is, w.values-is, w.number-is, w.entry-is) (handing_one _ _ v (value (record { before = run; if-is_run = w.if-is_run }))),
     ))
     c.if-is_run.branch-raw
 

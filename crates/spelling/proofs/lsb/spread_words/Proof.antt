@@ -97,7 +97,7 @@ loop-again c =
     let w = read.read4-word.result in (
       omega (arith, h.0),
       omega (arith, few c, l.invariant.1),
-      spreading_word l.number w put.put_pair.ensures put.put_pair.auto.0 radix (lit< tt) _ run.is_run-run.result
+      spreading_word l.number w put.put_pair.ensures put.put_pair.auto.out radix (lit< tt) _ run.is_run-run.result
           run.is_run-run.ensures
           test.loop-at-test.true
           (spreading_as (ap (decode_from radix l.number) (next 4 (lit< tt) _ _ _ _ h.0 read.read4-word.ensures)) l.invariant.2),

@@ -38,7 +38,7 @@ loop-again c =
     let l = (looping c).loop-p in
     let a = (start c).args in (
       omega arith,
-      put.store4.auto.0 ∙ l.invariant.1,
+      put.store4.auto.out ∙ l.invariant.1,
       turning_one 4 (lit< tt) a.msb false a.part.now a.out.now a.to l.out _ l.p _ (omega arith) read.read4.ensures
           put.store4.ensures l.invariant.2,
     )

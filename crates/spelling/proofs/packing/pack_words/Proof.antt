@@ -121,8 +121,8 @@ loop-again c =
     let l = (looping ends).loop-p in (
       omega arith,
       omega (arith, once run.is_run-run.result ((l.quiet + length.run_length.result) % 65536)),
-      packing_one (lit≤ tt) (not run.is_run-run.result) read.read4-word.result _ put.store4-in-loop-p.ensures put.store4-in-loop-p.auto.0
-          (packing_one (lit≤ tt) ends.ends_run-ends.result _ _ run-put.store4.ensures run-put.store4.auto.0 (ahead ends)),
+      packing_one (lit≤ tt) (not run.is_run-run.result) read.read4-word.result _ put.store4-in-loop-p.ensures put.store4-in-loop-p.auto.out
+          (packing_one (lit≤ tt) ends.ends_run-ends.result _ _ run-put.store4.ensures run-put.store4.auto.out (ahead ends)),
     )
 
 -- no word is left: the quiet samples behind the last value are
@@ -193,5 +193,5 @@ pack_words_spec =
     loop-again
     (λ c. search rules)
     (λ c κs. let v = last c.before in omega (arith, v.ends, v.long, (start c.before.before).requires.1))
-    (λ c. let put = c.before.before in put.write_gap.auto.0 ∙ put.loop-p.invariant.2.long)
+    (λ c. let put = c.before.before in put.write_gap.auto.out ∙ put.loop-p.invariant.2.long)
     returns)

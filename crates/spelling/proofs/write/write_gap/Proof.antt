@@ -25,11 +25,11 @@ decreases-loop out₀ at msb quiet to₀ left₀ out to left = left
 
 -- in a turn a full run is written, and after the loop the remainder
 full : (c : tie.After-store4-arg-1 invariant-loop decreases-loop) → let l = c.loop-left in
-    gap radix l.false ≡ 4294967295 ∷ gap radix (l.false - 65536)
-full c = gap-full radix (lit< tt) c.loop-left.false c.loop-left-test.true
+    gap radix l.left ≡ 4294967295 ∷ gap radix (l.left - 65536)
+full c = gap-full radix (lit< tt) c.loop-left.left c.loop-left-test.true
 
-last : (c : tie.Else-left-eq0 invariant-loop decreases-loop) → let l = c.loop-left in gap radix l.false ≡ (4294901760 + (l.false - 1)) ∷ []
-last c = gap-last radix (lit< tt) c.loop-left.false (pos_of_ne-zero c.if-left-eq0.false) c.loop-left-test.false
+last : (c : tie.Else-left-eq0 invariant-loop decreases-loop) → let l = c.loop-left in gap radix l.left ≡ (4294901760 + (l.left - 1)) ∷ []
+last c = gap-last radix (lit< tt) c.loop-left.left (pos_of_ne-zero c.if-left-eq0.false) c.loop-left-test.false
 
 loop-holds : tie.Need-loop-left-init invariant-loop decreases-loop
 loop-holds c = (refl, refl, refl)
@@ -47,10 +47,10 @@ loop-again c =
     let l = head.loop-left in
     let o = head.args.msb in
     let f = full put.before in (
-      put.store4.auto.0 ∙ l.invariant.0,
+      put.store4.auto.out ∙ l.invariant.0,
       omega (arith, ap length f),
-      ap (λ (x : List ℕ). sets x (l.to + 4) (unwords 4 o (gap radix (l.false - 65536)))) put.store4.ensures
-          ∙ past_word 4 o l.out l.to 4294967295 (gap radix (l.false - 65536))
+      ap (λ (x : List ℕ). sets x (l.to + 4) (unwords 4 o (gap radix (l.left - 65536)))) put.store4.ensures
+          ∙ past_word 4 o l.out l.to 4294967295 (gap radix (l.left - 65536))
           ∙ ap (λ (ws : List ℕ). sets l.out l.to (unwords 4 o ws)) (sym f)
           ∙ l.invariant.2,
     )
@@ -64,7 +64,7 @@ returns c =
     let head = c.before.before in
     let l = head.loop-left in
     let o = head.args.msb in
-    let e : gap radix l.false ≡ [] = ap (gap radix) c.if-left-eq0.true ∙ gap-none radix (lit< tt) in
+    let e : gap radix l.left ≡ [] = ap (gap radix) c.if-left-eq0.true ∙ gap-none radix (lit< tt) in
     (omega (arith, ap length e), ap (λ (ws : List ℕ). sets l.out l.to (unwords 4 o ws)) (sym e) ∙ l.invariant.2)
 
 store4-requires-2 : tie.Need-store4-requires-2 invariant-loop decreases-loop
@@ -74,7 +74,7 @@ add-result : tie.Need-overflow_add-result invariant-loop decreases-loop
 add-result c = omega (arith, ap length (last c.before.before.before.before))
 
 same-length-2 : tie.Need-shape_of-out invariant-loop decreases-loop
-same-length-2 c = let put = c.before.before in put.store4-2.auto.0 ∙ put.loop-left.invariant.0
+same-length-2 c = let put = c.before.before in put.store4-2.auto.out ∙ put.loop-left.invariant.0
 
 returns-2 : tie.Need-returns invariant-loop decreases-loop
 unfolding unwords
@@ -87,7 +87,7 @@ returns-2 c =
     let f = last rest in (
       omega (arith, ap length f),
       put.store4-2.ensures
-          ∙ past_word 4 o l.out l.to (4294901760 + (l.false - 1)) []
+          ∙ past_word 4 o l.out l.to (4294901760 + (l.left - 1)) []
           ∙ ap (λ (ws : List ℕ). sets l.out l.to (unwords 4 o ws)) (sym f)
           ∙ l.invariant.2,
     )

@@ -29,7 +29,7 @@ loop-holds : tie.Need-loop-i-init invariant-loop decreases-loop
 loop-holds c = (omega arith, refl, omega arith, refl)
 
 store4-requires-2 : tie.Need-store4-requires-in-loop-i invariant-loop decreases-loop
-store4-requires-2 c κs = omega (arith, c.store4.auto.0)
+store4-requires-2 c κs = omega (arith, c.store4.auto.out)
 
 loop-again : tie.Need-loop-i-preserved invariant-loop decreases-loop
 loop-again c =
@@ -41,7 +41,7 @@ loop-again c =
     let a = head.args in
     let rest = paired 4 (drop (l.i + 1) a.numbers.now) (drop (l.i + 1) a.values.now) in (
       omega arith,
-      put.store4-in-loop-i.auto.0 ∙ first.store4.auto.0 ∙ l.invariant.1,
+      put.store4-in-loop-i.auto.out ∙ first.store4.auto.out ∙ l.invariant.1,
       omega arith,
       sample_stored wide refl a.msb l.out _ _ l.to (get_or a.numbers.now l.i 0) said.pattern4.result
           (omega (arith, said.pattern4.type_inv)) first.store4.ensures put.store4-in-loop-i.ensures rest

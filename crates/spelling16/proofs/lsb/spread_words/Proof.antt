@@ -120,7 +120,7 @@ loop-again c =
         ap (λ (ws : List ℕ). behind 0 (decode_from 256 l.number ws)) step,
         l.invariant.2,
       ),
-      spreading_word l.number w put.put_pair.ensures put.put_pair.auto.0 256 (lit< tt) _ run.is_run-run.result
+      spreading_word l.number w put.put_pair.ensures put.put_pair.auto.out 256 (lit< tt) _ run.is_run-run.result
           run.is_run-run.ensures test.loop-at-test.true
           (spreading_as (ap (decode_from 256 l.number) step) l.invariant.3),
     )

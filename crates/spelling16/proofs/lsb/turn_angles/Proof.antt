@@ -63,7 +63,7 @@ loop-again c =
     let l = (inside put).loop-p in
     let a = (start (inside put)).args in (
       omega (arith, (inside put).loop-p-test.true),
-      third.store2-in-loop-p.auto.0 ∙ second.store2.kept.0 ∙ put.store4.kept.0 ∙ l.invariant.1,
+      third.store2-in-loop-p.auto.out ∙ second.store2.kept.0 ∙ put.store4.kept.0 ∙ l.invariant.1,
       sampling-one wide_angles a.msb false a.part.now a.out.now a.to l.out _ l.p (n, x + 65536 * y)
           (omega (arith, (inside put).loop-p-test.true))
           (angles-at wide_angles refl a.msb a.part.now l.p (l.p + 4) (l.p + 6) n x y refl (omega arith)

@@ -35,7 +35,7 @@ loop-again c =
     let l = (looping c).loop-p in
     let a = (start c).args in (
       omega arith,
-      put.store2.auto.0 ∙ l.invariant.1,
+      put.store2.auto.out ∙ l.invariant.1,
       turning_one 2 (lit< tt) a.msb false a.part.now a.out.now a.to l.out _ l.p _ (omega arith) read.read2.ensures
           put.store2.ensures l.invariant.2,
     )

@@ -128,8 +128,8 @@ loop-again c =
           (put.store2-in-loop-p.ensures
           ∙ ap (λ (v : ℕ). sets run-put.store2.new.0 (l.at + 2 * bool_byte ends.ends_run-ends.result) (bytes_of false 2 v))
           said.respell.ensures)
-          put.store2-in-loop-p.auto.0
-          (packing_one (lit≤ tt) ends.ends_run-ends.result _ _ run-put.store2.ensures run-put.store2.auto.0 (ahead ends)),
+          put.store2-in-loop-p.auto.out
+          (packing_one (lit≤ tt) ends.ends_run-ends.result _ _ run-put.store2.ensures run-put.store2.auto.out (ahead ends)),
     )
 
 -- no word is left: the quiet samples behind the last value are
@@ -201,5 +201,5 @@ pack_words_spec =
     loop-again
     (λ c. search rules)
     (λ c κs. let v = last c.before in omega (arith, v.ends, v.long, (start c.before.before).requires.1))
-    (λ c. let put = c.before.before in put.write_gap.auto.0 ∙ put.loop-p.invariant.2.long)
+    (λ c. let put = c.before.before in put.write_gap.auto.out ∙ put.loop-p.invariant.2.long)
     returns)

@@ -29,7 +29,7 @@ loop-holds : tie.Need-loop-i-init invariant-loop decreases-loop
 loop-holds c = (omega arith, refl, omega arith, refl)
 
 store2-requires-2 : tie.Need-store2-requires-in-loop-i invariant-loop decreases-loop
-store2-requires-2 c κs = omega (arith, c.store2.auto.0)
+store2-requires-2 c κs = omega (arith, c.store2.auto.out)
 
 loop-again : tie.Need-loop-i-preserved invariant-loop decreases-loop
 loop-again c =
@@ -41,7 +41,7 @@ loop-again c =
     let a = head.args in
     let rest = paired 2 (drop (l.i + 1) a.numbers.now) (drop (l.i + 1) a.values.now) in (
       omega arith,
-      put.store2-in-loop-i.auto.0 ∙ first.store2.auto.0 ∙ l.invariant.1,
+      put.store2-in-loop-i.auto.out ∙ first.store2.auto.out ∙ l.invariant.1,
       omega arith,
       sample_stored narrow refl a.msb l.out _ _ l.to (get_or a.numbers.now l.i 0) said.pattern2.result
           (omega (arith, said.pattern2.type_inv)) first.store2.ensures put.store2-in-loop-i.ensures rest

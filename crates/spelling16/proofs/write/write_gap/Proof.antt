@@ -25,11 +25,11 @@ decreases-loop out₀ at msb quiet to₀ left₀ out to left = left
 
 -- in a turn a full run is written, and after the loop the remainder
 full : (c : tie.After-store2-arg-1 invariant-loop decreases-loop) → let l = c.loop-left in
-    gap 256 l.false ≡ 65535 ∷ gap 256 (l.false - 256)
-full c = gap-full 256 (lit< tt) c.loop-left.false c.loop-left-test.true
+    gap 256 l.left ≡ 65535 ∷ gap 256 (l.left - 256)
+full c = gap-full 256 (lit< tt) c.loop-left.left c.loop-left-test.true
 
-last : (c : tie.Else-left-eq0 invariant-loop decreases-loop) → let l = c.loop-left in gap 256 l.false ≡ (65280 + (l.false - 1)) ∷ []
-last c = gap-last 256 (lit< tt) c.loop-left.false (pos_of_ne-zero c.if-left-eq0.false) c.loop-left-test.false
+last : (c : tie.Else-left-eq0 invariant-loop decreases-loop) → let l = c.loop-left in gap 256 l.left ≡ (65280 + (l.left - 1)) ∷ []
+last c = gap-last 256 (lit< tt) c.loop-left.left (pos_of_ne-zero c.if-left-eq0.false) c.loop-left-test.false
 
 loop-holds : tie.Need-loop-left-init invariant-loop decreases-loop
 loop-holds c = (refl, refl, refl)
@@ -47,10 +47,10 @@ loop-again c =
     let l = head.loop-left in
     let o = head.args.msb in
     let f = full put.before in (
-      put.store2.auto.0 ∙ l.invariant.0,
+      put.store2.auto.out ∙ l.invariant.0,
       omega (arith, ap length f),
-      ap (λ (x : List ℕ). sets x (l.to + 2) (unwords 2 o (gap 256 (l.false - 256)))) put.store2.ensures
-          ∙ past_word 2 o l.out l.to 65535 (gap 256 (l.false - 256))
+      ap (λ (x : List ℕ). sets x (l.to + 2) (unwords 2 o (gap 256 (l.left - 256)))) put.store2.ensures
+          ∙ past_word 2 o l.out l.to 65535 (gap 256 (l.left - 256))
           ∙ ap (λ (ws : List ℕ). sets l.out l.to (unwords 2 o ws)) (sym f)
           ∙ l.invariant.2,
     )
@@ -64,7 +64,7 @@ returns c =
     let head = c.before.before in
     let l = head.loop-left in
     let o = head.args.msb in
-    let e : gap 256 l.false ≡ [] = ap (gap 256) c.if-left-eq0.true ∙ gap-none 256 (lit< tt) in
+    let e : gap 256 l.left ≡ [] = ap (gap 256) c.if-left-eq0.true ∙ gap-none 256 (lit< tt) in
     (omega (arith, ap length e), ap (λ (ws : List ℕ). sets l.out l.to (unwords 2 o ws)) (sym e) ∙ l.invariant.2)
 
 store2-requires-2 : tie.Need-store2-requires-2 invariant-loop decreases-loop
@@ -74,7 +74,7 @@ add-result : tie.Need-overflow_add-result invariant-loop decreases-loop
 add-result c = omega (arith, ap length (last c.before.before.before.before))
 
 same-length-2 : tie.Need-shape_of-out invariant-loop decreases-loop
-same-length-2 c = let put = c.before.before in put.store2-2.auto.0 ∙ put.loop-left.invariant.0
+same-length-2 c = let put = c.before.before in put.store2-2.auto.out ∙ put.loop-left.invariant.0
 
 returns-2 : tie.Need-returns invariant-loop decreases-loop
 unfolding unwords
@@ -87,7 +87,7 @@ returns-2 c =
     let f = last rest in (
       omega (arith, ap length f),
       put.store2-2.ensures
-          ∙ past_word 2 o l.out l.to (65280 + (l.false - 1)) []
+          ∙ past_word 2 o l.out l.to (65280 + (l.left - 1)) []
           ∙ ap (λ (ws : List ℕ). sets l.out l.to (unwords 2 o ws)) (sym f)
           ∙ l.invariant.2,
     )

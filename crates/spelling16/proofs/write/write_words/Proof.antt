@@ -74,7 +74,7 @@ write-gap-requires c κs = omega (arith, words c.before)
 store2-requires : tie.Need-store2-requires invariant-loop decreases-loop
 store2-requires c κs =
     let gone = c.before.before.before.before.before in
-    omega (arith, words gone.before.before, gone.write_gap-behind.auto.0, gone.write_gap-behind.ensures)
+    omega (arith, words gone.before.before, gone.write_gap-behind.auto.out, gone.write_gap-behind.ensures)
 
 add-to : tie.Need-overflow_add-to invariant-loop decreases-loop
 add-to c = let gone = gap-written c in
@@ -91,7 +91,7 @@ loop-again c =
     let a = head.args in
     let n = number.wide-number.result in (
       omega arith,
-      put.store2.auto.0 ∙ gone.write_gap-behind.auto.0 ∙ l.invariant.1,
+      put.store2.auto.out ∙ gone.write_gap-behind.auto.out ∙ l.invariant.1,
       (sample_rises 2 (word_for narrow) _ _ l.i n (omega arith) (omega arith) number.wide-number.ensures.0 l.next 0 l.invariant.2).1,
       omega (arith, words number, gone.write_gap-behind.ensures),
       sample_turn 2 (word_for narrow) a.numbers.now a.values.now l.i n (omega arith) (omega arith) number.wide-number.ensures.0
@@ -123,7 +123,7 @@ write-gap-requires-2 c κs =
     omega (arith, ap length (quiet-left after), l.invariant.3, l.invariant.1, after.requires.1.1)
 
 same_length : tie.Need-shape_of-out invariant-loop decreases-loop
-same_length c = let put = c.before.before in put.write_gap.auto.0 ∙ put.loop-i.invariant.1
+same_length c = let put = c.before.before in put.write_gap.auto.out ∙ put.loop-i.invariant.1
 
 returns : tie.Need-returns invariant-loop decreases-loop
 returns c =
