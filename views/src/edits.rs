@@ -3,7 +3,7 @@
 
 use crate::source::{give, take};
 use crate::table::{Placed, Record};
-use crate::template::{antt, is_plain, MADE};
+use crate::template::{is_plain, MADE};
 use crate::words::capitals;
 use crate::File;
 
@@ -98,13 +98,13 @@ fn wrong_sign(record: &Record) -> File {
     let signed = numbers.iter().position(|field| field.is_signed());
     let place = signed.unwrap_or(numbers.len() - 1);
     let field = numbers[place];
-    let said = |integer: &str| format!("      {} = {integer};", antt(&field));
+    let said = |integer: &str| format!("      {} = {integer};", field.name);
     let edit = Edit {
         label: "wrong_sign",
         about: format!("`{}` said to have no sign.", field.name),
         file: &format!("specs/{}.antt", record.name),
-        old: said(&format!("signedAt zs {place}")),
-        new: said(&format!("pos (unsignedAt zs {place})")),
+        old: said(&format!("signed_at zs {place}")),
+        new: said(&format!("pos (unsigned_at zs {place})")),
     };
     file(record, edit)
 }
@@ -178,8 +178,9 @@ mod tests {
             let folder = path.split("must-fail").next().unwrap();
             let edited = format!("{folder}{file}");
             let (_, text) = made.iter().find(|(path, _)| *path == edited).unwrap();
-            let found = text.lines().filter(|line| *line == old).count();
-            assert_eq!((found, old == new), (1, false), "{path}");
+            let lines = text.lines().filter(|line| *line == old).count();
+            let found = (lines, text.matches(old).count());
+            assert_eq!((found, old == new), ((1, 1), false), "{path}");
         }
     }
 }

@@ -47,7 +47,7 @@ fn crates(records: &[Record]) -> String {
 fn face(records: &[Record]) -> String {
     let uses = lines(&sorted(records), |record| {
         let (module, name) = (&record.module, &record.name);
-        format!("pub use {module}::{name};\npub use {module}::{name}Read;")
+        format!("pub use {module}::{{{name}, {name}Read}};")
     });
     format!("{uses}\n")
 }

@@ -67,6 +67,9 @@ fn write(folder: &Path, (path, text): File) -> Result<(), String> {
 mod tests {
     use super::*;
 
+    /// The widest line of what is made.
+    const WIDEST: usize = 140;
+
     #[test]
     fn crates_say_where_they_come_from_in_lines_of_a_page() {
         let records = table::parse(include_str!("../records.txt")).unwrap();
@@ -76,9 +79,7 @@ mod tests {
             }
             let first = text.lines().next().unwrap();
             assert!(first.ends_with(template::MADE), "{path}");
-            let wide = text
-                .lines()
-                .find(|line| line.chars().count() > template::WIDEST);
+            let wide = text.lines().find(|line| line.chars().count() > WIDEST);
             assert_eq!(wide, None, "{path}");
         }
     }

@@ -1,7 +1,7 @@
 //! crates/*/proofs: that each function of a record meets its contract.
 //!
 //! A proof goes along the places of its function: there is one behind each call, `before` leads from it to the one before, and a
-//! call that comes again is numbered (`signed2`, `signed22`, `signed23`). The checker names them so, and here they are counted
+//! call that comes again is numbered (`signed2`, `signed2-2`, `signed2-3`). The checker names them so, and here they are counted
 //! as it counts them.
 
 mod numbers;
@@ -50,20 +50,20 @@ const PROOF: &str = "\
 -- $made$
 $about$
 $uses$
-use Rattle·$module$·proofs.proofs.$Name$.$function$.Statement.{statement}
-use Rattle·$module$·proofs.proofs.$Name$.$function$.Tie as tie
+use Rattle.$module$.proofs.$Name$.$function$.Statement.{statement}
+use Rattle.$module$.proofs.$Name$.$function$.Tie as tie
 
 $laws$
-pub $function$-spec : {M : Type 1} → statement M
-$function$-spec =
+pub $function$_spec : {M : Type 1} → statement M
+$function$_spec =
     tie.close
     (tie.spec
 $answers$)
 ";
 
 /// The answers to what follows by itself: of a place, and of a place whatever the lifetimes.
-const PLAIN: &str = "(λ c. search needs)";
-const LENT: &str = "(λ c κs. search needs)";
+const PLAIN: &str = "(λ c. search rules)";
+const LENT: &str = "(λ c κs. search rules)";
 const RETURNS: &str = "returns";
 const RETURNS_2: &str = "returns-2";
 
@@ -91,7 +91,7 @@ fn numbered(names: impl Iterator<Item = String>) -> Vec<String> {
         *times += 1;
         match *times {
             1 => name,
-            nth => format!("{name}{nth}"),
+            nth => format!("{name}-{nth}"),
         }
     };
     names.map(name).collect()

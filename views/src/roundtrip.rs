@@ -20,65 +20,65 @@ pub fn files(records: &[Record]) -> Vec<File> {
 const TOP: &str = "\
 -- The records: where a file holds what the writer wrote of one, in either byte order, every outcome that the reader's promise allows is
 -- that record, and where its characters are said to stand stand those written. Assumes nothing.
-use mathlib.Core.Path.{_≡_, refl, ap, ap₂, _∙_}
+use mathlib.Core.Path.{◌≡◌, refl, ap, ap₂, ◌∙◌}
 use mathlib.Core.Bool.{Bool}
-use mathlib.Core.List.{List, [], _∷_}
+use mathlib.Core.List.{List, [], ◌∷◌}
 use Prim.Native.Nat.{ℕ}
 use lib.Dec.{lit<}
 use lib.ListN.{take}
-use Rattle·order.specs.Order.{Bytes}
-use Rattle·layout.specs.declared.Counts.{Counts}
-use Rattle·layout.specs.declared.Answer.{Answer}
-use Rattle·layout.specs.declared.Answer.the-variants.{Accepted}
-use Rattle·layout.specs.Types.{listings, among, listingOf}
-use Rattle·rows.specs.Readers.{rowText, charactersAt}
-use Rattle·roundtrip·specs.specs.Held.{Holds}
-use Rattle·roundtrip·proofs.proofs.Handed.{again-row, again-plain}
+use Rattle.order.specs.Order.{Bytes}
+use Rattle.layout.specs.declared.Counts.{Counts}
+use Rattle.layout.specs.declared.Answer.{Answer}
+use Rattle.layout.specs.declared.Answer.TheVariants.{Accepted}
+use Rattle.layout.specs.Types.{listings, among, listing_of}
+use Rattle.rows.specs.Readers.{row_text, characters_at}
+use Rattle.roundtrip.specs.Held.{Holds}
+use Rattle.roundtrip.proofs.Handed.{again-row, again-plain}
 ";
 
 const USES: &str = "\
-use Rattle·$module$.specs.declared.$Name$.{$Name$}
-use Rattle·$module$.specs.declared.$Name$Read.{$Name$Read}
-use Rattle·$module$.specs.declared.$Name$Read.the-variants as $camel$
-use Rattle·$module$.specs.$Name$.{$camel$Of, $camel$Integers, $dashed$-inverse}
-use Rattle·$module$.specs.$Name$.{$Name$Typed, $Name$At, $Name$Written}
-use Rattle·$module$.specs.$Name$ as $camel$s
+use Rattle.$module$.specs.declared.$Name$.{$Name$}
+use Rattle.$module$.specs.declared.$Name$Read.{$Name$Read}
+use Rattle.$module$.specs.declared.$Name$Read.TheVariants as $camel$
+use Rattle.$module$.specs.$Name$.{$module$_of, $module$_integers, $inverse$}
+use Rattle.$module$.specs.$Name$.{$Name$Typed, $Name$At, $Name$Written}
+use Rattle.$module$.specs.$Name$ as $camel$s
 ";
 
 /// A record without characters.
 const ALONE: &str = "\
-pub $dashed$-again : (r : $Name$) → $Name$Typed r → {o : Bool} {out left f : List ℕ} {p : ℕ} {n : Counts} {x : $Name$Read}
-    → $Name$Written o r out (Accepted n) left → Holds f p o (take (n .written) left) → $Name$At f p x → x ≡ $camel$.Read r
-unfolding listingOf among listings
-$dashed$-again r g {o = o} w h a =
-    let v = again-plain $code$ ($camel$Integers r) [] (lit< tt) g tt refl refl refl o w h in
-    a .outcome ∙ ap₂ $camel$s.answered (v .answer) (ap $camel$Of (v .integers) ∙ $dashed$-inverse r)
+pub $again$ : (r : $Name$) → $Name$Typed r → {o : Bool} {out left f : List ℕ} {p : ℕ} {n : Counts} {x : $Name$Read}
+    → $Name$Written o r out (Accepted n) left → Holds f p o (take n.written left) → $Name$At f p x → x ≡ $camel$.Read r
+unfolding listing_of among listings
+$again$ r g {o = o} w h a =
+    let v = again-plain $code$ ($module$_integers r) [] (lit< tt) g tt refl refl refl o w h in
+    a.outcome ∙ ap₂ $camel$s.answered v.answer (ap $module$_of v.integers ∙ $inverse$ r)
 ";
 
 /// One whose writer is handed its characters.
 const HANDED: &str = "\
-pub $dashed$-again : (r : $Name$) (t : List ℕ) → $Name$Typed r → Bytes t
+pub $again$ : (r : $Name$) (t : List ℕ) → $Name$Typed r → Bytes t
     → {o : Bool} {out left f : List ℕ} {p : ℕ} {n : Counts} {x : $Name$Read}
-    → $Name$Written o r t out (Accepted n) left → Holds f p o (take (n .written) left) → $Name$At f p x
-    → (x ≡ $camel$.Read r (rowText $code$ f p)) × (charactersAt f (rowText $code$ f p) ≡ t)
-$dashed$-again r t g b {o = o} {f = f} {p = p} w h a =
-    let v = again-row $code$ ($camel$Integers r) t (lit< tt) g b o w h in
-    let fields = ap $camel$Of (v .integers) ∙ $dashed$-inverse r in
-    let read = ap₂ (λ (y : Answer) (z : $Name$). $camel$s.answered y z (rowText $code$ f p)) (v .answer) fields in
-    (a .outcome ∙ read, v .characters)
+    → $Name$Written o r t out (Accepted n) left → Holds f p o (take n.written left) → $Name$At f p x
+    → (x ≡ $camel$.Read r (row_text $code$ f p)) × (characters_at f (row_text $code$ f p) ≡ t)
+$again$ r t g b {o = o} {f = f} {p = p} w h a =
+    let v = again-row $code$ ($module$_integers r) t (lit< tt) g b o w h in
+    let fields = ap $module$_of v.integers ∙ $inverse$ r in
+    let read = ap₂ (λ (y : Answer) (z : $Name$). $camel$s.answered y z (row_text $code$ f p)) v.answer fields in
+    (a.outcome ∙ read, v.characters)
 ";
 
 /// One whose writer writes zeros for them.
 const ZEROS: &str = "\
-pub $dashed$-again : (r : $Name$) → $Name$Typed r → {o : Bool} {out left f : List ℕ} {p : ℕ} {n : Counts} {x : $Name$Read}
-    → $Name$Written o r out (Accepted n) left → Holds f p o (take (n .written) left) → $Name$At f p x
-    → (x ≡ $camel$.Read r (rowText $code$ f p)) × (charactersAt f (rowText $code$ f p) ≡ $zeros$)
-unfolding listingOf among listings
-$dashed$-again r g {o = o} {f = f} {p = p} w h a =
-    let v = again-plain $code$ ($camel$Integers r) $zeros$ (lit< tt) g $bytes$ refl refl refl o w h in
-    let fields = ap $camel$Of (v .integers) ∙ $dashed$-inverse r in
-    let read = ap₂ (λ (y : Answer) (z : $Name$). $camel$s.answered y z (rowText $code$ f p)) (v .answer) fields in
-    (a .outcome ∙ read, v .characters)
+pub $again$ : (r : $Name$) → $Name$Typed r → {o : Bool} {out left f : List ℕ} {p : ℕ} {n : Counts} {x : $Name$Read}
+    → $Name$Written o r out (Accepted n) left → Holds f p o (take n.written left) → $Name$At f p x
+    → (x ≡ $camel$.Read r (row_text $code$ f p)) × (characters_at f (row_text $code$ f p) ≡ $zeros$)
+unfolding listing_of among listings
+$again$ r g {o = o} {f = f} {p = p} w h a =
+    let v = again-plain $code$ ($module$_integers r) $zeros$ (lit< tt) g $bytes$ refl refl refl o w h in
+    let fields = ap $module$_of v.integers ∙ $inverse$ r in
+    let read = ap₂ (λ (y : Answer) (z : $Name$). $camel$s.answered y z (row_text $code$ f p)) v.answer fields in
+    (a.outcome ∙ read, v.characters)
 ";
 
 fn law(record: &Record) -> &'static str {

@@ -1,7 +1,7 @@
 //! crates/*/src/lib.rt: of each record its struct, its constants, and how it is read and written by the row of its type.
 
 use crate::table::{Placed, Record, Shape, STEP};
-use crate::template::{about, antt, conversion, is_plain, lines, Values, WIDEST};
+use crate::template::{about, conversion, is_plain, lines, Values};
 use crate::words::capitals;
 use crate::File;
 
@@ -16,13 +16,17 @@ pub fn files(records: &[Record]) -> Vec<File> {
 const SOURCE: &str = "\
 // $made$
 $about$
-$uses$
-ghost use mathlib.Core.Path.{_≡_};
-ghost use Rattle·tuples.specs.Readers.{rowOf};
-ghost use Rattle·rows.specs.Integers.{integersFrom, patterns};
-ghost use Rattle·rows.specs.Places.{placesOf};
-ghost use Rattle·$module$·specs.specs.$Name$.{$camel$Of, $camel$Integers, $Name$At, $Name$Written};
+#![tactic(auto)]
 
+ghost use Rattle.std.specs.Prelude.{◌≡◌};
+ghost use Rattle.tuples.specs.Readers.{row_of};
+ghost use Rattle.rows.specs.Integers.{integers_from, patterns};
+ghost use Rattle.rows.specs.Places.{places_of};
+ghost use Rattle.$module$.specs.$Name$.{$module$_of, $module$_integers, $Name$At, $Name$Written};
+
+$uses$
+
+#[derive(Clone, Copy)]
 pub struct $Name$ {
 $fields$
 }
@@ -38,9 +42,9 @@ $constants$
 
     // The record of these fields.
 $new$
-        ensures { λ r. ⌜ r ≡ record {
+        ensures { result ≡ record {
 $said$
-        } ⌝ }
+        } }
     {
         $Name$ {
 $names$
@@ -49,7 +53,7 @@ $names$
 
     // The places of its fields in the row's order, $lengths_said$.
     pub fn places() -> [usize; $places_count$]
-        ensures { λ r. ⌜ r ≡ placesOf $code$ ⌝ }
+        ensures { result ≡ places_of $code$ }
     {
         [
 $places$
@@ -58,7 +62,7 @@ $places$
 
     // The record of a row's numbers, each by the lower bytes of its width.
     pub fn of(numbers: [u32; $count$]) -> $Name$
-        ensures { λ r. ⌜ r ≡ $camel$Of (integersFrom (rowOf $code$ 0) numbers 0) ⌝ }
+        ensures { result ≡ $module$_of (integers_from (row_of $code$ 0) numbers 0) }
     {
         $Name$ {
 $taken$
@@ -67,7 +71,7 @@ $taken$
 
     // The numbers of the row, in its order, the attribute last; a signed one as its pattern.
     pub fn numbers(self) -> [u32; $count$]
-        ensures { λ r. ⌜ r ≡ patterns (rowOf $code$ 0) ($camel$Integers self) ⌝ }
+        ensures { result ≡ patterns (row_of $code$ 0) ($module$_integers self) }
     {
         [
 $given$
@@ -76,7 +80,7 @@ $given$
 
     // Reads the tuple at a place of a file.
     pub fn read(file: &[u8], place: usize) -> $Name$Read
-        ensures { λ r. ⌜ $Name$At (now (file .entry)) place r ⌝ }
+        ensures { $Name$At file.now place result }
     {
         let mut numbers = [0u32; $count$];
         match rows::read_row(file, place, $Name$::CODE, &mut numbers) {
@@ -117,14 +121,12 @@ fn uses(record: &Record) -> String {
     let numbers = record.numbers();
     let mut kinds: Vec<&str> = numbers.iter().filter_map(|f| f.kind.as_deref()).collect();
     kinds.sort_unstable();
-    let mut used = vec![String::from("use layout::Answer;")];
-    used.extend(kinds.iter().map(|kind| format!("use layout::{kind};")));
-    used.push("use layout::types;".into());
-    used.push("use rows::RowRead;".into());
+    let layout = [vec!["Answer"], kinds, vec!["types"]].concat().join(", ");
+    let mut used = format!("use layout::{{{layout}}};\nuse rows::RowRead;");
     if record.text().is_some() {
-        used.push("use tuples::Part;".into());
+        used.push_str("\nuse tuples::Part;");
     }
-    used.join("\n")
+    used
 }
 
 /// The numbers, each with its type.
@@ -136,6 +138,7 @@ fn fields(record: &Record, before: &str) -> String {
 
 const GIVES: &str = "\
 // What reading gives: the record, or a refusal.
+#[derive(Clone, Copy)]
 pub enum $Name$Read {
     Read($Name$),
     Refused { code: u8, place: usize },
@@ -144,6 +147,7 @@ pub enum $Name$Read {
 
 const GIVES_BESIDE: &str = "\
 // What reading gives: the record and the place of its $text$, or a refusal.
+#[derive(Clone, Copy)]
 pub enum $Name$Read {
     Read { record: $Name$, $text$: Part },
     Refused { code: u8, place: usize },
@@ -226,12 +230,15 @@ fn new(record: &Record) -> String {
     format!("    pub fn new(\n{fields}\n    ) -> {}", record.name)
 }
 
+/// So wide is a field in the clause of `new` before its value goes to a line of its own.
+const SAID: usize = 135;
+
 /// What `new` promises of each field.
 fn said(record: &Record) -> String {
     lines(&record.numbers(), |field| {
-        let name = antt(field);
+        let name = &field.name;
         let line = format!("          {name} = {name};");
-        match line.chars().count() <= WIDEST {
+        match line.chars().count() <= SAID {
             true => line,
             false => format!("          {name} =\n              {name};"),
         }
@@ -330,7 +337,7 @@ fn read(record: &Record) -> String {
 const WRITE: &str = "    \
 // Writes the tuple$how$.
     pub fn write(self, msb: bool, out: &mut [u8]) -> Answer
-        ensures { λ r. ⌜ $Name$Written msb self (now (out .entry)) r (now (out .exit)) ⌝ }
+        ensures { $Name$Written msb self out.old result out.new }
     {
         rows::write_row($Name$::CODE, &self.numbers(), $characters$, msb, out)
     }";
@@ -338,7 +345,7 @@ const WRITE: &str = "    \
 const WRITE_BESIDE: &str = "    \
 // Writes the tuple; $how$, then 19.
     pub fn write(self, $text$: &[u8], msb: bool, out: &mut [u8]) -> Answer
-        ensures { λ r. ⌜ $Name$Written msb self (now ($text$ .entry)) (now (out .entry)) r (now (out .exit)) ⌝ }
+        ensures { $Name$Written msb self $text$.now out.old result out.new }
     {
         rows::write_row($Name$::CODE, &self.numbers(), $text$, msb, out)
     }";

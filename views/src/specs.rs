@@ -1,7 +1,7 @@
 //! crates/*/specs: what each record's calls promise, in the words of its fields.
 
 use crate::table::{Field, Placed, Record};
-use crate::template::{about, antt, lines, Values};
+use crate::template::{about, lines, Values};
 use crate::File;
 
 pub fn files(records: &[Record]) -> Vec<File> {
@@ -22,46 +22,43 @@ pub mod $Name$
 const SPECS: &str = "\
 -- $made$
 $about$
-use mathlib.Core.Path.{_≡_, refl, sym, _∙_}
-use mathlib.Core.Bool.{Bool}
-use mathlib.Core.List.{List, [], _∷_}
-use Prim.Native.Nat.{ℕ}
-use lib.IntN.{ℤ, pos}
-use Rattle·layout.specs.declared.Answer.{Answer}
-use Rattle·layout.specs.declared.Answer.the-variants.{Accepted}
-use Rattle·layout.specs.declared.Answer.the-variants as answer
-use Rattle·layout.specs.Answers.{numbers, Tells, accepting}
-use Rattle·tuples.specs.Readers.{only, readAnswer, rowOf}
+use Rattle.std.specs.Prelude.{◌≡◌, refl, Bool, List, [], ◌∷◌, ℕ, ℤ, pos}
+use Rattle.std.proofs.Common.{sym, ◌∙◌}
+use Rattle.layout.specs.declared.Answer.{Answer}
+use Rattle.layout.specs.declared.Answer.TheVariants.{Accepted}
+use Rattle.layout.specs.declared.Answer.TheVariants as answer
+use Rattle.layout.specs.Answers.{numbers, Tells, accepting}
+use Rattle.tuples.specs.Readers.{only, read_answer, row_of}
 $uses$
-use Rattle·$module$·specs.specs.declared.$Name$.{$Name$}
-use Rattle·$module$·specs.specs.declared.$Name$Read.{$Name$Read}
-use Rattle·$module$·specs.specs.declared.$Name$Read.the-variants.{Read, Refused}
+use Rattle.$module$.specs.declared.$Name$.{$Name$}
+use Rattle.$module$.specs.declared.$Name$Read.{$Name$Read}
+use Rattle.$module$.specs.declared.$Name$Read.TheVariants.{Read, Refused}
 
 -- the integers of the row under the fields' names
-abbrev pub $camel$Of : List ℤ → $Name$
-$camel$Of zs =
+abbrev pub $module$_of : List ℤ → $Name$
+$module$_of zs =
     record {
 $named$
     }
 
 -- and the fields as the integers of the row
-abbrev pub $camel$Integers : $Name$ → List ℤ
-$camel$Integers r =
+abbrev pub $module$_integers : $Name$ → List ℤ
+$module$_integers r =
 $listed$
     ∷ []
 
 -- the fields of these integers are those that they were taken from
-pub $dashed$-inverse : (r : $Name$) → $camel$Of ($camel$Integers r) ≡ r
-$dashed$-inverse r = refl
+pub $inverse$ : (r : $Name$) → $module$_of ($module$_integers r) ≡ r
+$inverse$ r = refl
 
 -- each field is in the range of its width and sign, as the fields of every value of the struct are
 abbrev pub $Name$Typed : $Name$ → Type 0
-$Name$Typed r = Typed (rowOf $code$ 0) ($camel$Integers r)
+$Name$Typed r = Typed (row_of $code$ 0) ($module$_integers r)
 
 -- ---- reading: 01's answer in each case
-abbrev pub answerOf : $Name$Read → Answer
-answerOf (Read r$t$) = accepting 1 0
-answerOf (Refused c p) = answer.Refused c p
+abbrev pub answer_of : $Name$Read → Answer
+answer_of (Read r$t$) = accepting 1 0
+answer_of (Refused c p) = answer.Refused c p
 
 -- what is given for an answer: the record$with$, or the refusal
 abbrev pub answered : Answer → $Name$$part$ → $Name$Read
@@ -70,19 +67,19 @@ answered (answer.Refused c p) r$t$ = Refused c p
 
 -- the promise: 01's answer, and what is given for it
 pub record $Name$At (f : List ℕ) (p : ℕ) (r : $Name$Read) : Type 0 where
-  pub answer : Tells numbers (answerOf r) (readAnswer (only $code$) f p)
-  pub outcome : r ≡ answered (readAnswer (only $code$) f p) ($camel$Of (rowIntegers $code$ f p))$stands$
+  pub answer : Tells numbers (answer_of r) (read_answer (only $code$) f p)
+  pub outcome : r ≡ answered (read_answer (only $code$) f p) ($module$_of (row_integers $code$ f p))$stands$
 
 -- which settles what is given
-pub $dashed$-settled : {f : List ℕ} {p : ℕ} {r t : $Name$Read} → $Name$At f p r → $Name$At f p t → r ≡ t
-$dashed$-settled a b = a .outcome ∙ sym (b .outcome)
+pub $settled$ : {f : List ℕ} {p : ℕ} {r t : $Name$Read} → $Name$At f p r → $Name$At f p t → r ≡ t
+$settled$ a b = a.outcome ∙ sym b.outcome
 
 $written$
 ";
 
 fn specs(record: &Record) -> String {
     let beside = record.text().is_some();
-    let stands = if beside { " (rowText $code$ f p)" } else { "" };
+    let stands = if beside { " (row_text $code$ f p)" } else { "" };
     Values::of(record)
         .with("about", about(record, "-- ", "Assumes nothing."))
         .with("uses", uses(record))
@@ -105,18 +102,18 @@ fn beside_said(record: &Record) -> String {
 fn uses(record: &Record) -> String {
     let mut uses = Vec::new();
     if record.handed().is_none() {
-        uses.push("use Rattle·tuples.specs.Writers.{Written, plainBytes}");
+        uses.push("use Rattle.tuples.specs.Writers.{Written, plain_bytes}");
     }
     if record.text().is_some() {
-        uses.push("use Rattle·tuples.specs.declared.Part.{Part}");
-        uses.push("use Rattle·rows.specs.Readers.{rowText}");
+        uses.push("use Rattle.tuples.specs.declared.Part.{Part}");
+        uses.push("use Rattle.rows.specs.Readers.{row_text}");
     }
     uses.push(match record.handed() {
-        Some(_) => "use Rattle·rows.specs.Writers.{RowWritten}",
-        None => "use Rattle·rows.specs.Writers.{rowValues}",
+        Some(_) => "use Rattle.rows.specs.Writers.{RowWritten}",
+        None => "use Rattle.rows.specs.Writers.{row_values}",
     });
     uses.push(
-        "use Rattle·rows.specs.Integers.{signedAt, unsignedAt, patterns, rowIntegers, Typed}",
+        "use Rattle.rows.specs.Integers.{signed_at, unsigned_at, patterns, row_integers, Typed}",
     );
     uses.join("\n")
 }
@@ -126,12 +123,12 @@ fn named(record: &Record) -> String {
     let numbers: Vec<_> = record.numbers().into_iter().enumerate().collect();
     lines(&numbers, |(place, field)| {
         let integer = if field.is_signed() {
-            "signedAt"
+            "signed_at"
         } else {
-            "unsignedAt"
+            "unsigned_at"
         };
         let value = wrapped(field, format!("{integer} zs {place}"));
-        format!("      {} = {value};", antt(field))
+        format!("      {} = {value};", field.name)
     })
 }
 
@@ -148,10 +145,10 @@ fn listed(record: &Record) -> String {
     let numbers: Vec<_> = record.numbers().into_iter().enumerate().collect();
     lines(&numbers, |(place, field)| {
         let cons = if *place == 0 { "    " } else { "    ∷ " };
-        let inner = if field.kind.is_some() { " .0" } else { "" };
+        let inner = if field.kind.is_some() { ".0" } else { "" };
         match field.is_signed() {
-            true => format!("{cons}r .{}", antt(field)),
-            false => format!("{cons}pos (r .{}{inner})", antt(field)),
+            true => format!("{cons}r.{}", field.name),
+            false => format!("{cons}pos r.{}{inner}", field.name),
         }
     })
 }
@@ -160,12 +157,12 @@ const WRITTEN: &str = "\
 -- ---- writing: $what$
 abbrev pub $Name$Written : Bool → $Name$ → List ℕ → Answer → List ℕ → Type 0
 $Name$Written o r out a left =
-    Written [] (plainBytes o $code$ (rowValues $code$ (patterns (rowOf $code$ 0) ($camel$Integers r)) $characters$)) out a left";
+    Written [] (plain_bytes o $code$ (row_values $code$ (patterns (row_of $code$ 0) ($module$_integers r)) $characters$)) out a left";
 
 const WRITTEN_BESIDE: &str = "\
 -- ---- writing: the row of the fields and the characters t, by the rules of rows
 abbrev pub $Name$Written : Bool → $Name$ → List ℕ → List ℕ → Answer → List ℕ → Type 0
-$Name$Written o r t out a left = RowWritten $code$ (patterns (rowOf $code$ 0) ($camel$Integers r)) t o out a left";
+$Name$Written o r t out a left = RowWritten $code$ (patterns (row_of $code$ 0) ($module$_integers r)) t o out a left";
 
 /// The promise of the writer.
 fn written(record: &Record) -> String {

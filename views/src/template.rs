@@ -9,26 +9,25 @@ pub const MADE: &str = "Made from views/records.txt by views/make.";
 /// The widest line of a comment.
 pub const WIDTH: usize = 130;
 
-/// The widest line of antt.
-pub const WIDEST: usize = 140;
-
 /// What stands at a template's places: values, each under its name.
 #[derive(Clone)]
 pub struct Values(Vec<(&'static str, String)>);
 
 impl Values {
-    /// What every template may name: of the record `RunStart` its `Name`, its `module`, the same as `dashed` and as `camel`
-    /// name, its `code`, and how many numbers it has, its `count`.
+    /// What every template may name: of the record `RunStart` its `Name`, its `module`, the same as a `camel` name, its `code`, how
+    /// many numbers it has, its `count`, and the names of the laws about it.
     pub fn of(record: &Record) -> Values {
         let (first, rest) = record.name.split_at(1);
         Values(Vec::new())
             .with("made", MADE)
             .with("Name", &record.name)
             .with("module", &record.module)
-            .with("dashed", record.module.replace('_', "-"))
             .with("camel", first.to_lowercase() + rest)
             .with("code", record.code.to_string())
             .with("count", record.numbers().len().to_string())
+            .with("inverse", law(record, "inverse"))
+            .with("settled", law(record, "settled"))
+            .with("again", law(record, "again"))
     }
 
     pub fn with(mut self, name: &'static str, value: impl Into<String>) -> Values {
@@ -66,12 +65,37 @@ pub fn lines<T>(each: &[T], line: impl Fn(&T) -> String) -> String {
     lines.join("\n")
 }
 
-/// A field's name in antt, which wants marks around one with a low line.
-pub fn antt(field: &Field) -> String {
-    match field.name.contains('_') {
-        true => format!("«{}»", field.name),
-        false => field.name.clone(),
+/// Words that definitions of the crates have for their name.
+const NAMES: [&str; 12] = [
+    "again",
+    "attitude",
+    "channel",
+    "end",
+    "file",
+    "position",
+    "run",
+    "settled",
+    "signature",
+    "sounder",
+    "start",
+    "threshold",
+];
+
+/// The name of a law about a record: `event_settled`, `run-start-settled`. A dash stands between two names alone, as tools/snake.py
+/// spells all that the crates declare.
+fn law(record: &Record, what: &str) -> String {
+    let words = record.module.split('_').chain([what]);
+    let mut law = String::new();
+    let mut named = false;
+    for word in words {
+        let name = NAMES.contains(&word);
+        if !law.is_empty() {
+            law.push(if named && name { '-' } else { '_' });
+        }
+        law.push_str(word);
+        named = name;
     }
+    law
 }
 
 /// The conversion of a number of the row to the field, by its sign and width: `signed2`. The one back is `of_signed2`.
@@ -103,10 +127,18 @@ mod tests {
 
     #[test]
     fn names_and_values_in_values() {
-        let values = values().with("text", "$camel$ $dashed$");
+        let values = values().with("text", "$camel$ $module$");
         assert_eq!(
             values.fill("$Name$: $text$"),
-            "RunStart: runStart run-start"
+            "RunStart: runStart run_start"
+        );
+    }
+
+    #[test]
+    fn laws_have_a_dash_between_names() {
+        assert_eq!(
+            values().fill("$settled$ $inverse$"),
+            "run-start-settled run-start_inverse"
         );
     }
 

@@ -2,23 +2,23 @@
 
 use super::{numbered, width, widths, Proof, LENT, RETURNS};
 use crate::table::{Placed, Record};
-use crate::template::{antt, conversion, is_plain, lines, Values};
+use crate::template::{conversion, is_plain, lines, Values};
 
 const NUMBERS_USES: &str = "\
-use mathlib.Core.List.{[], _∷_}
-use borrow.Author.Needs.{needs}
+use mathlib.Core.List.{[], ◌∷◌}
+use borrow.Author.Rules.{rules}
 use mir.Syntax.{$widths$}
-use Rattle·layout.specs.Types.{listings, among, listingOf}
-use Rattle·rows.proofs.Views.{held-pattern}
+use Rattle.layout.specs.Types.{listings, among, listing_of}
+use Rattle.rows.proofs.Views.{held-pattern}
 ";
 
 const NUMBERS: &str = "\
 -- n0 and so on: the place behind the call on a field; f0 and so on: what the struct tells of a signed field and those behind it
 returns : tie.Need-returns
-unfolding listingOf among listings
+unfolding listing_of among listings
 returns n$last$ =
 $places$
-    let r = $start$ .args .self in
+    let r = $start$.args.self in
 $fits$
     λ i.
 $entries$
@@ -45,20 +45,23 @@ pub fn proof(record: &Record) -> Proof {
     }
 }
 
-/// The places behind the calls, from the last to the first, and the function's start. A field that is a number of the row as it
-/// stands has no call.
+/// The places behind the calls, from the last to the first, and the first, which tells of the function's start. A field that is a
+/// number of the row as it stands has no call.
 fn places(numbers: &[Placed]) -> (String, String) {
     let called = numbers.iter().enumerate().rev();
     let called: Vec<_> = called.filter(|(_, field)| !is_plain(field)).collect();
     let before = |(i, field): &(usize, &Placed)| match field.is_signed() {
-        true => format!("n{i} .before .before"),
-        false => format!("n{i} .before"),
+        true => format!("n{i}.before.before"),
+        false => format!("n{i}.before"),
     };
     let steps: Vec<_> = called.iter().zip(called.iter().skip(1)).collect();
     let places = lines(&steps, |(from, to)| {
         format!("    let n{} = {} in", to.0, before(from))
     });
-    (places, called.last().map_or(String::new(), before))
+    let first = called
+        .last()
+        .map_or(String::new(), |(i, _)| format!("n{i}"));
+    (places, first)
 }
 
 /// What the struct tells of each signed field. It tells of all before each call on a signed one; here it is asked before the last,
@@ -66,15 +69,15 @@ fn places(numbers: &[Placed]) -> (String, String) {
 fn fits(numbers: &[Placed]) -> String {
     let signed = numbers.iter().enumerate();
     let signed: Vec<_> = signed.filter(|(_, field)| field.is_signed()).collect();
-    let told = numbered(signed.iter().map(|_| "struct-told".into()));
+    let told = numbered(signed.iter().map(|_| "struct_told".into()));
     let told = told.last().map_or("", String::as_str);
-    let mut known = format!("n{} .before .{told} .given", numbers.len() - 1);
+    let mut known = format!("n{}.{told}-1.given", numbers.len() - 1);
     let mut from = 0;
     let mut fits = Vec::new();
     for (i, _) in signed {
         fits.push(format!(
             "    let f{i} = {known}{} in",
-            " .1".repeat(i - from)
+            ".1".repeat(i - from)
         ));
         (known, from) = (format!("f{i}"), i);
     }
@@ -84,7 +87,7 @@ fn fits(numbers: &[Placed]) -> String {
 /// Each number by what the call on its field promises.
 fn entries(numbers: &[Placed]) -> String {
     let called = numbers.iter().filter(|field| !is_plain(field));
-    let mut calls = numbered(called.map(|field| format!("of-{}", conversion(field)))).into_iter();
+    let mut calls = numbered(called.map(|field| format!("of_{}", conversion(field)))).into_iter();
     let mut entries = Vec::new();
     for (i, field) in numbers.iter().enumerate() {
         let call = match is_plain(field) {
@@ -99,13 +102,13 @@ fn entries(numbers: &[Placed]) -> String {
 
 /// A number by its field, or by the promise of the call on it.
 fn entry(i: usize, field: &Placed, call: &str) -> String {
-    let inner = if field.kind.is_some() { " .0" } else { "" };
+    let inner = if field.kind.is_some() { ".0" } else { "" };
     if is_plain(field) {
-        return format!("r .{}{inner}", antt(field));
+        return format!("r.{}{inner}", field.name);
     }
     if !field.is_signed() {
-        return format!("n{i} .{call} .ensures i");
+        return format!("n{i}.{call}.ensures i");
     }
-    let (width, bytes, name) = (width(field), field.bytes, antt(field));
-    format!("held-pattern {width} {bytes} (r .{name}) (f{i} .0 .1) (n{i} .{call} .ensures) i")
+    let (width, bytes, name) = (width(field), field.bytes, &field.name);
+    format!("held-pattern {width} {bytes} r.{name} f{i}.0.1 n{i}.{call}.ensures i")
 }

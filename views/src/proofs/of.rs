@@ -3,19 +3,19 @@
 use super::{numbered, width, widths, Proof, LENT, PLAIN, RETURNS};
 use crate::specs::wrapped;
 use crate::table::{Placed, Record};
-use crate::template::{antt, conversion, lines, Values};
+use crate::template::{conversion, lines, Values};
 
 const OF_USES: &str = "\
-use borrow.Author.Needs.{needs}
+use borrow.Author.Rules.{rules}
 use mir.Syntax.{$widths$}
-use Rattle·layout.specs.Types.{listings, among, listingOf}
-use Rattle·rows.proofs.Views.{held-signed}
+use Rattle.layout.specs.Types.{listings, among, listing_of}
+use Rattle.rows.proofs.Views.{held-signed}
 ";
 
 const OF: &str = "\
 -- n0 and so on: the place behind the call on a number
 returns : tie.Need-returns
-unfolding listingOf among listings
+unfolding listing_of among listings
 returns n$last$ =
 $places$
     λ i.
@@ -32,7 +32,7 @@ pub fn proof(record: &Record) -> Proof {
         .with("last", last.to_string())
         .with(
             "places",
-            lines(&back, |i| format!("    let n{i} = n{} .before in", i + 1)),
+            lines(&back, |i| format!("    let n{i} = n{}.before in", i + 1)),
         )
         .with("fields", fields(&numbers));
     let uses = Values::of(record).with("widths", widths(&numbers));
@@ -53,10 +53,10 @@ fn fields(numbers: &[Placed]) -> String {
         let number = match field.is_signed() {
             true => {
                 let width = width(field);
-                format!("held-signed {width} (n{i} .{call} .ok) (n{i} .{call} .ensures) i")
+                format!("held-signed {width} n{i}.{call}.type_inv n{i}.{call}.ensures i")
             }
-            false => format!("n{i} .{call} .ensures i"),
+            false => format!("n{i}.{call}.ensures i"),
         };
-        format!("      {} = {};", antt(field), wrapped(field, number))
+        format!("      {} = {};", field.name, wrapped(field, number))
     })
 }

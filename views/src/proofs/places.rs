@@ -6,19 +6,19 @@ use crate::template::Values;
 
 const PLACES_USES: &str = "\
 use mathlib.Core.Path.{refl}
-$needs$use Rattle·layout.specs.Types.{listings, among, listingOf}
+$needs$use Rattle.layout.specs.Types.{listings, among, listing_of}
 ";
 
 const PLACES: &str = "\
 returns : tie.Need-returns
-unfolding listingOf among listings
+unfolding listing_of among listings
 returns c = refl
 ";
 
 pub fn proof(record: &Record) -> Proof {
     // the attribute's place in the shortest tuple is a difference, and none below 0
     let (needs, answers) = match record.step() {
-        Some(_) => ("use borrow.Author.Needs.{needs}\n", vec![PLAIN, RETURNS]),
+        Some(_) => ("use borrow.Author.Rules.{rules}\n", vec![PLAIN, RETURNS]),
         None => ("", vec![RETURNS]),
     };
     let uses = Values::of(record).with("needs", needs);
