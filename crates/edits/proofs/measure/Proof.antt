@@ -35,10 +35,10 @@ began c = start (first (second (third c)))
 
 -- the three surveys
 one : (c : tie.After-survey-a) → let a = (start c).args in
-    Surveyed a.msb a.first.now (replicate 8192 0) c.survey-a.result.kept c.survey-a.result.end c.survey-a.new.1.1.0
+    Surveyed a.msb a.first.now (replicate 8192 0) c.survey-a.result.auto c.survey-a.result.end c.survey-a.new.1.1.0
 one c =
     let a = (start c).args in
-    subst (λ (g : List ℕ). Surveyed a.msb a.first.now g c.survey-a.result.kept c.survey-a.result.end
+    subst (λ (g : List ℕ). Surveyed a.msb a.first.now g c.survey-a.result.auto c.survey-a.result.end
     c.survey-a.new.1.1.0) (start c).requires.1 c.survey-a.ensures
 
 index-length-requires : tie.Need-index_length-index-requires
@@ -58,9 +58,9 @@ index-bytes c =
 
 -- all that is added stays small
 record Small (c : tie.After-index_length-index) : Type 0 where
-  pub first : (first (second (third c))).survey-a.result.kept ≤ limit
-  pub second : (second (third c)).survey-b.result.kept ≤ limit
-  pub last : (third c).survey-z.result.kept ≤ limit
+  pub first : (first (second (third c))).survey-a.result.auto ≤ limit
+  pub second : (second (third c)).survey-b.result.auto ≤ limit
+  pub last : (third c).survey-z.result.auto ≤ limit
   pub index : c.index_length-index.result ≤ 200000
 
 small : (c : tie.After-index_length-index) → Small c

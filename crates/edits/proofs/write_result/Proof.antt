@@ -51,13 +51,13 @@ store4-requires : tie.Need-store4-requires
 store4-requires c κs = omega (arith, (rows (start c)).sum)
 
 copy-kept-requires : tie.Need-copy_kept-middle-requires
-copy-kept-requires c κs = let m = marked c in omega (arith, (rows (start m.before)).sum, m.store4.kept.0)
+copy-kept-requires c κs = let m = marked c in omega (arith, (rows (start m.before)).sum, m.store4.auto.out)
 
 copy-kept-requires-2 : tie.Need-copy_kept-end-requires
 copy-kept-requires-2 c κs =
     let f = first c in
     let m = marked f.before in
-    omega (arith, (rows (start m.before)).sum, m.store4.kept.0, f.copy_kept-middle.kept.1.1.0, f.copy_kept-middle.ensures.0)
+    omega (arith, (rows (start m.before)).sum, m.store4.auto.out, f.copy_kept-middle.auto.1.1.0, f.copy_kept-middle.ensures.0)
 
 -- the index that is written is the parts' own
 written : (c : tie.After-write_index-arg-1) → let s = start (marked (first (second c).before).before).before in let a = s.args in
@@ -75,10 +75,10 @@ write-index-requires c κs =
       r.sum,
       r.index,
       ap length_of (written c),
-      m.store4.kept.0,
-      f.copy_kept-middle.kept.1.1.0,
+      m.store4.auto.out,
+      f.copy_kept-middle.auto.1.1.0,
       f.copy_kept-middle.ensures.0,
-      t.copy_kept-end.kept.1.1.0,
+      t.copy_kept-end.auto.1.1.0,
       t.copy_kept-end.ensures.0,
     )
 
@@ -98,12 +98,12 @@ copy-kept-requires-3 c κs =
     omega (
       arith,
       (rows (start m.before)).sum,
-      m.store4.kept.0,
-      f.copy_kept-middle.kept.1.1.0,
+      m.store4.auto.out,
+      f.copy_kept-middle.auto.1.1.0,
       f.copy_kept-middle.ensures.0,
-      t.copy_kept-end.kept.1.1.0,
+      t.copy_kept-end.auto.1.1.0,
       t.copy_kept-end.ensures.0,
-      i.write_index.kept.1.1.0,
+      i.write_index.auto.1.1.0,
     )
 
 returns : tie.Need-returns

@@ -60,7 +60,7 @@ close-frame-requires c κs =
         ap length opened.write_opening.ensures,
         length-sets a.out.now a.to (opening_of a.msb measured.index_length-whole.result),
         ap length t.1,
-        length-sets opened.write_opening.new.0 (a.to + 12) (unwords 2 a.msb (spaced ks)),
+        length-sets opened.write_opening.new.out (a.to + 12) (unwords 2 a.msb (spaced ks)),
       ),
       omega (arith, measured.index_length-whole.ensures, measured.count_types.ensures, few-flagged a.flags.now),
     )

@@ -18,4 +18,4 @@ ask_spec =
     (λ c. tells (sym (ap (ask_checked _ _) (sym c.check.ensures.is ∙ c.in-Refused.is))))
     (λ c.
     tells (c.ask_accepted.ensures
-    ∙ sym (ap (ask_checked _ _) (sym c.before.before.before.before.check.ensures.is ∙ c.before.before.counts-1.given.1)))))
+    ∙ sym (ap (ask_checked _ _) (sym c.check.ensures.is ∙ c.in-Accepted.is)))))

@@ -34,7 +34,7 @@ judge_alone_spec =
     (λ c. search rules)
     (λ c. search rules)
     returns
-    (λ c κs. omega (arith, (there c).long, (there c).ranges))
+    (λ c κs. omega (arith, (there c).long, (there c).fits))
     (λ c κs. omega (arith, (there c.before).long, (there c.before).fits))
     (λ c κs. record { framed = fine c.before.before; size = sym c.length_at-whole.ensures; kind = sym c.kind_at-code.ensures })
     returns-2)

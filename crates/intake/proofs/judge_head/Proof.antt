@@ -29,8 +29,8 @@ placed : (c : tie.Else-signs-first) → let a = c.args in not (beq (eqb a.code 6
 placed c = c.if-signs-first.false
 
 -- the test of the length, as the code made it
-tested : (c : tie.After-fits2) → let a = c.before.before.before.args in fitting (lengths_of a.code) a.whole ≡ c.fits2.result
-tested c = sym c.fits2.ensures
+tested : (c : tie.After-fits) → let a = c.before.before.before.args in fitting (lengths_of a.code) a.whole ≡ c.fits.result
+tested c = sym c.fits.ensures
 
 returns-2 : tie.Need-returns-then-not-fits
 returns-2 c =

@@ -71,7 +71,7 @@ add-to c =
       arith,
       writing-room _ _ _ _ _ _ _ w (inside c.before.before).loop-at-test.true,
       writing-length _ _ _ _ _ _ _ w,
-      (stored c.before.before).store4.kept.0,
+      (stored c.before.before).store4.auto.out,
       c.write_piece-to.ensures.0,
     )
 

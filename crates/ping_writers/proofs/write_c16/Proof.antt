@@ -55,7 +55,7 @@ write-words-requires c κs =
     let vs = a.values.now in
     let l = handed_length a.length in
     let r = ready sound in
-    let room : sound.in-Accepted.counts.written ≤ length opening.write_packed_opening.new.0 =
+    let room : sound.in-Accepted.counts.written ≤ length opening.write_packed_opening.new.out =
     omega (arith, r.fits, c.out-1.given) in (
       r.equal,
       (
@@ -99,7 +99,7 @@ returns-2 c =
       close.write_closing.ensures,
       words.write_words-end.ensures.1,
       opening.write_packed_opening.ensures,
-      to_z-of_z {w = w32} {z = a.attribute} start.ranges.attribute,
+      to_z-of_z {w = w32} {z = a.attribute} start.ranges.attribute.fits,
     ))
 
 pub write_c16_spec : {M : Type 1} → statement M

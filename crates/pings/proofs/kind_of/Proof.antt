@@ -27,4 +27,4 @@ kind_of_spec =
     (λ c.
     let s = c.before in
     let others = 10040 ∷ 10031 ∷ 10030 ∷ 10001 ∷ 10010 ∷ 10000 ∷ [] in
-    arm (last_code pings s.args.code 10050 others refl c.match.rest s.requires)))
+    arm (last_code pings s.args.code 10050 others refl c.in_default.in_default-own.rest s.requires)))

@@ -99,9 +99,9 @@ length_at m = get_or m.measure-measure.result 2 0 + length (start (typed_at m)).
 as-length : (m : tie.After-measure-measure) → length_at m ≡ row_length (start (typed_at m)).args.code (start (typed_at m)).args.text.now
 as-length m = ap (λ (b : ℕ). b + length (start (typed_at m)).args.text.now + 14) (bare-told m)
 
-fitted : (f : tie.After-fits2)
-    → let m = f.before.before in f.fits2.result ≡ fitting (lengths_of (start (typed_at m)).args.code) (length_at m)
-fitted f = f.fits2.ensures
+fitted : (f : tie.After-fits)
+    → let m = f.before.before in f.fits.result ≡ fitting (lengths_of (start (typed_at m)).args.code) (length_at m)
+fitted f = f.fits.ensures
 
 returns-3 : tie.Need-returns-then-not-fits
 returns-3 c =

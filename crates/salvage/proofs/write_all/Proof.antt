@@ -105,7 +105,7 @@ same-length-2 : tie.Need-shape_of-out invariant-loop decreases-loop
 same-length-2 c =
     let l = c.before.before.before.before.before.before in
     let k = (first l).before.before in
-    omega (arith, writing-length l.loop-range.invariant, (putting l).put_kept-to.auto.1, (marking k).store4.kept.0)
+    omega (arith, writing-length l.loop-range.invariant, (putting l).put_kept-to.auto.1, (marking k).store4.auto.out)
 
 same-length-3 : tie.Need-shape_of-table invariant-loop decreases-loop
 same-length-3 c =
@@ -139,7 +139,7 @@ write_all_spec =
     (λ c κs.
     let s = c.before.before.before.before.before.before in
     omega (arith, length-output s.args.file.now, s.requires.0.output))
-    (λ c. (marking c.before).store4.kept.0)
+    (λ c. (marking c.before).store4.auto.out)
     returns
     (λ c κs. (omega (arith, (start c.before).requires.0.marked, c.if-file-eq-MARKED.false), ready c.before))
     put-kept-requires

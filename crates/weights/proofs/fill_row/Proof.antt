@@ -154,7 +154,7 @@ fill_row_spec =
     (λ c κs.
     let block = (known c.before).block_of-block.ensures in
     let a = (start c.before).args in (
-      subst (λ (n : ℕ). There a.kind c.before.loop-from.from n (length a.file.now)) (sym block) (next c).there,
+      subst (λ (n : ℕ). There a.kind c.loop-from.from n (length a.file.now)) (sym block) (next c).there,
       omega (arith, block),
     ))
     (λ c. let l = c.loop-from in

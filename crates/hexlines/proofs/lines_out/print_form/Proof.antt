@@ -42,14 +42,14 @@ loop-holds c = let put = c.before.before in printing_begin _ _ _ _ put.before.be
 -- the mark's line was put first
 first : (c : tie.After-put_line-to invariant-loop decreases-loop)
     → Put c.before.before.before.before.before.args.out-1.now 0 (line (hex (mark false))) c.put_line-to.result
-    c.put_line-to.new.0
+    c.put_line-to.new.out
 first c = let start = c.before.before.before.before.before in
     put_same (ap (λ (b : List ℕ). line (hex b)) (marked start.args.form.now _ start.requires.0)) c.put_line-to.ensures
 
 -- the tuples' lines have room behind it
 room : (c : tie.After-put_line-to invariant-loop decreases-loop)
     → c.put_line-to.result + length (tuple_lines (tuples_of c.before.before.before.before.before.args.form.now))
-    ≤ length c.put_line-to.new.0
+    ≤ length c.put_line-to.new.out
 room c =
     omega (
       arith,
@@ -65,7 +65,7 @@ turns : (c : tie.In-loop-at invariant-loop decreases-loop) →
     let form = put.before.before.before.before.before.args.form.now in
     let l = c.loop-at in
     (n : ℕ) → n ≡ len_at false (drop l.at form)
-    → Turn form put.put_line-to.new.0 put.put_line-to.result (tuples_of form) l.out l.to l.at n
+    → Turn form put.put_line-to.new.out put.put_line-to.result (tuples_of form) l.out l.to l.at n
 turns c n e = printing_turn _ _ _ _ _ _ _ c.loop-at-test.true c.loop-at.invariant n e
 
 length-at-requires : tie.Need-length_at-requires invariant-loop decreases-loop

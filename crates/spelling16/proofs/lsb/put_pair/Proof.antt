@@ -14,7 +14,7 @@ returns c =
     let number = value.before.before.before.before in
     let start = number.before.before.before in
     let a = start.args in
-    sample_put narrow refl false a.out.now _ _ a.at a.number a.value (omega (arith, start.ranges.value))
+    sample_put narrow refl false a.out.now _ _ a.at a.number a.value (omega (arith, start.ranges.value.fits))
     number.store2.ensures value.store2-2.ensures
 
 pub put_pair_spec : {M : Type 1} → statement M

@@ -87,7 +87,7 @@ add_at c =
       arith,
       counts-one (not c.is_run-run.result),
       (left (inside c)).1,
-      (start c).ranges.end,
+      (start c).ranges.end.fits,
     )
 
 add-number-2 : tie.Need-overflow_add-number-in-loop-at invariant-loop decreases-loop

@@ -37,7 +37,7 @@ loop-holds c =
 store2-requires : tie.Need-store2-requires invariant-loop decreases-loop
 store2-requires c κs =
     let put = first-put c.before in
-    omega (arith, put.store4.kept.0, (inside put).loop-p-test.true, (inside put).loop-p.invariant.1, (start (inside put)).requires)
+    omega (arith, put.store4.auto.out, (inside put).loop-p-test.true, (inside put).loop-p.invariant.1, (start (inside put)).requires)
 
 store2-requires-2 : tie.Need-store2-requires-in-loop-p invariant-loop decreases-loop
 store2-requires-2 c κs =
@@ -45,8 +45,8 @@ store2-requires-2 c κs =
     let put = first-put second.before.before in
     omega (
       arith,
-      second.store2.kept.0,
-      put.store4.kept.0,
+      second.store2.auto.out,
+      put.store4.auto.out,
       (inside put).loop-p-test.true,
       (inside put).loop-p.invariant.1,
       (start (inside put)).requires,
@@ -63,7 +63,7 @@ loop-again c =
     let l = (inside put).loop-p in
     let a = (start (inside put)).args in (
       omega (arith, (inside put).loop-p-test.true),
-      third.store2-in-loop-p.auto.out ∙ second.store2.kept.0 ∙ put.store4.kept.0 ∙ l.invariant.1,
+      third.store2-in-loop-p.auto.out ∙ second.store2.auto.out ∙ put.store4.auto.out ∙ l.invariant.1,
       sampling-one wide_angles a.msb false a.part.now a.out.now a.to l.out _ l.p (n, x + 65536 * y)
           (omega (arith, (inside put).loop-p-test.true))
           (angles-at wide_angles refl a.msb a.part.now l.p (l.p + 4) (l.p + 6) n x y refl (omega arith)

@@ -101,14 +101,14 @@ count_packed_spec =
     (λ c.
     omega (
       arith,
-      once (not c.before.is_run-run.result) (c.runs.result + 1),
+      once (not c.is_run-run.result) (c.runs.result + 1),
       c.runs.ensures.1,
       quiet-few c.before.before.before,
     ))
     (λ c.
     omega (
       arith,
-      once (not c.before.is_run-run.result) (c.runs.result + 1),
+      once (not c.is_run-run.result) (c.runs.result + 1),
       c.runs.ensures.1,
       quiet-few c.before.before.before,
       counted c.before.before.before,
@@ -120,7 +120,7 @@ count_packed_spec =
     (λ c.
     omega (
       arith,
-      once c.before.before.is_run-run.result (c.before.before.before.before.before.loop-p.quiet + c.run_length.result),
+      once c.is_run-run.result (c.loop-p.quiet + c.run_length.result),
       quiet-few c.before.before.before.before,
       passed c,
     ))

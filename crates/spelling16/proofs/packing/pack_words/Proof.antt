@@ -126,7 +126,7 @@ loop-again c =
       omega (arith, once run.is_run-run.result ((l.quiet + length.run_length.result) % 256)),
       packing_one (lit≤ tt) (not run.is_run-run.result) (respelled w) _
           (put.store2-in-loop-p.ensures
-          ∙ ap (λ (v : ℕ). sets run-put.store2.new.0 (l.at + 2 * bool_byte ends.ends_run-ends.result) (bytes_of false 2 v))
+          ∙ ap (λ (v : ℕ). sets run-put.store2.new.out (l.at + 2 * bool_byte ends.ends_run-ends.result) (bytes_of false 2 v))
           said.respell.ensures)
           put.store2-in-loop-p.auto.out
           (packing_one (lit≤ tt) ends.ends_run-ends.result _ _ run-put.store2.ensures run-put.store2.auto.out (ahead ends)),
@@ -171,8 +171,8 @@ pack_words_spec =
     omega (
       arith,
       c.run_length.ensures,
-      run_short 256 (lit< tt) c.before.before.read2-word.result,
-      c.before.before.before.before.loop-p.invariant.1,
+      run_short 256 (lit< tt) c.read2-word.result,
+      c.loop-p.invariant.1,
     ))
     (λ c κs. search rules)
     (λ c. search rules)

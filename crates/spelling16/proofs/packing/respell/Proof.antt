@@ -21,7 +21,7 @@ returns : tie.Need-returns
 returns c = unless (eqb c.args.word 32768) c.args.word
 
 mul-result : tie.Need-overflow_mul-result
-mul-result c = omega (arith, most (not (eqb c.args.word 32768)) c.args.word, c.ranges.word)
+mul-result c = omega (arith, most (not (eqb c.args.word 32768)) c.args.word, c.ranges.word.fits)
 
 pub respell_spec : {M : Type 1} → statement M
 respell_spec = tie.close (tie.spec

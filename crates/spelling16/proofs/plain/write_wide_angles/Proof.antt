@@ -45,7 +45,7 @@ store2-requires c κs = omega (arith, (number_put c).store4.auto.out)
 store2-requires-2 : tie.Need-store2-requires-in-loop-i invariant-loop decreases-loop
 store2-requires-2 c κs =
     let first = first-put c in
-    omega (arith, first.store2.kept.0, (number_put first.before).store4.kept.0)
+    omega (arith, first.store2.auto.out, (number_put first.before).store4.auto.out)
 
 loop-again : tie.Need-loop-i-preserved invariant-loop decreases-loop
 loop-again c =
@@ -61,7 +61,7 @@ loop-again c =
     let xs = a.alongship.now in
     let ys = a.athwartship.now in (
       omega arith,
-      put.store2-in-loop-i.auto.out ∙ first.store2.kept.0 ∙ number.store4.kept.0 ∙ l.invariant.1,
+      put.store2-in-loop-i.auto.out ∙ first.store2.auto.out ∙ number.store4.auto.out ∙ l.invariant.1,
       omega arith,
       angles-turn wide_angles refl a.msb l.out _ _ _ l.to _ _ (get_or ns l.i 0) x.pattern2.result y.pattern2-in-loop-i.result
           (omega (arith, x.pattern2.type_inv)) (omega (arith, y.pattern2-in-loop-i.type_inv)) (omega arith) (omega arith)

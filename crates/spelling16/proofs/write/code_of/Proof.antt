@@ -15,7 +15,7 @@ returns-2 : tie.Need-returns
 returns-2 c =
     let start = c.before.before in
     let v = start.args.value in
-    let size : 4294967295 - v + 1 ≡ 4294967296 - v = omega (arith, start.ranges.value) in
+    let size : 4294967295 - v + 1 ≡ 4294967296 - v = omega (arith, start.ranges.value.fits) in
     ap (λ (n : ℕ). 32768 + n) (c.shorten-2.ensures.0 ∙ ap (shortened 6) size) ∙ sym (code-long v c.if-value-lt-LEAST_NEGATIVE.false)
 
 pub code_of_spec : {M : Type 1} → statement M

@@ -186,7 +186,7 @@ keeps_inner_spec =
     (λ c.
     let s = c.before.before.before.before.before in
     let e = words c.before.before in
-    said-C s wide e _ _ _ (room-C s wide e).fours c.before.read4-count.ensures c.count4.ensures)
+    said-C s wide e _ _ _ (room-C s wide e).fours c.read4-count.ensures c.count4.ensures)
     (λ c.
     let s = c.before.before.before.before in
     said-U s wide_angles (angles c.before) _ (c.rise-in-10001.ensures ∙ ap is_fine (judged-wide s.args.msb _)))
@@ -195,9 +195,9 @@ keeps_inner_spec =
     (λ c.
     let s = c.before.before.before.before.before in
     let e = words16 c.before.before in
-    said-C s narrow e _ _ _ (room-C s narrow e).twos c.before.read4-count-in-10040.ensures c.count2.ensures)
+    said-C s narrow e _ _ _ (room-C s narrow e).twos c.read4-count-in-10040.ensures c.count2.ensures)
     (λ c.
     let s = c.before.before.before.before.before in
     let e = codes16 c.before.before in
-    said-C s encoded e _ _ _ (room-C s encoded e).twos c.before.read4-count-in-10050.ensures c.count2-in-10050.ensures)
+    said-C s encoded e _ _ _ (room-C s encoded e).twos c.read4-count-in-10050.ensures c.count2-in-10050.ensures)
     none)
