@@ -59,7 +59,7 @@ find_spec =
     decreases-loop
     (λ c κs. accepted_4 _ c.requires)
     (λ c. seeking_begin _ _ _ _ _ c.requires c.is_msb-msb.ensures)
-    (λ c κs. omega (arith, (there c).long, (there c).ranges))
+    (λ c κs. omega (arith, (there c).long, (there c).fits))
     is-wanted-requires
     returns
     (λ c. omega (arith, (there (inside c.before)).fits, c.length_at-whole.ensures))

@@ -202,7 +202,7 @@ fill_with_spec =
     (λ c κs. accepted_4 _ (record { counts = _; answer = c.requires.1.accepted }))
     (λ c. let s = c.before.before.before.before.before in
     filling_begin _ _ _ _ (record { counts = _; answer = s.requires.1.accepted }) c.is_msb-msb.ensures s.requires.0.1)
-    (λ c κs. omega (arith, (there c).long, (there c).ranges))
+    (λ c κs. omega (arith, (there c).long, (there c).fits))
     (λ c κs. omega (arith, (there c.before).long, (there c.before).fits))
     (λ c κs. search rules)
     quantity-at-requires

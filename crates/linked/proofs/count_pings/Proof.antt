@@ -66,7 +66,7 @@ count_pings_spec =
     decreases-loop
     (λ c κs. accepted_4 _ c.requires)
     (λ c. counting-begin _ _ c.requires c.is_msb-msb.ensures)
-    (λ c κs. omega (arith, (there c).long, (there c).ranges))
+    (λ c κs. omega (arith, (there c).long, (there c).fits))
     (λ c κs. search rules)
     add-n
     (λ c κs. let l = inside c.before in omega (arith, (there l).long, (there l).fits))

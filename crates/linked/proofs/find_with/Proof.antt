@@ -118,7 +118,7 @@ find_with_spec =
     (λ c κs. accepted_4 _ c.requires.0)
     (λ c. let s = c.before.before in
     record { along = along-begin (standing s.args.place) _ _ _ s.requires.0 c.is_msb-msb.ensures s.requires.1 })
-    (λ c κs. omega (arith, (there c).long, (there c).ranges))
+    (λ c κs. omega (arith, (there c).long, (there c).fits))
     (λ c κs. omega (arith, (there c.before).long, (there c.before).fits))
     (λ c κs. search rules)
     quantity-at-requires

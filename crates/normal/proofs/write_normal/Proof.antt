@@ -112,7 +112,7 @@ write_normal_spec =
     store4-requires
     (λ c κs. let stored = c.before.before in let w = stored.requires.0 in accepted_4 _ w.accepts)
     loop-holds
-    (λ c κs. omega (arith, (there c).long, (there c).ranges))
+    (λ c κs. omega (arith, (there c).long, (there c).fits))
     (λ c κs. omega (arith, (there c.before).long, (there c.before).fits))
     write-piece-requires
     add-to

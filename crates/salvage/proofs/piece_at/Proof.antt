@@ -25,7 +25,7 @@ piece_at_spec =
     tie.close
     (tie.spec
     (λ c κs. search rules)
-    (λ c κs. omega (arith, (there c).long, (there c).ranges))
+    (λ c κs. omega (arith, (there c).long, (there c).fits))
     (λ c. omega (arith, (there c.before).fits, c.length_at-whole.ensures))
     (λ c. piece-kept _ _ _ (fine c.before) _ c.length_at-whole.ensures)
     (λ c. search rules)

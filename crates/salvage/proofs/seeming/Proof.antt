@@ -26,7 +26,7 @@ seeming_spec =
     (λ c. search rules)
     (λ c κs. omega (arith, c.requires))
     (λ c. search rules)
-    (λ c κs. omega (arith, (there c).long, (there c).ranges))
+    (λ c κs. omega (arith, (there c).long, (there c).fits))
     (λ c. search rules)
     (λ c. omega (arith, c.length_at.ensures, allowed-most _ (there c.before).allowed))
     (λ c. search rules))

@@ -64,7 +64,7 @@ count_pings_spec =
     decreases-loop
     (λ c κs. accepted_4 _ c.requires)
     (λ c. counting-begin _ _ c.requires c.is_msb-msb.ensures)
-    (λ c κs. omega (arith, (there c).long, (there c).ranges))
+    (λ c κs. omega (arith, (there c).long, (there c).fits))
     (λ c κs. omega (arith, (there c.before).long, (there c.before).fits))
     (λ c κs. search rules)
     (λ c κs. search rules)

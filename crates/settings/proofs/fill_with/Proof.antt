@@ -144,7 +144,7 @@ fill_with_spec =
     decreases-loop
     (λ c κs. accepted_4 _ c.requires.0.accepted)
     loop-holds
-    (λ c κs. omega (arith, (there c).long, (there c).ranges))
+    (λ c κs. omega (arith, (there c).long, (there c).fits))
     (λ c κs. omega (arith, (there c.before).long, (there c.before).fits))
     role-at-requires
     line-of-requires

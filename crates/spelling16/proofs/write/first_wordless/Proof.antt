@@ -41,7 +41,7 @@ tested : (c : tie.After-is_bad invariant-loop decreases-loop) →
 unfolding word_for meant is_bad
 tested c =
     let said = c.pattern2-word in
-    wordless-same narrow said.result refl refl (omega (arith, said.type-inv)) ∙ rw (c.is_run.ensures, c.is_bad.ensures)
+    wordless-same narrow said.result refl refl (omega (arith, said.type_inv)) ∙ rw (c.is_run.ensures, c.is_bad.ensures)
 
 returns : tie.Need-returns-then-is_run-is_bad invariant-loop decreases-loop
 returns c =

@@ -89,7 +89,7 @@ keeps_alone_spec =
     (λ c. search rules)
     (λ c. search rules)
     returns
-    (λ c κs. omega (arith, (there c).long, (there c).ranges))
+    (λ c κs. omega (arith, (there c).long, (there c).fits))
     (λ c κs. omega (arith, (there c.before).long, (there c.before).fits))
     (λ c κs. here c)
     (λ c. search rules)
