@@ -8,12 +8,12 @@ use borrow.Author.Rules.{rules}
 use Rattle.corrections.proofs.part.Statement.{statement}
 use Rattle.corrections.proofs.part.Tie as tie
 
-lies : (c : tie.In-Corrected) → let g = c.in-Corrected.found.given.0 in
-    g.0 + g.1.0 ≤ length c.args.corrections.now
+lies : (c : tie.In-Corrected) → let g = c.in-Corrected in
+    g.from + g.length ≤ length c.args.corrections.now
 lies c = rw c.in-Corrected.is at c.requires
 
-lies-2 : (c : tie.In-Deposited) → let g = c.in-Deposited.found2.given.0 in
-    g.0 + g.1.0 ≤ length c.args.deposit.now
+lies-2 : (c : tie.In-Deposited) → let g = c.in-Deposited in
+    g.from + g.length ≤ length c.args.deposit.now
 lies-2 c = rw c.in-Deposited.is at c.requires
 
 -- a part of a length, from a place on
@@ -22,15 +22,13 @@ from_on f a m = let z : a + m - a ≡ m = omega arith in ap (λ (i : ℕ). take 
 
 returns : tie.Need-returns-in-Corrected
 returns c =
-    let k = c.before in
-    let g = k.in-Corrected.found.given in
-    rw g.1 (from_on k.args.corrections.now g.0.0 g.0.1.0)
+    let g = c.in-Corrected in
+    rw g.is (from_on c.args.corrections.now g.from g.length)
 
 returns-2 : tie.Need-returns-in-Deposited
 returns-2 c =
-    let k = c.before in
-    let g = k.in-Deposited.found2.given in
-    rw g.1 (from_on k.args.deposit.now g.0.0 g.0.1.0)
+    let g = c.in-Deposited in
+    rw g.is (from_on c.args.deposit.now g.from g.length)
 
 pub part_spec : {M : Type 1} → statement M
 part_spec =

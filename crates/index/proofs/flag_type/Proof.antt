@@ -12,14 +12,14 @@ returns c = flag-within _ _ (sym c.in_class.ensures ∙ c.if-in_class.true)
 returns-2 : tie.Need-returns-then-is_flagged
 returns-2 c =
     let outside = c.before.before.before in
-    let a = outside.before.before.args in
+    let a = c.args in
     flag-stands a.flags.now a.code (sym c.is_flagged.ensures ∙ c.if-is_flagged.true)
-    ∙ flag-outside a.flags.now a.code (sym outside.in_class.ensures ∙ outside.if-in_class.false)
+    ∙ flag-outside a.flags.now a.code (sym c.in_class.ensures ∙ c.if-in_class.false)
 
 add-flags : tie.Need-overflow_add-flags
 add-flags c =
     let flagging = c.before.before.before in
-    let a = flagging.args in
+    let a = c.args in
     let e = sym flagging.is_flagged.ensures ∙ flagging.if-is_flagged.false in
     let b = c.byte-b.ensures in
     rw (c.bit.ensures, b.0) (record { fits = flag-fits a.flags.now a.code (subst (λ x. x < 256) b.0 b.1) e })
@@ -28,11 +28,11 @@ returns-3 : tie.Need-returns
 returns-3 c =
     let flagging = c.before.before.before in
     let outside = flagging.before.before.before in
-    let a = outside.args in
+    let a = c.args in
     let e = sym flagging.is_flagged.ensures ∙ flagging.if-is_flagged.false in
     rw (c.bit.ensures, c.byte-b.ensures.0)
     (flag_added a.flags.now a.code e
-    ∙ flag-outside a.flags.now a.code (sym outside.in_class.ensures ∙ outside.if-in_class.false))
+    ∙ flag-outside a.flags.now a.code (sym c.in_class.ensures ∙ c.if-in_class.false))
 
 pub flag_type_spec : {M : Type 1} → statement M
 flag_type_spec =

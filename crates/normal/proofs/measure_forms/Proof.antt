@@ -48,8 +48,8 @@ measure_forms_spec =
     (λ c. let s = c.before.before.before in
     measuring_begin _ _ _ _ s.requires.0 c.is_msb-msb.ensures c.begin-m.ensures s.requires.1)
     past-requires
-    (λ c κs. let turn = c.before.before in omega (arith, (there turn).long, (there turn).ranges))
-    (λ c. let turn = c.before.before.before in omega (arith, (there turn).ranges, c.length_at-place.ensures))
+    (λ c κs. let turn = c.before.before in omega (arith, (there turn).long, (there turn).fits))
+    (λ c. let turn = c.before.before.before in omega (arith, (there turn).fits, c.length_at-place.ensures))
     (λ c. let turn = c.before.before.before in
     measuring_less _ _ _ _ _ turn.loop-place.invariant turn.loop-place-test.true _ c.length_at-place.ensures)
     loop-again

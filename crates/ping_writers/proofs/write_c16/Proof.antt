@@ -99,7 +99,7 @@ returns-2 c =
       close.write_closing.ensures,
       words.write_words-end.ensures.1,
       opening.write_packed_opening.ensures,
-      to_z-of_z {w = w32} {z = a.attribute} start.ranges.attribute.fits,
+      to_z-of_z {w = w32} {z = a.attribute} start.ranges.attribute,
     ))
 
 pub write_c16_spec : {M : Type 1} → statement M

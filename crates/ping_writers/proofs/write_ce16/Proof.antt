@@ -102,7 +102,7 @@ returns-2 c =
       close.write_closing.ensures,
       words.write_codes-end.ensures.1,
       opening.write_packed_opening.ensures,
-      to_z-of_z {w = w32} {z = a.attribute} start.ranges.attribute.fits,
+      to_z-of_z {w = w32} {z = a.attribute} start.ranges.attribute,
     ))
 
 pub write_ce16_spec : {M : Type 1} → statement M

@@ -80,7 +80,7 @@ returns-2 c =
       close.write_closing.ensures,
       samples.write_pairs.ensures,
       opening.write_opening.ensures,
-      to_z-of_z {w = w32} {z = a.attribute} start.ranges.attribute.fits,
+      to_z-of_z {w = w32} {z = a.attribute} start.ranges.attribute,
     ))
 
 pub write_u32_spec : {M : Type 1} → statement M

@@ -15,7 +15,7 @@ use Rattle.readings.proofs.reading_of.Tie as tie
 made : (s : tie.Start) {q : Quantity} {x : Float} → s.args.quantity ≡ q
     → x ≡ double_of (to_z w32 (of_z w32 s.args.value)) s.args.divisor
     → cased q x ≡ cased s.args.quantity (double_of s.args.value s.args.divisor)
-made s e h = ap₂ cased (sym e) (h ∙ ap (λ (z : ℤ). double_of z s.args.divisor) (to_z-of_z w32 s.args.value s.ranges.value.fits))
+made s e h = ap₂ cased (sym e) (h ∙ ap (λ (z : ℤ). double_of z s.args.divisor) (to_z-of_z w32 s.args.value s.ranges.value))
 
 returns : tie.Need-returns-in-Volts
 returns c = made c.before.before c.in-Volts.is c.quotient.ensures

@@ -10,7 +10,7 @@ returns c =
     let tail = c.before.before in
     let pattern = tail.before in
     let start = pattern.before.before.before in
-    let read = pattern-read w32 4 start.args.attribute _ start.ranges.attribute.fits.sfits pattern.pattern4.ensures in
+    let read = pattern-read w32 4 start.args.attribute _ start.ranges.attribute.sfits pattern.pattern4.ensures in
     rw (tail.close_frame.ensures, read)
 
 pub put_tail_spec : {M : Type 1} → statement M

@@ -90,7 +90,7 @@ returns c =
       wrote.write_row.ensures,
       opened.open_frame.ensures,
       rowed r,
-      to_z-of_z {w = w32} {z = a.attribute} d.ranges.attribute.fits,
+      to_z-of_z {w = w32} {z = a.attribute} d.ranges.attribute,
       take-length a.behind.now,
     )
     (put a.msb a.numbers.now a.remark.now a.behind.now a.whole (pattern_of 4 a.attribute) a.code d.requires.0

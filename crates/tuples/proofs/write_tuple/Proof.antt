@@ -44,7 +44,7 @@ returns-2 c =
     ∙ ap (λ (z : ℤ). sets a.out.now 0
     (plain_bytes a.msb a.code
     (handed_values (shape_of a.code) a.numbers.now a.remark.now a.behind.now (pattern_of 4 z))))
-    (to_z-of_z {w = w32} {z = a.attribute} d.ranges.attribute.fits)))
+    (to_z-of_z {w = w32} {z = a.attribute} d.ranges.attribute)))
 
 pub write_tuple_spec : {M : Type 1} → statement M
 write_tuple_spec =

@@ -39,8 +39,8 @@ returns-2 c =
     k.write_ce16.new.1.1.1.1.1.1.0 in
     answer-told _ a.answer.now a.out.now k.write_ce16.result _ _ _ e.if-answer-lt-HEAD.false
     (subst (W (header a.detected_bottom_range) a.tuple_attribute) l.handed_length-length.ensures
-    (of_same (λ (h : PingHeader) (z : ℤ). W h z (handed_length l.handed_length-length.result)) header s.ranges.detected_bottom_range.fits
-    s.ranges.tuple_attribute.fits g.header_of-header.ensures k.write_ce16.ensures))
+    (of_same (λ (h : PingHeader) (z : ℤ). W h z (handed_length l.handed_length-length.result)) header s.ranges.detected_bottom_range
+    s.ranges.tuple_attribute g.header_of-header.ensures k.write_ce16.ensures))
     t.tell_answer.ensures
 
 pub hac_write_ce16_spec : {M : Type 1} → statement M

@@ -44,7 +44,7 @@ returns c =
           ∙ ap (pattern_of 4) (to_z-of_z {w = w32} {z = h.detected_bottom_range}
           (record { sfits = s.struct_told-1.given.1.1.1.1.1.0.1 })))
           i
-          ∷ (b.pattern4-2.ensures ∙ ap (pattern_of 4) (to_z-of_z {w = w32} {z = a.attribute} (start s).ranges.attribute.fits)) i
+          ∷ (b.pattern4-2.ensures ∙ ap (pattern_of 4) (to_z-of_z {w = w32} {z = a.attribute} (start s).ranges.attribute)) i
           ∷ k.kind_number.ensures i
           ∷ a.values
           ∷ both i))),

@@ -35,7 +35,7 @@ returns-2 c =
     WrittenU wide a.msb h z a.numbers.now a.values.now a.out.now k.write_u32.result
     k.write_u32.new.1.1.1.1.1.0)
     (header_with a.time_fraction a.time_cpu a.software_channel_identifier a.transmitter_mode a.ping_number)
-    s.ranges.detected_bottom_range.fits s.ranges.tuple_attribute.fits g.header_of-header.ensures k.write_u32.ensures)
+    s.ranges.detected_bottom_range s.ranges.tuple_attribute g.header_of-header.ensures k.write_u32.ensures)
     t.tell_answer.ensures
 
 pub hac_write_u32_spec : {M : Type 1} → statement M

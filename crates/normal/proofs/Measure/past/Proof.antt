@@ -60,7 +60,7 @@ add-bytes c =
       k.length_at-whole.ensures,
       s.requires.1.bytes,
       s.requires.1.small,
-      (there s).ranges,
+      (there s).fits,
     )
 
 pub past_spec : {M : Type 1} → statement M

@@ -13,7 +13,7 @@ returns c =
     rw (
       tail.put_tail.ensures,
       space.write_space.ensures,
-      to_z-of_z {w = w32} {z = start.args.attribute} start.ranges.attribute.fits,
+      to_z-of_z {w = w32} {z = start.args.attribute} start.ranges.attribute,
     )
 
 pub write_closing_spec : {M : Type 1} → statement M

@@ -12,7 +12,7 @@ use Rattle.spelling16.proofs.write.is_codeless.Tie as tie
 
 -- the pattern that the code has is the count's
 pattern : (c : tie.After-pattern4-value) → c.pattern4-value.result ≡ pattern_of 4 c.args.count
-pattern c = pattern-read w32 4 c.args.count _ c.ranges.count.fits.sfits c.pattern4-value.ensures
+pattern c = pattern-read w32 4 c.args.count _ c.ranges.count.sfits c.pattern4-value.ensures
 
 returns : tie.Need-returns-then-code-gt-MOST_WORD
 returns c =
