@@ -118,7 +118,7 @@ returns c =
     let k = i.before in
     let s = start k in
     let t = it k in
-    subst (λ (g : List ℕ). Rewritten g s.args.counts s.args.out.now r.rewrite.result r.rewrite.new.1.1.1.1.1.0)
+    subst (λ (g : List ℕ). Rewritten g s.args.counts s.args.out.now r.rewrite.result r.rewrite.new.out)
     (removed-result s.args.file.now (bytes k) s.args.counts s.requires.0 i.is_msb-msb.result i.is_msb-msb.ensures
     s.requires.1.0.between.passed
     t.tuple t.later t.all s.args.at s.requires.1.0.between.place _ (next-is l) _ (end_is e)

@@ -71,7 +71,7 @@ returns c =
     let e = sought r.before in
     let i = ordered e in
     let s = start i.before in
-    subst (λ (g : List ℕ). Rewritten g s.args.counts s.args.out.now r.rewrite.result r.rewrite.new.1.1.1.1.1.0)
+    subst (λ (g : List ℕ). Rewritten g s.args.counts s.args.out.now r.rewrite.result r.rewrite.new.out)
     (inserted_result s.args.file.now (bytes i.before) _ s.requires.0 i.is_msb-msb.result i.is_msb-msb.ensures _ (end_is e) _)
     r.rewrite.ensures
 

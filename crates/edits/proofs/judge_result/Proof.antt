@@ -50,7 +50,7 @@ judge-part-requires c κs =
 -- the first part is passed
 first-passed : (c : tie.In-On) → let j = one c in let b = begun j.before in let a = (start b).args in
     Passed a.msb a.size.whole a.first.now b.begin-begin.result zeroed c.in-On.w
-    (tables j.judge_part.last.1.1.1.1.0 j.judge_part.last.1.1.1.1.1.0)
+    (tables j.judge_part.new.sounders j.judge_part.new.channels)
 first-passed c =
     let j = one c in
     let b = begun j.before in
@@ -61,8 +61,8 @@ first-passed c =
 -- and the second
 second-passed : (c : tie.In-On-judge_part) → let j = two c in let f = first j.before in let a = (start (begun (one f).before)).args in
     Passed a.msb a.size.whole a.second.now f.in-On.w
-    (tables (one f).judge_part.last.1.1.1.1.0 (one f).judge_part.last.1.1.1.1.1.0) c.in-On-judge_part.v
-    (tables j.judge_part-in-On.last.1.1.1.1.0 j.judge_part-in-On.last.1.1.1.1.1.0)
+    (tables (one f).judge_part.new.sounders (one f).judge_part.new.channels) c.in-On-judge_part.v
+    (tables j.judge_part-in-On.new.sounders j.judge_part-in-On.new.channels)
 second-passed c =
     let j = two c in
     let f = first j.before in

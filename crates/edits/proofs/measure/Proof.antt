@@ -35,14 +35,14 @@ began c = start (first (second (third c)))
 
 -- the three surveys
 one : (c : tie.After-survey-a) → let a = (start c).args in
-    Surveyed a.msb a.first.now (replicate 8192 0) c.survey-a.result.auto c.survey-a.result.end c.survey-a.new.1.1.0
+    Surveyed a.msb a.first.now (replicate 8192 0) c.survey-a.result.kept c.survey-a.result.end c.survey-a.new.flags
 one c =
     let a = (start c).args in
-    subst (λ (g : List ℕ). Surveyed a.msb a.first.now g c.survey-a.result.auto c.survey-a.result.end
-    c.survey-a.new.1.1.0) (start c).requires.1 c.survey-a.ensures
+    subst (λ (g : List ℕ). Surveyed a.msb a.first.now g c.survey-a.result.kept c.survey-a.result.end
+    c.survey-a.new.flags) (start c).requires.1 c.survey-a.ensures
 
 index-length-requires : tie.Need-index_length-index-requires
-index-length-requires c κs = omega (arith, c.count_types.ensures, few-flagged c.survey-z.new.1.1.0)
+index-length-requires c κs = omega (arith, c.count_types.ensures, few-flagged c.survey-z.new.flags)
 
 -- the index's bytes
 index-bytes : (c : tie.After-index_length-index) → let a = (began c).args in
@@ -58,9 +58,9 @@ index-bytes c =
 
 -- all that is added stays small
 record Small (c : tie.After-index_length-index) : Type 0 where
-  pub first : (first (second (third c))).survey-a.result.auto ≤ limit
-  pub second : (second (third c)).survey-b.result.auto ≤ limit
-  pub last : (third c).survey-z.result.auto ≤ limit
+  pub first : (first (second (third c))).survey-a.result.kept ≤ limit
+  pub second : (second (third c)).survey-b.result.kept ≤ limit
+  pub last : (third c).survey-z.result.kept ≤ limit
   pub index : c.index_length-index.result ≤ 200000
 
 small : (c : tie.After-index_length-index) → Small c
@@ -71,12 +71,12 @@ small c =
       first = omega (arith, (first (second z)).survey-a.ensures.few, (first (second z)).survey-a.ensures.fits, p.first_small);
       second = omega (arith, (second z).survey-b.ensures.few, (second z).survey-b.ensures.fits, p.second_small);
       last = omega (arith, z.survey-z.ensures.few, z.survey-z.ensures.fits, p.last_small);
-      index = omega (arith, c.index_length-index.ensures, c.count_types.ensures, few-flagged z.survey-z.last.1.1.0);
+      index = omega (arith, c.index_length-index.ensures, c.count_types.ensures, few-flagged z.survey-z.new.flags);
     }
 
 -- all types are flagged
 flagged : (c : tie.After-index_length-index) → let a = (began c).args in
-    (third c).survey-z.new.1.1.0 ≡ flag_all (replicate 8192 0) (all_of a.msb a.first.now a.second.now a.last.now)
+    (third c).survey-z.new.flags ≡ flag_all (replicate 8192 0) (all_of a.msb a.first.now a.second.now a.last.now)
 flagged c =
     let z = third c in
     let b = second z in

@@ -57,7 +57,7 @@ copy-kept-requires-2 : tie.Need-copy_kept-end-requires
 copy-kept-requires-2 c κs =
     let f = first c in
     let m = marked f.before in
-    omega (arith, (rows (start m.before)).sum, m.store4.auto.out, f.copy_kept-middle.auto.1.1.0, f.copy_kept-middle.ensures.0)
+    omega (arith, (rows (start m.before)).sum, m.store4.auto.out, f.copy_kept-middle.auto.out, f.copy_kept-middle.ensures.0)
 
 -- the index that is written is the parts' own
 written : (c : tie.After-write_index-arg-1) → let s = start (marked (first (second c).before).before).before in let a = s.args in
@@ -76,9 +76,9 @@ write-index-requires c κs =
       r.index,
       ap length_of (written c),
       m.store4.auto.out,
-      f.copy_kept-middle.auto.1.1.0,
+      f.copy_kept-middle.auto.out,
       f.copy_kept-middle.ensures.0,
-      t.copy_kept-end.auto.1.1.0,
+      t.copy_kept-end.auto.out,
       t.copy_kept-end.ensures.0,
     )
 
@@ -99,11 +99,11 @@ copy-kept-requires-3 c κs =
       arith,
       (rows (start m.before)).sum,
       m.store4.auto.out,
-      f.copy_kept-middle.auto.1.1.0,
+      f.copy_kept-middle.auto.out,
       f.copy_kept-middle.ensures.0,
-      t.copy_kept-end.auto.1.1.0,
+      t.copy_kept-end.auto.out,
       t.copy_kept-end.ensures.0,
-      i.write_index.auto.1.1.0,
+      i.write_index.auto.out,
     )
 
 returns : tie.Need-returns
@@ -119,7 +119,7 @@ returns c =
     stored a.msb a.first.now a.second.now a.last.now s.requires.0 s.requires.1.0 a.out.now _ _ _ _ _ _ _ _
     m.store4.ensures
     f.copy_kept-middle.ensures.1 f.copy_kept-middle.ensures.0 t.copy_kept-end.ensures.1 t.copy_kept-end.ensures.0
-    (i.write_index.ensures ∙ ap (λ (x : Tup). sets t.copy_kept-end.last.1.1.0 t.copy_kept-end.result (frame a.msb x))
+    (i.write_index.ensures ∙ ap (λ (x : Tup). sets t.copy_kept-end.new.out t.copy_kept-end.result (frame a.msb x))
     (written i.before))
     (ap (λ (n : ℕ). t.copy_kept-end.result + n) (rows s).index) l.copy_kept.ensures.1
 

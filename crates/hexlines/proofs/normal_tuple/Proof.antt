@@ -22,13 +22,13 @@ finds-bad c = read-bad c.decode.ensures _ c.in-Bad.is
 
 finds-bytes : (c : tie.In-Bytes) →
     let n = c.in-Bytes.n in
-    (n ≤ room) × (input_of (text c.before.before) ≡ bytes (take n c.decode.new.1.0))
+    (n ≤ room) × (input_of (text c.before.before) ≡ bytes (take n c.decode.new.bytes))
 finds-bytes c = let d = c.before.before in
     read-bytes d.decode.ensures _ d.space-file.ensures c.in-Bytes.is
 
-fits : (c : tie.In-Bytes) → c.in-Bytes.n ≤ length c.decode.new.1.0
+fits : (c : tie.In-Bytes) → c.in-Bytes.n ≤ length c.decode.new.bytes
 fits c = let d = c.before.before in
-    omega (arith, (finds-bytes c).0, d.decode.auto.1.0, d.space-file.ensures)
+    omega (arith, (finds-bytes c).0, d.decode.auto.bytes, d.space-file.ensures)
 
 slice-aggregate-decode : tie.Need-slice_bounds-decode-end-2
 slice-aggregate-decode c = sym (length-take-le _ _ c.before.before.before.requires.0)

@@ -10,7 +10,7 @@ use Rattle.normal.proofs.measure_file.Statement.{statement}
 use Rattle.normal.proofs.measure_file.Tie as tie
 
 index-length-requires : tie.Need-index_length-more-requires
-index-length-requires c κs = omega (arith, c.count_types.ensures, few-flagged c.measure_forms-m.new.1.0)
+index-length-requires c κs = omega (arith, c.count_types.ensures, few-flagged c.measure_forms-m.new.flags)
 
 add-bytes : tie.Need-overflow_add-result
 add-bytes c =
@@ -21,7 +21,7 @@ add-bytes c =
       arith,
       c.index_length-more.ensures,
       counted.count_types.ensures,
-      few-flagged measured.measure_forms-m.new.1.0,
+      few-flagged measured.measure_forms-m.new.flags,
       measured.measure_forms-m.ensures.1.0,
       accepted-small _ s.requires.0,
     )

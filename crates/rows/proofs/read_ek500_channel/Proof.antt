@@ -28,17 +28,13 @@ parted e = rw e (record { first = lit≤ tt; other = lit≤ tt; bytes = refl; nu
 
 read-row-requires : tie.Need-read_row-requires
 read-row-requires c κs =
-    let t = c.before.before.before in
-    let d = start t in
-    let a = d.args in
-    first-asks _ _ _ _ _ (parted t.row-row.ensures) a.file.now a.numbers.now a.at d.requires.0 d.requires.1
+    let a = c.args in
+    first-asks _ _ _ _ _ (parted c.row-row.ensures) a.file.now a.numbers.now a.at c.requires.0 c.requires.1
 
 read-row-requires-2 : tie.Need-read_row-requires-2
 read-row-requires-2 c κs =
-    let t = rowed c.before.before.before.before.before.before in
-    let d = start t in
-    let a = d.args in
-    let x = other-asks _ _ _ _ _ (parted t.row-row.ensures) a.file.now a.numbers.now a.at d.requires.0 d.requires.1 in
+    let a = c.args in
+    let x = other-asks _ _ _ _ _ (parted c.row-row.ensures) a.file.now a.numbers.now a.at c.requires.0 c.requires.1 in
     (x.0, (x.1.0, omega (arith, x.1.1)))
 
 returns : tie.Need-returns

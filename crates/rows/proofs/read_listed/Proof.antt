@@ -71,17 +71,13 @@ read_listed_spec =
     (λ c. search rules)
     (λ c. search rules)
     (λ c. search rules)
-    (λ c κs. let r = c.before.before.before in
-    let m = r.before in
-    asked m.before.before.before m.in-0.is r.row.ensures refl)
+    (λ c κs. asked c.before.before.before.before.before.before.before.before c.in-0.is c.row.ensures refl)
     (λ c κs. search rules)
     (λ c. search rules)
     (λ c. search rules)
     (λ c. search rules)
     (λ c. search rules)
-    (λ c κs. let r = c.before.before.before in
-    let m = r.before in
-    asked m.before.before.before m.in-1.is r.row-in-1.ensures refl)
+    (λ c κs. asked c.before.before.before.before.before.before.before.before c.in-1.is c.row-in-1.ensures refl)
     (λ c κs. let m = c.before in parts-asked m.before.before.before 2 m.in-2.is)
     (λ c κs. let m = c.before in parts-asked m.before.before.before 3 m.in-3.is)
     (λ c κs. let m = c.before in parts-asked m.before.before.before 4 m.in-4.is)
@@ -90,150 +86,91 @@ read_listed_spec =
     (λ c. search rules)
     (λ c. search rules)
     (λ c. search rules)
-    (λ c κs. let r = c.before.before.before in
-    let m = r.before in
-    asked m.before.before.before m.in-5.is r.row-in-5.ensures refl)
+    (λ c κs. asked c.before.before.before.before.before.before.before.before c.in-5.is c.row-in-5.ensures refl)
     (λ c κs. search rules)
     (λ c. search rules)
     (λ c. search rules)
     (λ c. search rules)
     (λ c. search rules)
-    (λ c κs. let r = c.before.before.before in
-    let m = r.before in
-    asked m.before.before.before m.in-6.is r.row-in-6.ensures refl)
+    (λ c κs. asked c.before.before.before.before.before.before.before.before c.in-6.is c.row-in-6.ensures refl)
     (λ c κs. search rules)
     (λ c. search rules)
     (λ c. search rules)
     (λ c. search rules)
     (λ c. search rules)
-    (λ c κs. let r = c.before.before.before in
-    let m = r.before in
-    asked m.before.before.before m.in-7.is r.row-in-7.ensures refl)
+    (λ c κs. asked c.before.before.before.before.before.before.before.before c.in-7.is c.row-in-7.ensures refl)
     (λ c κs. search rules)
     (λ c. search rules)
     (λ c. search rules)
     (λ c. search rules)
     (λ c. search rules)
-    (λ c κs. let r = c.before.before.before in
-    let m = r.before in
-    asked m.before.before.before m.in-8.is r.row-in-8.ensures refl)
+    (λ c κs. asked c.before.before.before.before.before.before.before.before c.in-8.is c.row-in-8.ensures refl)
     (λ c κs. search rules)
     (λ c. search rules)
     (λ c. search rules)
     (λ c. search rules)
     (λ c. search rules)
-    (λ c κs. let r = c.before.before.before in
-    let m = r.before in
-    asked m.before.before.before m.in-9.is r.row-in-9.ensures refl)
+    (λ c κs. asked c.before.before.before.before.before.before.before.before c.in-9.is c.row-in-9.ensures refl)
     (λ c κs. search rules)
     (λ c. search rules)
     (λ c. search rules)
     (λ c. search rules)
     (λ c. search rules)
-    (λ c κs. let r = c.before.before.before in
-    let m = r.before in
-    asked m.before.before.before m.in-10.is r.row-in-10.ensures refl)
+    (λ c κs. asked c.before.before.before.before.before.before.before.before c.in-10.is c.row-in-10.ensures refl)
     (λ c κs. search rules)
     (λ c. search rules)
     (λ c. search rules)
     (λ c. search rules)
     (λ c. search rules)
-    (λ c κs. let r = c.before.before.before in
-    let m = r.before in
-    asked m.before.before.before m.in-11.is r.row-in-11.ensures refl)
+    (λ c κs. asked c.before.before.before.before.before.before.before.before c.in-11.is c.row-in-11.ensures refl)
     (λ c κs. search rules)
     (λ c. search rules)
     (λ c. search rules)
     (λ c. search rules)
     (λ c. search rules)
-    (λ c κs. let r = c.before.before.before in
-    let m = r.before in
-    asked m.before.before.before m.in-12.is r.row-in-12.ensures refl)
+    (λ c κs. asked c.before.before.before.before.before.before.before.before c.in-12.is c.row-in-12.ensures refl)
     (λ c κs. search rules)
     (λ c. search rules)
     (λ c. search rules)
     (λ c. search rules)
     (λ c. search rules)
-    (λ c κs. let r = c.before.before.before in
-    let m = r.before in
-    asked m.before.before.before m.in-13.is r.row-in-13.ensures refl)
+    (λ c κs. asked c.before.before.before.before.before.before.before.before c.in-13.is c.row-in-13.ensures refl)
     (λ c κs. search rules)
     (λ c. search rules)
     (λ c. search rules)
     (λ c. search rules)
     (λ c. search rules)
-    (λ c κs. let r = c.before.before.before in
-    let m = r.before in
-    asked m.before.before.before (last m.before) r.row-in_default.ensures refl)
+    (λ c κs.
+    asked c.before.before.before.before.before.before.before.before (last c.before.before.before.before.before) c.row-in_default.ensures refl)
     (λ c. search rules)
-    (λ c. let t = c.before.before in
-    let r = t.before.before.before.before in
-    let m = r.before in
-    left m.before.before.before m.in-0.is r.row.ensures refl t.read_row.ensures)
+    (λ c. left c.before.before.before.before.before.before.before.before.before.before.before c.in-0.is c.row.ensures refl c.read_row.ensures)
     (λ c. search rules)
-    (λ c. let t = c.before.before in
-    let r = t.before.before.before.before in
-    let m = r.before in
-    left m.before.before.before m.in-1.is r.row-in-1.ensures refl t.read_row-in-1.ensures)
+    (λ c. left c.before.before.before.before.before.before.before.before.before.before.before c.in-1.is c.row-in-1.ensures refl c.read_row-in-1.ensures)
     (λ c. search rules)
-    (λ c. let t = c.before.before in
-    let m = t.before.before in
-    parts-left m.before.before.before 2 m.in-2.is t.read_ek500_sounder.ensures)
+    (λ c. parts-left c.before.before.before.before.before.before.before 2 c.in-2.is c.read_ek500_sounder.ensures)
     (λ c. search rules)
-    (λ c. let t = c.before.before in
-    let m = t.before.before in
-    parts-left m.before.before.before 3 m.in-3.is t.read_channel.ensures)
+    (λ c. parts-left c.before.before.before.before.before.before.before 3 c.in-3.is c.read_channel.ensures)
     (λ c. search rules)
-    (λ c. let t = c.before.before in
-    let m = t.before.before in
-    parts-left m.before.before.before 4 m.in-4.is t.read_ek500_channel.ensures)
+    (λ c. parts-left c.before.before.before.before.before.before.before 4 c.in-4.is c.read_ek500_channel.ensures)
     (λ c. search rules)
-    (λ c. let t = c.before.before in
-    let r = t.before.before.before.before in
-    let m = r.before in
-    left m.before.before.before m.in-5.is r.row-in-5.ensures refl t.read_row-in-5.ensures)
+    (λ c. left c.before.before.before.before.before.before.before.before.before.before.before c.in-5.is c.row-in-5.ensures refl c.read_row-in-5.ensures)
     (λ c. search rules)
-    (λ c. let t = c.before.before in
-    let r = t.before.before.before.before in
-    let m = r.before in
-    left m.before.before.before m.in-6.is r.row-in-6.ensures refl t.read_row-in-6.ensures)
+    (λ c. left c.before.before.before.before.before.before.before.before.before.before.before c.in-6.is c.row-in-6.ensures refl c.read_row-in-6.ensures)
     (λ c. search rules)
-    (λ c. let t = c.before.before in
-    let r = t.before.before.before.before in
-    let m = r.before in
-    left m.before.before.before m.in-7.is r.row-in-7.ensures refl t.read_row-in-7.ensures)
+    (λ c. left c.before.before.before.before.before.before.before.before.before.before.before c.in-7.is c.row-in-7.ensures refl c.read_row-in-7.ensures)
     (λ c. search rules)
-    (λ c. let t = c.before.before in
-    let r = t.before.before.before.before in
-    let m = r.before in
-    left m.before.before.before m.in-8.is r.row-in-8.ensures refl t.read_row-in-8.ensures)
+    (λ c. left c.before.before.before.before.before.before.before.before.before.before.before c.in-8.is c.row-in-8.ensures refl c.read_row-in-8.ensures)
     (λ c. search rules)
-    (λ c. let t = c.before.before in
-    let r = t.before.before.before.before in
-    let m = r.before in
-    left m.before.before.before m.in-9.is r.row-in-9.ensures refl t.read_row-in-9.ensures)
+    (λ c. left c.before.before.before.before.before.before.before.before.before.before.before c.in-9.is c.row-in-9.ensures refl c.read_row-in-9.ensures)
     (λ c. search rules)
-    (λ c. let t = c.before.before in
-    let r = t.before.before.before.before in
-    let m = r.before in
-    left m.before.before.before m.in-10.is r.row-in-10.ensures refl t.read_row-in-10.ensures)
+    (λ c. left c.before.before.before.before.before.before.before.before.before.before.before c.in-10.is c.row-in-10.ensures refl c.read_row-in-10.ensures)
     (λ c. search rules)
-    (λ c. let t = c.before.before in
-    let r = t.before.before.before.before in
-    let m = r.before in
-    left m.before.before.before m.in-11.is r.row-in-11.ensures refl t.read_row-in-11.ensures)
+    (λ c. left c.before.before.before.before.before.before.before.before.before.before.before c.in-11.is c.row-in-11.ensures refl c.read_row-in-11.ensures)
     (λ c. search rules)
-    (λ c. let t = c.before.before in
-    let r = t.before.before.before.before in
-    let m = r.before in
-    left m.before.before.before m.in-12.is r.row-in-12.ensures refl t.read_row-in-12.ensures)
+    (λ c. left c.before.before.before.before.before.before.before.before.before.before.before c.in-12.is c.row-in-12.ensures refl c.read_row-in-12.ensures)
     (λ c. search rules)
-    (λ c. let t = c.before.before in
-    let r = t.before.before.before.before in
-    let m = r.before in
-    left m.before.before.before m.in-13.is r.row-in-13.ensures refl t.read_row-in-13.ensures)
+    (λ c. left c.before.before.before.before.before.before.before.before.before.before.before c.in-13.is c.row-in-13.ensures refl c.read_row-in-13.ensures)
     (λ c. search rules)
-    (λ c. let t = c.before.before in
-    let r = t.before.before.before.before in
-    let m = r.before in
-    left m.before.before.before (last m.before) r.row-in_default.ensures refl t.read_row-in_default.ensures))
+    (λ c.
+    left c.before.before.before.before.before.before.before.before.before.before.before (last c.before.before.before.before.before.before.before.before)
+    c.row-in_default.ensures refl c.read_row-in_default.ensures))

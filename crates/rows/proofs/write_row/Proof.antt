@@ -204,11 +204,9 @@ write_row_spec =
     (λ c. search rules)
     (λ c κs. search rules)
     (λ c. search rules)
-    (λ c. search rules)
-    (λ c κs. let h = c.before.before in own_handable (kept (kept_at h.before.before.before.before.before)) (own-less h.before.before.before.before))
+    (λ c κs. let h = c.before.before in own_handable (kept (kept_at h.before.before)) (own-less h.before))
     (λ c. search rules)
     returns-5
-    (λ c. search rules)
-    (λ c κs. let h = c.before.before in behind_handable (kept (kept_at h.before.before.before.before.before)) (behind-full h.before.before.before.before))
+    (λ c κs. let h = c.before.before in behind_handable (kept (kept_at h.before.before)) (behind-full h.before))
     (λ c. search rules)
     returns-6)

@@ -77,7 +77,7 @@ loop-holds c =
     u.put_kept-to.ensures.0
     (record {
       marked = s.marked;
-      output = omega (arith, s.output, (marking k).store4.auto.out, u.put_kept-to.auto.1);
+      output = omega (arith, s.output, (marking k).store4.auto.out, u.put_kept-to.auto.p);
       report = s.report;
     })
 
@@ -105,13 +105,13 @@ same-length-2 : tie.Need-shape_of-out invariant-loop decreases-loop
 same-length-2 c =
     let l = c.before.before.before.before.before.before in
     let k = (first l).before.before in
-    omega (arith, writing-length l.loop-range.invariant, (putting l).put_kept-to.auto.1, (marking k).store4.auto.out)
+    omega (arith, writing-length l.loop-range.invariant, (putting l).put_kept-to.auto.p, (marking k).store4.auto.out)
 
 same-length-3 : tie.Need-shape_of-table invariant-loop decreases-loop
 same-length-3 c =
     let r = c.before.before in
     let l = r.before.before.before.before in
-    omega (arith, table-length l.loop-range.invariant, r.put_row.auto.out)
+    omega (arith, table-length l.loop-range.invariant, r.put_row.auto.table)
 
 returns-2 : tie.Need-returns invariant-loop decreases-loop
 unfolding mark

@@ -33,7 +33,7 @@ returns-2 c =
     (of_same
     (λ (h : PingHeader) (z : ℤ).
     WrittenA narrow_angles a.msb h z a.numbers.now a.alongship.now a.athwartship.now a.out.now
-    k.write_u16_angles.result k.write_u16_angles.new.1.1.1.1.1.1.0)
+    k.write_u16_angles.result k.write_u16_angles.new.out)
     (header_with a.time_fraction a.time_cpu a.software_channel_identifier a.transmitter_mode a.ping_number)
     s.ranges.detected_bottom_range s.ranges.tuple_attribute g.header_of-header.ensures k.write_u16_angles.ensures)
     t.tell_answer.ensures

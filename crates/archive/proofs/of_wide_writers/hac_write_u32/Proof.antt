@@ -33,7 +33,7 @@ returns-2 c =
     (of_same
     (λ (h : PingHeader) (z : ℤ).
     WrittenU wide a.msb h z a.numbers.now a.values.now a.out.now k.write_u32.result
-    k.write_u32.new.1.1.1.1.1.0)
+    k.write_u32.new.out)
     (header_with a.time_fraction a.time_cpu a.software_channel_identifier a.transmitter_mode a.ping_number)
     s.ranges.detected_bottom_range s.ranges.tuple_attribute g.header_of-header.ensures k.write_u32.ensures)
     t.tell_answer.ensures

@@ -55,7 +55,7 @@ room c =
       arith,
       (first c).behind,
       length-append (line (hex (mark false))) (tuple_lines (tuples_of c.before.before.before.before.before.args.form.now)),
-      c.put_line-to.auto.0,
+      c.put_line-to.auto.out,
       c.before.before.before.before.before.requires.1,
     )
 
@@ -95,7 +95,7 @@ loop-again c =
     (turns l.before _ l.length_at.ensures).next _ _ c.put_line-to-in-loop-at.ensures
 
 same_length : tie.Need-shape_of-out invariant-loop decreases-loop
-same_length c = c.loop-at.invariant.long ∙ c.put_line-to.auto.0
+same_length c = c.loop-at.invariant.long ∙ c.put_line-to.auto.out
 
 returns : tie.Need-returns invariant-loop decreases-loop
 returns c =

@@ -11,7 +11,7 @@ use Rattle.hexlines.proofs.single.print.Tie as tie
 
 answers : (c : tie.After-normalise_tuple-answer)
     → Answered (tuple_program (bytes c.args.file.now)) c.normalise_tuple-answer.result
-    c.normalise_tuple-answer.new.1.0
+    c.normalise_tuple-answer.new.out
 answers c =
     let known = c.before.before.before in
     let file = known.args.file.now in

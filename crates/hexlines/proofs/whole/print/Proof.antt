@@ -11,7 +11,7 @@ use Rattle.hexlines.proofs.whole.print.Tie as tie
 
 answers : (c : tie.After-normalise-answer)
     → Answered (file_program (bytes c.args.file.now)) c.normalise-answer.result
-    c.normalise-answer.new.1.0
+    c.normalise-answer.new.out
 answers c =
     let known = c.before.before.before in
     let file = known.args.file.now in

@@ -104,7 +104,7 @@ returns c =
     let head : List ℕ → List ℕ = λ x. sets x a.to (opening_bytes false j 10010
     (turned a.msb ping_row (drop (a.at + 6) a.file.now))) in
     let fill : List ℕ → List ℕ = λ x. sets x (a.to + 24) (bytes_of false 4 count) in
-    let packed-there = p.pack_words-end.last.1.1.0 in
+    let packed-there = p.pack_words-end.new.out in
     let m = length-packed s.requires.0 (bytes k) s.requires.1.0 _ refl in (
       omega (arith, m.0, p.pack_words-end.ensures.0),
       packed-stored s.requires.0 (bytes k) a.out.now _ a.to s.requires.1.0 j count q packed-there p.pack_words-end.ensures.0 refl
