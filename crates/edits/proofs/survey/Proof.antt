@@ -47,7 +47,7 @@ kind-at-requires c κs = let t = c.before in omega (arith, holds_16 _ _ _ (front
 next : (c : tie.After-kept_length-kept invariant-loop decreases-loop)
     → let t = entered (told c) in let l = stands t in let a = l.args in
     Surveying a.msb a.part.now a.flags.now (l.loop-whole.kept + c.kept_length-kept.result)
-    (l.loop-whole.at + (told c).length_at-whole.result) c.flag_type.new.out
+    (l.loop-whole.at + (told c).length_at-whole.result) c.flag_type.new.flags
 next c =
     let k = told c in
     let t = entered k in

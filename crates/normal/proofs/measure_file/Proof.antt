@@ -14,26 +14,21 @@ index-length-requires c κs = omega (arith, c.count_types.ensures, few-flagged c
 
 add-bytes : tie.Need-overflow_add-result
 add-bytes c =
-    let counted = c.before.before in
-    let measured = counted.before.before in
-    let s = measured.before.before.before in
     omega (
       arith,
       c.index_length-more.ensures,
-      counted.count_types.ensures,
-      few-flagged measured.measure_forms-m.new.flags,
-      measured.measure_forms-m.ensures.1.0,
-      accepted-small _ s.requires.0,
+      c.count_types.ensures,
+      few-flagged c.measure_forms-m.new.flags,
+      c.measure_forms-m.ensures.1.0,
+      accepted-small _ c.requires.0,
     )
 
 returns : tie.Need-returns
 returns c =
-    let counted = c.before.before in
-    let measured = counted.before.before in
-    let m = measured.measure_forms-m in (
+    let m = c.measure_forms-m in (
       ap (λ (n : ℕ). record { bytes = m.result.bytes + n; unlisted = m.result.unlisted }) c.index_length-more.ensures
-          ∙ measured-index _ m.result m.new.1.0 counted.count_types.result m.ensures.0 m.ensures.1.1
-          counted.count_types.ensures,
+          ∙ measured-index _ m.result m.new.flags c.count_types.result m.ensures.0 m.ensures.1.1
+          c.count_types.ensures,
       m.ensures.1.1,
     )
 
@@ -41,7 +36,7 @@ pub measure_file_spec : {M : Type 1} → statement M
 measure_file_spec =
     tie.close
     (tie.spec
-    (λ c κs. let s = c.before.before in (s.requires.0, s.requires.1))
+    (λ c κs. (c.requires.0, c.requires.1))
     (λ c κs. search rules)
     index-length-requires
     add-bytes
