@@ -56,10 +56,12 @@ stands-behind o s at p ts h = stands-none p at h (linked_from o s at ts) (ahead 
 
 -- ---- each is the one that stands at its place
 in-ahead : (p : ℕ) {l : Linked} (ls : List Linked) → Ahead p ls → In l ls → p ≤ l.place
+in-ahead p {l = l} [] a x'' = elim x'' [ ]
 in-ahead p (b ∷ ls) a first = a.0
 in-ahead p (b ∷ ls) a (later i) = omega (arith, in-ahead (b.place + 1) ls a.1 i, a.0)
 
 each : (p : ℕ) {l : Linked} (ls : List Linked) → Ahead p ls → In l ls → standing l.place ls ≡ some l
+each p {l = l} [] a x'' = elim x'' [ ]
 each p {l} (b ∷ ls) a first = stands_here b ls b.place refl
 each p {l} (b ∷ ls) a (later i) =
     let h = in-ahead (b.place + 1) ls a.1 i in

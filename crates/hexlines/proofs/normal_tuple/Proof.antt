@@ -14,7 +14,7 @@ use Rattle.hexlines.proofs.normal_tuple.Tie as tie
 
 -- the characters that were read
 abbrev text : tie.After-decode → List ℕ
-text d = let a = d.before.before.before.before.before.args in take a.characters a.text.now
+text d = let a = d.args in take a.characters a.text.now
 
 -- a bad line, or the bytes at the front of the space
 finds-bad : (c : tie.In-Bad) → input_of (text c.before.before) ≡ bad c.in-Bad.number
@@ -31,7 +31,7 @@ fits c = let d = c.before.before in
     omega (arith, (finds-bytes c).0, d.decode.auto.bytes, d.space-file.ensures)
 
 slice-aggregate-decode : tie.Need-slice_bounds-decode-end-2
-slice-aggregate-decode c = sym (length-take-le _ _ c.before.before.before.requires.0)
+slice-aggregate-decode c = sym (length-take-le _ _ c.requires.0)
 
 array-share-prefix-file : tie.Need-slice_bounds-file-end
 array-share-prefix-file c = fits c.before

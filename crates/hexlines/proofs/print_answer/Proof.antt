@@ -25,7 +25,7 @@ print-form-requires : tie.Need-print_form-requires
 print-form-requires c κs =
     let told = c.before in
     let w = within told in
-    (w.form, omega (arith, most _ _ w.form (omega (arith, counted told, w.small)), told.before.before.before.before.requires.0))
+    (w.form, omega (arith, most _ _ w.form (omega (arith, counted told, w.small)), told.requires.0))
 
 returns : tie.Need-returns-in-Refused
 returns c =
@@ -37,7 +37,7 @@ returns-2 : tie.Need-returns-in-Accepted
 returns-2 c =
     let printed = c.before.before in
     let told = printed.before.before in
-    put_same (ap (λ (a : Answer). printed_by a told.before.before.before.before.args.form.now) (sym told.answer-in-Accepted-1.given.1))
+    put_same (ap (λ (a : Answer). printed_by a told.args.form.now) (sym told.answer-in-Accepted-1.given.1))
     printed.print_form.ensures
 
 pub print_answer_spec : {M : Type 1} → statement M

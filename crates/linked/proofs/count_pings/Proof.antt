@@ -52,10 +52,10 @@ loop-again c =
     let g = l.loop-at.invariant in
     let h = l.loop-at-test.true in
     ⊎_elim
-    (λ w. rw w.1
-    (counting-ping g h _ _ c.length_at-at.ensures p.kind_at.ensures (sym p.is_ping.ensures ∙ w.0.true)))
-    (λ w. rw w.1
-    (counting-other g h _ _ c.length_at-at.ensures p.kind_at.ensures (sym p.is_ping.ensures ∙ w.0.false)))
+    (λ w. rw w.n-is
+    (counting-ping g h _ _ c.length_at-at.ensures p.kind_at.ensures (sym p.is_ping.ensures ∙ w.if-is_ping.true)))
+    (λ w. rw w.n-is
+    (counting-other g h _ _ c.length_at-at.ensures p.kind_at.ensures (sym p.is_ping.ensures ∙ w.if-is_ping.false)))
     c.if-is_ping.branch-raw
 
 pub count_pings_spec : {M : Type 1} → statement M

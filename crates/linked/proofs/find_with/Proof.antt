@@ -100,7 +100,7 @@ loop-less c =
 -- the tuple is no ping at the place
 other : (c : tie.Joined-at-place invariant-loop decreases-loop)
     → (inside c.before).loop-at.at ≡ (start (inside c.before)).args.place → is_ping c.kind_at-code.result ≡ false
-other c e = ⊎_elim (λ w. sym w.1.ensures ∙ w.2.false) (λ w. absurd (w.false e)) c.if-at-place.branch-raw
+other c e = ⊎_elim (λ w. sym w.is_ping.ensures ∙ w.if-is_ping.false) (λ w. absurd (w.if-at-place.false e)) c.if-at-place.branch-raw
 
 loop-again : tie.Need-loop-at-preserved invariant-loop decreases-loop
 loop-again c =

@@ -26,25 +26,23 @@ abbrev put-decimal-below : ℕ → In 1 put-decimal-kinds.ps
 put-decimal-below t = and 1 put-decimal-kinds.ps (falls 1 put-decimal-kinds.ps ◌<◌ μ-put-decimal t) put-decimal.Pre
 
 -- the digits of the tenth leave room for one more
-short : (t : ℕ) (c : put-decimal-lts.After-put-decimal (put-decimal-below t, put-decimal.Post) (put-decimal-at t) put-decimal.Post) →
-    length (decimal (c.before.before.before.before.args.n / 10)) < 20
-short t c = let start = c.before.before.before.before in
-    tenth_short start.args.n start.ranges.n.fits c.before.before.if1.false
+short : (t : ℕ) (c : put-decimal-lts.After-put_decimal-to (put-decimal-below t, put-decimal.Post) (put-decimal-at t) put-decimal.Post) →
+    length (decimal (c.args.n / 10)) < 20
+short t c = tenth_short c.args.n c.ranges.n.fits c.if-n-lt10.false
 
-returns : (t : ℕ) → put-decimal-lts.Need-returns (put-decimal-below t, put-decimal.Post) (put-decimal-at t) put-decimal.Post
+returns : (t : ℕ) → put-decimal-lts.Need-returns-then-n-lt10 (put-decimal-below t, put-decimal.Post) (put-decimal-at t) put-decimal.Post
 returns t c =
-    let a = c.before.before.args in
-    put_one a.out.now (decimal a.n) a.at (48 + a.n) (omega arith) (decimal-last a.n c.if1.true)
+    let a = c.args in
+    put_one a.out.now (decimal a.n) a.at (48 + a.n) (omega arith) (decimal-last a.n c.if-n-lt10.true)
 
-returns-2 : (t : ℕ) → put-decimal-lts.Need-returns-2 (put-decimal-below t, put-decimal.Post) (put-decimal-at t) put-decimal.Post
+returns-2 : (t : ℕ) → put-decimal-lts.Need-returns (put-decimal-below t, put-decimal.Post) (put-decimal-at t) put-decimal.Post
 returns-2 t c =
     let put = c.before.before in
-    let start = put.before.before.before.before in
-    put_same (sym (decimal-more start.args.n start.ranges.n.fits put.before.before.if1.false))
-    (put_then put.put-decimal.ensures (put_one _ _ _ _ (omega (arith, short t put)) refl))
+    put_same (sym (decimal-more c.args.n c.ranges.n.fits c.if-n-lt10.false))
+    (put_then c.put_decimal-to.ensures (put_one _ _ _ _ (omega (arith, short t put)) refl))
 
-pub +put-decimal-spec : {M : Type 1} → statement M
-+put-decimal-spec = close μ-put-decimal λ t. put-decimal-lts.spec (
+pub +put_decimal_spec : {M : Type 1} → statement M
++put_decimal_spec = close μ-put-decimal λ t. put-decimal-lts.spec (
   put-decimal-below t,
   put-decimal.Post,
 )
@@ -61,5 +59,5 @@ pub +put-decimal-spec : {M : Type 1} → statement M
     (λ c. search rules)
     (λ c. omega (arith, short t c.before.before))
     (λ c. omega (arith, short t c.before.before))
-    (λ c. simp length-set c.before.before.put-decimal.auto.0)
+    (λ c. simp length-set c.put_decimal-to.auto.out)
     (returns-2 t)

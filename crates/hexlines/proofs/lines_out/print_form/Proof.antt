@@ -28,41 +28,41 @@ decreases-loop out₀ form to₀ at₀ out to at = length form - at
 
 slice-aggregate-put-line : tie.Need-slice_bounds-put_line-end invariant-loop decreases-loop
 slice-aggregate-put-line c =
-    let start = c.before.before.before.before in
+    let start = c.before.before.before in
     sym (length-take-le 4 start.args.form.now
     (mark-within start.args.form.now (tuples_of start.args.form.now) start.requires.0))
 
 put-line-requires : tie.Need-put_line-to-requires invariant-loop decreases-loop
 put-line-requires c κs =
-    omega (arith, slice-aggregate-put-line c, length-file_lines (tuples_of c.before.before.before.before.args.form.now))
+    omega (arith, slice-aggregate-put-line c, length-file_lines (tuples_of c.args.form.now))
 
 loop-holds : tie.Need-loop-at-init invariant-loop decreases-loop
-loop-holds c = let put = c.before.before in printing_begin _ _ _ _ put.before.before.before.before.before.requires.0
+loop-holds c = let put = c.before.before in printing_begin _ _ _ _ put.requires.0
 
 -- the mark's line was put first
 first : (c : tie.After-put_line-to invariant-loop decreases-loop)
-    → Put c.before.before.before.before.before.args.out-1.now 0 (line (hex (mark false))) c.put_line-to.result
+    → Put c.args.out.now 0 (line (hex (mark false))) c.put_line-to.result
     c.put_line-to.new.out
-first c = let start = c.before.before.before.before.before in
+first c = let start = c.before.before.before.before in
     put_same (ap (λ (b : List ℕ). line (hex b)) (marked start.args.form.now _ start.requires.0)) c.put_line-to.ensures
 
 -- the tuples' lines have room behind it
 room : (c : tie.After-put_line-to invariant-loop decreases-loop)
-    → c.put_line-to.result + length (tuple_lines (tuples_of c.before.before.before.before.before.args.form.now))
+    → c.put_line-to.result + length (tuple_lines (tuples_of c.args.form.now))
     ≤ length c.put_line-to.new.out
 room c =
     omega (
       arith,
       (first c).behind,
-      length-append (line (hex (mark false))) (tuple_lines (tuples_of c.before.before.before.before.before.args.form.now)),
+      length-append (line (hex (mark false))) (tuple_lines (tuples_of c.args.form.now)),
       c.put_line-to.auto.out,
-      c.before.before.before.before.before.requires.1,
+      c.requires.1,
     )
 
 -- a turn, by the length of the tuple
 turns : (c : tie.In-loop-at invariant-loop decreases-loop) →
     let put = c.before.before.before.before in
-    let form = put.before.before.before.before.before.args.form.now in
+    let form = put.args.form.now in
     let l = c.loop-at in
     (n : ℕ) → n ≡ len_at false (drop l.at form)
     → Turn form put.put_line-to.new.out put.put_line-to.result (tuples_of form) l.out l.to l.at n
