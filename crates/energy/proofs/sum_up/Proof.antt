@@ -121,16 +121,16 @@ loop-less c = omega (arith, fits c.before.before, (looping c.before).width_of-wi
 loop-again : tie.Need-loop-at-preserved invariant-loop decreases-loop
 loop-again c =
     ⊎_elim
-    (λ w. rw (w.6, w.7)
+    (λ w. rw (w.sum-is, w.nth-is)
     (added (record {
       before = record {
         before = record {
-          before = record { before = record { before = record { before = c.before; if-sampled = w.0 }; struct_told = w.1 }; if-value-gt0 = w.2 };
-          negated_of = w.3;
+          before = record { before = record { before = record { before = c.before; if-sampled = w.if-sampled }; struct_told = w.struct_told-1 }; if-value-gt0 = w.if-value-gt0 };
+          negated_of = w.negated_of;
         };
-        if-depth-gt-QUIETEST = w.4;
+        if-depth-gt-QUIETEST = w.if-depth-gt-QUIETEST;
       };
-      linear_below-sum = w.5;
+      linear_below-sum = w.linear_below-sum;
     })))
     (λ w. rw (w.1, w.2) (turn-run (turn c.before) w.0.false))
     c.if-sampled.branch-raw

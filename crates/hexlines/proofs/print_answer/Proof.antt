@@ -37,7 +37,7 @@ returns-2 : tie.Need-returns-in-Accepted
 returns-2 c =
     let printed = c.before.before in
     let told = printed.before.before in
-    put_same (ap (λ (a : Answer). printed_by a told.args.form.now) (sym told.answer-in-Accepted-1.given.1))
+    put_same (ap (λ (a : Answer). printed_by a told.args.form.now) (sym c.in-Accepted.is))
     printed.print_form.ensures
 
 pub print_answer_spec : {M : Type 1} → statement M

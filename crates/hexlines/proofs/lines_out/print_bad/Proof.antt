@@ -23,10 +23,8 @@ pub print_bad_spec : {M : Type 1} → statement M
 print_bad_spec =
     tie.close
     (tie.spec
-    (λ c. search rules)
     (λ c κs. search rules)
     (λ c κs. search rules)
-    (λ c. search rules)
     put-requires-2
     (λ c. search rules)
     returns)

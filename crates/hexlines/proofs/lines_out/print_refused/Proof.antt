@@ -40,13 +40,10 @@ pub print_refused_spec : {M : Type 1} → statement M
 print_refused_spec =
     tie.close
     (tie.spec
-    (λ c. search rules)
     (λ c κs. search rules)
     (λ c κs. search rules)
-    (λ c. search rules)
     put-requires-2
     put-decimal-requires-2
-    (λ c. search rules)
     put-requires-3
     (λ c. search rules)
     returns)
