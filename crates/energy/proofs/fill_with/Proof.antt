@@ -181,16 +181,16 @@ turned : (c : tie.Joined-is_ping invariant-loop decreases-loop) → let k = c.be
 turned c m rows x =
     ⊎_elim
     (λ w.
-    let p : tie.Then-is_ping invariant-loop decreases-loop = record { before = c.before; if-is_ping = w.0 } in
+    let p : tie.Then-is_ping invariant-loop decreases-loop = record { before = c.before; if-is_ping = w.if-is_ping } in
     let q : tie.After-quantity_at-arg-then-is_ping-1 invariant-loop decreases-loop =
-    record { before = record { before = p; quantity_at-arg-1 = w.1 }; quantity_at-arg-then-is_ping-1 = w.2 } in
+    record { before = record { before = p; quantity_at-arg-1 = w.quantity_at-arg-1 }; quantity_at-arg-then-is_ping-1 = w.quantity_at-arg-then-is_ping-1 } in
     let r : tie.After-quantity_at-arg-then-is_ping-3-1 invariant-loop decreases-loop =
-    record { before = record { before = q; quantity_at-arg-then-is_ping-2-1 = w.3 }; quantity_at-arg-then-is_ping-3-1 = w.4 } in
-    let s : tie.After-echo_of-echo invariant-loop decreases-loop = record { before = record { before = r; quantity_at-quantity = w.5 }; echo_of-echo = w.6 } in
-    told (record { before = record { before = s; units_in = w.7 }; Code-in = w.8 }) m rows x _ _ w.12
-    (record { places = w.9; energies = w.10; codes = w.11 }))
-    (λ w. passed (record { before = c.before; if-is_ping = w.0 }) m rows x _ _ w.4
-    (record { places = w.1; energies = w.2; codes = w.3 }))
+    record { before = record { before = q; quantity_at-arg-then-is_ping-2-1 = w.quantity_at-arg-then-is_ping-2-1 }; quantity_at-arg-then-is_ping-3-1 = w.quantity_at-arg-then-is_ping-3-1 } in
+    let s : tie.After-echo_of-echo invariant-loop decreases-loop = record { before = record { before = r; quantity_at-quantity = w.quantity_at-quantity }; echo_of-echo = w.echo_of-echo } in
+    told (record { before = record { before = s; units_in = w.units_in }; code_in = w.code_in }) m rows x _ _ w.row-is
+    (record { places = w.places-is; energies = w.energies-is; codes = w.codes-is }))
+    (λ w. passed (record { before = c.before; if-is_ping = w.if-is_ping }) m rows x _ _ w.row-is
+    (record { places = w.places-is; energies = w.energies-is; codes = w.codes-is }))
     c.if-is_ping.branch-raw
 
 pub fill_with_spec : {M : Type 1} → statement M

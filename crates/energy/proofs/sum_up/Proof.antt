@@ -125,14 +125,14 @@ loop-again c =
     (added (record {
       before = record {
         before = record {
-          before = record { before = record { before = record { before = c.before; if-sampled = w.if-sampled }; struct_told = w.struct_told-1 }; if-value-gt0 = w.if-value-gt0 };
+          before = record { before = record { before = record { before = c.before; if-sampled = w.if-sampled }; struct_told-1 = w.struct_told-1 }; if-value-gt0 = w.if-value-gt0 };
           negated_of = w.negated_of;
         };
         if-depth-gt-QUIETEST = w.if-depth-gt-QUIETEST;
       };
       linear_below-sum = w.linear_below-sum;
     })))
-    (λ w. rw (w.1, w.2) (turn-run (turn c.before) w.0.false))
+    (λ w. rw (w.sum-is, w.nth-is) (turn-run (turn c.before) w.if-sampled.false))
     c.if-sampled.branch-raw
 
 pub sum_up_spec : {M : Type 1} → statement M

@@ -21,8 +21,8 @@ loop-holds : tie.Need-loop-i-init invariant-loop decreases-loop
 loop-holds c = (omega arith, refl, refl)
 
 -- as many of either as the page has
-long : (s : tie.Start invariant-loop decreases-loop) → length (shown_all s.args.t1 s.args.t2) ≡ 64
-long s = length-shown s.args.t1 s.args.t2 (search rules) (search rules)
+long : (s : tie.Start invariant-loop decreases-loop) → length (shown_all s.args.cases s.args.doubles) ≡ 64
+long s = length-shown s.args.cases s.args.doubles (search rules) (search rules)
 
 loop-again : tie.Need-loop-i-preserved invariant-loop decreases-loop
 loop-again c =
@@ -30,12 +30,12 @@ loop-again c =
     let s = head.before in
     let l = head.loop-i in
     let h = c.loop-i-test.true in
-    let a : length s.args.t1 ≡ 64 = search rules in
-    let b : length s.args.t2 ≡ 64 = search rules in (
+    let a : length s.args.cases ≡ 64 = search rules in
+    let b : length s.args.doubles ≡ 64 = search rules in (
       omega arith,
       simp length-set l.invariant.1,
       filled_next _ (shown Silent) l.page l.i _ (omega arith) (omega (arith, long s))
-          (c.show.ensures ∙ sym (shown-at _ s.args.t1 s.args.t2 l.i (omega arith) (omega arith))) l.invariant.2,
+          (c.show.ensures ∙ sym (shown-at _ s.args.cases s.args.doubles l.i (omega arith) (omega arith))) l.invariant.2,
     )
 
 returns : tie.Need-returns invariant-loop decreases-loop
