@@ -34,6 +34,7 @@ saying-broken g (here e) = here e
 saying-broken g (later e r) = later e (saying-broken g r)
 
 pub broken-saying : {A B : Type 0} (g : A → B) (rs : List (Rule A)) {y : B} → Broken (saying g rs) y → (x : A) × Broken rs x × (g x ≡ y)
+broken-saying {A = A} {B = B} g [] {y = y} x' = elim x' [ ]
 broken-saying g ((t ⇒ a) ∷ rs) (here e) = (a, here e, refl)
 broken-saying g ((t ⇒ a) ∷ rs) (later e r) = let i = broken-saying g rs r in (i.0, later e i.1, i.2)
 
@@ -47,6 +48,7 @@ broken_append ((t ⇒ a) ∷ xs) ys (here e) = inl (here e)
 broken_append ((t ⇒ a) ∷ xs) ys (later e r) = ⊎_elim (λ h. inl (later e h)) (λ h. inr ((e, h.0), h.1)) (broken_append xs ys r)
 
 pub broken-left : {A : Type 0} (xs ys : List (Rule A)) {x : A} → Broken xs x → Broken (xs ++ ys) x
+broken-left {A = A} [] ys x3 = elim x3 [ ]
 broken-left ((t ⇒ a) ∷ xs) ys (here e) = here e
 broken-left ((t ⇒ a) ∷ xs) ys (later e r) = later e (broken-left xs ys r)
 
