@@ -120,6 +120,7 @@ still m e p = omega (arith, none-put (parts_of m) e 4 p)
 module _ (to : ℕ → ℕ) where
   pub stands_on : (ps : List Part) {at d p : ℕ} {t : Tup} → Follows to ps at d → PlacedAt at (own_of ps) p t
       → PlacedAt (at + d) (all_of ps) (to p) t
+  stands_on [] {at = at} {d = d} {p = p} {t = t} h s = elim s [ ]
   stands_on (own u ∷ ps) {at} {d} h here = subst (λ (q : ℕ). PlacedAt (at + d) (u ∷ all_of ps) q u) (sym (at_own h)) here
   stands_on (own u ∷ ps) {at} {d} {p} {t} h (later s) =
       let e : at + length_of u + d ≡ at + d + length_of u = omega arith in

@@ -36,6 +36,7 @@ module _ (to : ℕ → ℕ) where
   -- a tuple of all is one of the file's own at its new place, or is put in
   pub which : (ps : List Part) {at d e q : ℕ} {t : Tup} → Follows to ps at d → e ≡ at + d → PlacedAt e (all_of ps) q t
       → ((p : ℕ) × (q ≡ to p) × PlacedAt at (own_of ps) p t) ⊎ OneOf t (put_in ps)
+  which [] {at = at} {d = d} {e = e} {q = q} {t = t} h z x3 = elim x3 [ ]
   which (own u ∷ ps) {at} h z here = inl (at, z ∙ sym (at_own h), here)
   which (own u ∷ ps) {at} {d} {e} {q} {t} h z (later s) = on (which ps (past-own h) (omega (arith, z)) s)
     where

@@ -38,6 +38,7 @@ sound-there o a (later s) = sound-there o a.1 s
 -- its bytes stand there, and others behind it
 left_there : (o : Bool) (f : List ℕ) {at p : ℕ} {t : Tup} (ts : List Tup) → drop at f ≡ frames o ts → PlacedAt at ts p t
     → (r : List ℕ) × (drop p f ≡ frame o t ++ r)
+left_there o f {at = at} {p = p} {t = t} mathlib.Core.List.[] e x'' = elim x'' [ ]
 left_there o f (t ∷ ts) e here = (frames o ts, e)
 left_there o f {at} (u ∷ ts) e (later s) =
     left_there o f ts
@@ -49,6 +50,7 @@ left_there o f {at} (u ∷ ts) e (later s) =
 -- a walk comes to it
 walk-there : (f : List ℕ) {at p e : ℕ} {t : Tup} {ts : List Tup} → Walked f (step_forward f) at ts e → PlacedAt at ts p t
     → step_forward f p ≡ Tuple p (length_of t) t.kind (record { at = p + length_of t })
+walk-there f {p = p} {t = t} (Rattle.demands.specs.Walks.ended {at = at} _) x6 = elim x6 [ ]
 walk-there f {at} (stepped {w = w} {t = t} z h v) here =
     let a = forward-stands f z in
     let next : w.at ≡ at + length_of t = a.next ∙ ap (λ (n : ℕ). at + n) (sym h.length) in

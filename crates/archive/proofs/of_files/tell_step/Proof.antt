@@ -14,11 +14,11 @@ returns c =
     let t = c.before.before in
     let e = t.accept.ensures in
     let s = t.before.before.before.before in
-    let x = s.in-Tuple.step.given.0 in
+    let x = s.in-Tuple in
     let l = s.args.answer.now in
     rw s.in-Tuple.is (
       t.tell_found.ensures.0 ∙ ap (λ (y : Answer). (numbers y).code) e,
-      t.tell_found.ensures.1 ∙ ap (λ (y : Answer). sets l 0 (five y ++ (x.0 ∷ x.1.0 ∷ x.1.1.0 ∷ x.1.1.1.0.at ∷ []))) e,
+      t.tell_found.ensures.1 ∙ ap (λ (y : Answer). sets l 0 (five y ++ (x.place ∷ x.length ∷ x.kind ∷ x.next.at ∷ []))) e,
     )
 
 returns-2 : tie.Need-returns-in-End

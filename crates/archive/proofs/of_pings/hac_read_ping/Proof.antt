@@ -27,14 +27,14 @@ returns-2 c =
     let g = k in
     let q = g.before in
     let a = q.args in
-    let x = g.in-Read.header.given.0 in
+    let x = g.in-Read in
     alone-told 11 (told ping_numbers read_fields) (PingAt a.file.now a.place) a.answer.now q.read_ping.result _ _ _
-    q.if-answer-lt-PING.false (omega (arith, two-told x.1.1.1.1.0)) q.read_ping.ensures
+    q.if-answer-lt-PING.false (omega (arith, two-told x.length)) q.read_ping.ensures
     (ap (told ping_numbers read_fields) g.in-Read.is
     ∙ (λ i.
     told ping_numbers read_fields
-    (Read x.0 (sym (to_z-of_z {w = w32} {z = x.1.0} (record { sfits = k.in-Read.known_told-1-own.given.1.0.1 })) i) x.1.1.0
-    x.1.1.1.0 x.1.1.1.1.0)))
+    (Read x.header (sym (to_z-of_z {w = w32} {z = x.attribute} (record { sfits = k.in-Read.known_told-1-own.given.1.0.1 })) i) x.kind
+    x.values x.length)))
     t.tell_ping.ensures.0 t.tell_ping.ensures.1
 
 returns-3 : tie.Need-returns-in-Refused

@@ -39,7 +39,7 @@ returns-2 c =
     let e = making q in
     let a = (start e).args in
     told_as 2 telling (promise a.file.now a.out.now a.table.now) a.answer.now (a.out.now, a.table.now)
-    q.salvage.result _ _ _ _ e.if-answer-lt-SALVAGE.false (omega arith) q.salvage.ensures (ap telling g.in-Saved.ranges.given.1)
+    q.salvage.result _ _ _ _ e.if-answer-lt-SALVAGE.false (omega arith) q.salvage.ensures (ap telling g.in-Saved.is)
     t.tell_found.ensures.0 t.tell_found.ensures.1
 
 returns-3 : tie.Need-returns-in-Refused
