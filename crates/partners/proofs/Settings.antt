@@ -90,9 +90,9 @@ module _ (to : ℕ → ℕ) where
     unfolding rows_after
     rows-moved s done = refl
     rows-moved {b} {c} s (kept {p} {r} {xs} {ys} t) =
-        ap₂ ◌++◌ (here-moved b c s p r) (rows-moved (shifted_kept p r s) t)
+        ap₂ ◌++◌ (here-moved b c s p r) (rows-moved {b = b ++ (said p r ∷ [])} {c = c ++ (said (to p) r ∷ [])} (shifted_kept p r s) t)
         ∙ sym (map-append (row_moved to) (rows_here b p r) (rows_after (b ++ (said p r ∷ [])) xs))
-    rows-moved {b} {c} s (other {q} {xs} {ys} t) = rows-moved (shifted_other q s) t
+    rows-moved {b} {c} s (other {q} {xs} {ys} t) = rows-moved {b = b} {c = c ++ (said q Other ∷ [])} (shifted_other q s) t
 
 -- ---- of two files
 module _ {f g : List ℕ} (m : Mixed f g) where

@@ -38,10 +38,10 @@ sound-there o a (later s) = sound-there o a.1 s
 -- its bytes stand there, and others behind it
 left_there : (o : Bool) (f : List ℕ) {at p : ℕ} {t : Tup} (ts : List Tup) → drop at f ≡ frames o ts → PlacedAt at ts p t
     → (r : List ℕ) × (drop p f ≡ frame o t ++ r)
-left_there o f {at = at} {p = p} {t = t} mathlib.Core.List.[] e x'' = elim x'' [ ]
+left_there o f [] e x'' = elim x'' [ ]
 left_there o f (t ∷ ts) e here = (frames o ts, e)
 left_there o f {at} (u ∷ ts) e (later s) =
-    left_there o f ts
+    left_there o f {at = at + length_of u} ts
     (sym (drop-drop (length_of u) at f)
     ∙ ap (drop (length_of u)) e
     ∙ drop_at (frame o u) (frames o ts) (length_of u) (length-frame o u))
