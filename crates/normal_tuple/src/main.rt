@@ -2,9 +2,12 @@
 // normal tuple, or why there is none.
 #![tactic(auto)]
 
-ghost use Rattle.std.specs.Prelude.{◌≡◌, length};
+ghost use Rattle.std.specs.Prelude.{◌≡◌, OnOk, IfSome, length};
+ghost use Rattle.std.specs.Io.KnownBytes.{Appends};
+ghost use Rattle.hexlines.specs.Programs.{normal_tuple};
 
-use libc::{STDERR_FILENO, STDIN_FILENO, STDOUT_FILENO};
+use std::io;
+use std::io::{Read, Write};
 
 // Space for the text, and for what is printed in its place. As a function, it keeps its zeros out of the proofs of those who call it.
 fn space() -> [u8; hexlines::ENOUGH]
@@ -13,23 +16,17 @@ fn space() -> [u8; hexlines::ENOUGH]
     [0; hexlines::ENOUGH]
 }
 
-// Whether the input is at its end. Where less was read than there is space for, this tells that from a read that failed.
-fn is_ended() -> bool {
-    let mut more = [0u8; 1];
-    libc::read(STDIN_FILENO, &mut more) == 0
+// Prints what the program prints of the whole input.
+fn run<R: Read, W: Write>(input: &mut R, output: &mut W) -> io::Result<()>
+    ensures { OnOk result (IfSome (R.remaining input.old)
+        (λ text. Appends (W.contents output.old) (W.contents output.new) (normal_tuple text))) }
+{
+    let mut text = space();
+    let n = streams::read_full(input, &mut text)?;
+    let printed = hexlines::normal_tuple(&mut text, n);
+    output.write_all(&text[..printed])
 }
 
-fn main() {
-    let mut text = space();
-    let n = io::read_full(STDIN_FILENO, &mut text);
-    if n < hexlines::ENOUGH {
-        if !is_ended() {
-            io::write_all(STDERR_FILENO, b"normal_tuple: a read failed\n");
-            return;
-        }
-    }
-    let printed = hexlines::normal_tuple(&mut text, n);
-    if !io::write_all(STDOUT_FILENO, &text[..printed]) {
-        io::write_all(STDERR_FILENO, b"normal_tuple: a write failed\n");
-    }
+fn main(rt: HostRuntime) -> io::Result<()> {
+    run(&mut rt.stdin(), &mut rt.stdout())
 }
