@@ -1,4 +1,4 @@
-/* Calls the archive's exports for the comparison: for x86-64 with the toolchain's C library, or for this machine with its own.
+/* Calls the archive's exports for the comparison, compiled by the toolchain or by this machine's `cc`.
    Reads batches from standard input and answers each on standard output, until the input ends. A batch: how many bytes are
    given, how many are lent and how many numbers tell the calls; then all these. A call: the export's number in calls.list, how
    many arguments, where in the bytes lent the code that it hands back goes, then the arguments. An argument: its kind, then the
@@ -7,7 +7,7 @@
    With `stack` the stack below each call is painted, and where it was altered is looked for; behind the last batch's answer come
    two numbers for each export: the most bytes that it took where it was accepted, and where it was refused.
    calls.list has the exports, CALL(name) each; tests/calls makes it from include/hac.h. What is needed of the C library is
-   declared here, since no C header for x86-64 need be there. */
+   declared here, since the toolchain has no C header. */
 
 typedef unsigned long word;
 
