@@ -16,7 +16,8 @@ printed-is : (out text left : List ℕ) (k : ℕ) → Prints out text k left →
 printed-is out text left k p =
     let same_length = ap length p.memory ∙ length-sets text 0 out in
     let fits : 0 + length out ≤ length text = omega (arith, p.answer, p.within, same_length) in
-    subst (λ n. take n left ≡ out) (sym p.answer) (ap (take (length out)) (p.memory ∙ sets-eq out text 0 fits) ∙ take-append_seam out (drop (0 + length out) text))
+    let front = ap (take (length out)) (p.memory ∙ sets-eq out text 0 fits) ∙ take-append_seam out (drop (0 + length out) text) in
+    subst (λ n. take n left ≡ out) (sym p.answer) front
 
 written : (known old new : Option (List ℕ)) (n k : ℕ) (space text left : List ℕ) → enough ≡ length space
     → IfSome known (λ whole. take n text ≡ take (length space) whole) → Prints (normal_file (take n text)) text k left
@@ -28,4 +29,6 @@ written (Some whole) old new n k space text left size read printed put =
     subst (Appends old new) same put
 
 pub returns : goal.returns
-returns g c = on_ok_weaker _ (written _ _ _ _ _ _ _ _ c.space-text.ensures c.in_ok-n.ensures.bytes c.normal_file-printed.ensures) c.write_all.ensures.bytes
+returns g c =
+    let said = written _ _ _ _ _ _ _ _ c.space-text.ensures c.in_ok-n.ensures.bytes c.normal_file-printed.ensures in
+    on_ok_weaker _ said c.write_all.ensures.bytes
