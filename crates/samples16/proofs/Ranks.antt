@@ -10,7 +10,7 @@ use mir.Val.{bool_byte}
 use borrow.Author.Tests.{eq-eqb, ne_eqb, leb-true, leb-false, le-leb, lt-leb, lt-ltb, le-ltb, ltb-true, ltb-false, eqb-true, eqb-false}
 use Rattle.order.specs.Order.{low, num_of}
 use Rattle.order.proofs.Stores.{run, window}
-use Rattle.layout.specs.Families.{Family, narrow_angles, sample_bytes}
+use Rattle.layout.specs.Families.{Family, narrow, narrow_angles, sample_bytes}
 use Rattle.samples.specs.Words.{sample_of, samples, all_samples}
 use Rattle.samples.specs.Judging.{first_drop, dropping}
 use Rattle.samples.proofs.Words.{rest_of, samples-many}
@@ -142,3 +142,13 @@ drop-found o d r e =
     by_bool (dropping s)
     (λ t. let g = ltb-true (first_drop 0 s) (length s) t in le-leb 6 (length d - r) (omega (arith, many, e)) ∙ sym t)
     (λ t. let g = ltb-false (first_drop 0 s) (length s) t in lt-leb 6 (length d - r) (omega (arith, many, e)) ∙ sym t)
+
+-- and of samples of four bytes
+pub drop-found_4 : (o : Bool) (d : List ℕ) (r : ℕ) → r ≡ 4 * first_drop 0 (all_samples narrow o d)
+    → leb 4 (length d - r) ≡ dropping (all_samples narrow o d)
+drop-found_4 o d r e =
+    let s = all_samples narrow o d in
+    let many = samples-many narrow o d in
+    by_bool (dropping s)
+    (λ t. let g = ltb-true (first_drop 0 s) (length s) t in le-leb 4 (length d - r) (omega (arith, many, e)) ∙ sym t)
+    (λ t. let g = ltb-false (first_drop 0 s) (length s) t in lt-leb 4 (length d - r) (omega (arith, many, e)) ∙ sym t)

@@ -31,6 +31,9 @@ pub const TRIPLE: usize = 6;
 // The bytes of a block of words that are looked at together.
 const BLOCK: usize = 32_768;
 
+// The bytes of the longest part that samples of two bytes fill in a tuple.
+const LONGEST: usize = 262_112;
+
 // How many values a byte has, and how many a number of two bytes.
 const BYTES: u32 = 256;
 
@@ -100,8 +103,8 @@ fn rank(part: &[u8], at: usize, msb: bool) -> u32
     front % NUMBERS
 }
 
-// Whether a number of a U-16 ping's samples isn't above the one before it.
-fn drops_pairs(part: &[u8], msb: bool) -> bool
+// Whether a number of a U-16 ping's samples isn't above the one before it, by ranks: in a part no longer than a tuple's.
+fn drops_ranked_pairs(part: &[u8], msb: bool) -> bool
     requires { length part.now ≤ 262112 }
     ensures { result ≡ dropping (all_samples narrow msb part.now) }
 {
@@ -123,7 +126,7 @@ fn drops_pairs(part: &[u8], msb: bool) -> bool
 
 // The same of a U-16-angles ping's: four samples a turn, which was measured faster than one where they stand six bytes apart, and those
 // behind the last four one by one.
-fn drops_triples(part: &[u8], msb: bool) -> bool
+fn drops_ranked_triples(part: &[u8], msb: bool) -> bool
     requires { length part.now ≤ 262112 }
     ensures { result ≡ dropping (all_samples narrow_angles msb part.now) }
 {
@@ -152,9 +155,28 @@ fn drops_triples(part: &[u8], msb: bool) -> bool
     TRIPLE <= rest.len() - find_drop(rest, msb, true)
 }
 
+// Whether a number of a U-16 ping's samples isn't above the one before it. No tuple has a part longer than the ranks are counted in.
+fn drops_pairs(part: &[u8], msb: bool) -> bool
+    ensures { result ≡ dropping (all_samples narrow msb part.now) }
+{
+    if LONGEST < part.len() {
+        return PAIR <= part.len() - find_drop(part, msb, false);
+    }
+    drops_ranked_pairs(part, msb)
+}
+
+// The same of a U-16-angles ping's.
+fn drops_triples(part: &[u8], msb: bool) -> bool
+    ensures { result ≡ dropping (all_samples narrow_angles msb part.now) }
+{
+    if LONGEST < part.len() {
+        return TRIPLE <= part.len() - find_drop(part, msb, true);
+    }
+    drops_ranked_triples(part, msb)
+}
+
 // Whether a sample number isn't above the one before it: of each kind by a loop of its own, whose step the compiler knows.
 fn drops(part: &[u8], msb: bool, angles: bool) -> bool
-    requires { length part.now ≤ 262112 }
     ensures { result ≡ dropping (all_samples (plain_by angles) msb part.now) }
 {
     if angles {

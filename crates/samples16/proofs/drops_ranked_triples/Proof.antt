@@ -1,4 +1,4 @@
--- `samples16::drops_triples` meets its contract: whether a number has dropped, or drops from here on, is whether one drops at all.
+-- `samples16::drops_ranked_triples` meets its contract: whether a number has dropped, or drops from here on, is whether one drops at all.
 -- Assumes nothing.
 use mathlib.Core.Path.{◌≡◌, refl, sym, ap, ◌∙◌}
 use mathlib.Core.Bool.{not, ◌||◌}
@@ -18,8 +18,8 @@ use Rattle.samples.proofs.Words.{word_at, rest_of}
 use Rattle.samples.proofs.Judging.{any_drop, counts-one, drop-first, drop_all, drop-none}
 use Rattle.samples16.specs.inner.Ranks.{rank_of}
 use Rattle.samples16.proofs.Ranks.{fall_four, rest_drops, drop-found}
-use Rattle.samples16.proofs.drops_triples.Statement.{statement}
-use Rattle.samples16.proofs.drops_triples.Tie as tie
+use Rattle.samples16.proofs.drops_ranked_triples.Statement.{statement}
+use Rattle.samples16.proofs.drops_ranked_triples.Tie as tie
 
 abbrev invariant-loop : tie.invariant-loop-p
 invariant-loop part msb last₀ drops₀ p₀ last drops p =
@@ -114,8 +114,8 @@ returns-3 c =
     ∙ sym (rest_drops narrow_angles a.msb part q l.p _ (omega arith) l.invariant.1 refl)
     ∙ rw (eq-eqb l.drops 0 none.if-drops-ne0.false) at l.invariant.4
 
-pub drops_triples_spec : {M : Type 1} → statement M
-drops_triples_spec =
+pub drops_ranked_triples_spec : {M : Type 1} → statement M
+drops_ranked_triples_spec =
     tie.close
     (tie.spec
     invariant-loop

@@ -1,4 +1,4 @@
--- `samples16::drops_pairs` meets its contract: whether fewer have risen than were passed, or one drops from here on, is whether one drops
+-- `samples16::drops_ranked_pairs` meets its contract: whether fewer have risen than were passed, or one drops from here on, is whether one drops
 -- at all. Assumes nothing.
 use mathlib.Core.Path.{◌≡◌, refl, sym, ◌∙◌}
 use mathlib.Core.Bool.{not, ◌||◌}
@@ -15,8 +15,8 @@ use Rattle.samples.proofs.Words.{word_at, rest_of}
 use Rattle.samples.proofs.Judging.{any_drop, counts-one, drop-first, drop_all, drop-none, drop-end}
 use Rattle.samples16.specs.inner.Ranks.{rank_of}
 use Rattle.samples16.proofs.Ranks.{rise_turn}
-use Rattle.samples16.proofs.drops_pairs.Statement.{statement}
-use Rattle.samples16.proofs.drops_pairs.Tie as tie
+use Rattle.samples16.proofs.drops_ranked_pairs.Statement.{statement}
+use Rattle.samples16.proofs.drops_ranked_pairs.Tie as tie
 
 abbrev invariant-loop : tie.invariant-loop-p
 invariant-loop part msb last₀ rises₀ p₀ last rises p =
@@ -77,8 +77,8 @@ returns-2 c =
     let all : length a.part.now / 4 - 1 ≡ l.p / 4 - 1 = omega (arith, l.invariant.2, c.loop-p-test.false) in
     rw all (sym (drop-end narrow _ _ _ _ (omega (arith, c.loop-p-test.false)) (not (eqb l.rises (l.p / 4 - 1)))) ∙ l.invariant.5)
 
-pub drops_pairs_spec : {M : Type 1} → statement M
-drops_pairs_spec =
+pub drops_ranked_pairs_spec : {M : Type 1} → statement M
+drops_ranked_pairs_spec =
     tie.close
     (tie.spec
     invariant-loop
