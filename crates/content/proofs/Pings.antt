@@ -22,10 +22,9 @@ use Rattle.layout.specs.Types.{lengths_u}
 use Rattle.layout.proofs.Verdicts.{passes, passed}
 use Rattle.turning.specs.Rows.{Value, values_of, encode, Fit, Lettered}
 use Rattle.turning.proofs.Contents.{values-encode, values-fit, values-take, length-encode, bytes-encode}
-use Rattle.frame.specs.Frames.{Tup, length_of, allowed, Framed}
+use Rattle.frame.specs.Frames.{Tup, length_of, Framed}
 use Rattle.frame.proofs.Frames.{allowed_of, allowed-most, allowed_4}
 use Rattle.samples.specs.Words.{Sample, all_words, unwords, all_samples, unsampled, spaced}
-use Rattle.samples.specs.Words
 use Rattle.samples.specs.Runs.{ping_length, values, behind}
 use Rattle.samples.specs.Values.{samples_in, words_for, held_words}
 use Rattle.samples.specs.Judging.{most, first_sample, count_at, words_at, sample_rules, word_rules}

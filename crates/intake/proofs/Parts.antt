@@ -26,7 +26,7 @@ use Rattle.content.specs.Items.{item_by, item_of, identified_by, inner_by, diges
 use Rattle.intake.specs.declared.Tally.{Tally}
 use Rattle.intake.specs.declared.Turned.{Turned}
 use Rattle.intake.specs.declared.Turned.TheVariants.{On}
-use Rattle.intake.specs.Check.{Course, Turn, stop, go, sounder_place, channel_place, past, onward, after, turn_on, turn}
+use Rattle.intake.specs.Check.{Course, Turn, stop, go, sounder_place, channel_place, past, onward, after, turn_on}
 use Rattle.intake.specs.inner.Tallies.{Tables, course_of, turn_of, Standing, TurnedTo, PassedIndex}
 use Rattle.intake.proofs.Turns.{emptied, judgement, turn-on-parts, parts-judged}
 

@@ -13,7 +13,6 @@ use Rattle.layout.specs.Families.{Family}
 use Rattle.layout.proofs.Families.{OfFamily, ping-shape}
 use Rattle.layout.specs.declared.Counts.{Counts}
 use Rattle.layout.specs.declared.SoftwareChannel.{SoftwareChannel}
-use Rattle.layout.specs.Answers.{judged}
 use Rattle.layout.specs.Types.{Shape, indexed, row, uncompressed, compressed, unlisted, shape_of, has_samples, is_ping}
 use Rattle.layout.specs.Types.{Length, lengths_of, length_from, fitting}
 use Rattle.layout.proofs.Tables.{lengths-from}
@@ -32,7 +31,6 @@ use Rattle.content.proofs.Families.{plain-least, some_sample_bytes}
 use Rattle.content.proofs.Places.{fits-place, header}
 use Rattle.intake.specs.declared.Tally.{Tally}
 use Rattle.intake.specs.declared.Asked.{Asked}
-use Rattle.intake.specs.declared.Asked.TheVariants
 use Rattle.intake.specs.Asking.{no_channel, channel_nth, channel_for, sounder_nth, parents_in, ask_item}
 use Rattle.intake.specs.inner.Tallies.{Tables, Sized, course_of, Standing, ping_at, named_at, ask_where, AskIn}
 use Rattle.intake.proofs.Asks.{Fair}

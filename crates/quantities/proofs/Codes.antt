@@ -5,7 +5,7 @@ use mathlib.Core.List.{List, [], ◌∷◌}
 use Prim.Native.Nat.{ℕ}
 use Rattle.rules.proofs.Bools.{same_arms}
 use Rattle.layout.specs.Families.{Family, wide}
-use Rattle.layout.specs.Types.{listings, among, listing_of, shape_of}
+use Rattle.layout.specs.Types.{listings}
 use Rattle.layout.proofs.Tables.{NoneOf, has_code, none_has, alike_all}
 use Rattle.quantities.specs.inner.Codes.{family_in, family_of}
 

@@ -13,7 +13,7 @@ use Rattle.order.specs.Order.{num_of}
 use Rattle.order.proofs.Stores.{sets_append}
 use Rattle.layout.specs.Fields.{Field, num, txt, gap, ident, width_of, size, takes, many}
 use Rattle.layout.specs.inner.Codes.{field_of, fields_from, fields_of}
-use Rattle.turning.specs.Rows.{Value, values_of, numbers_in}
+use Rattle.turning.specs.Rows.{values_of, numbers_in}
 use Rattle.turning.specs.inner.Codes.{code_width, code_takes, field_numbers, code_numbers}
 use Rattle.turning.proofs.Turned.{two, four, space_by, space-by, left, field-none, size_step, row-end}
 

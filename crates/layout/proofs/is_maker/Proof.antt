@@ -1,6 +1,5 @@
 -- `layout::is_maker` meets its contract: no two makers have the same number. Assumes nothing.
 use mathlib.Core.Path.{◌≡◌, refl, ap, ap₂, ◌∙◌}
-use Prim.Native.Nat.{ℕ}
 use borrow.Author.Rules.{rules}
 use lib.Dec.{eqb}
 use Rattle.layout.specs.declared.Maker.{Maker}

@@ -1,7 +1,7 @@
 -- `links::put_sounder` meets its contract: a maker's number tells the maker. Assumes nothing.
-use mathlib.Core.Path.{◌≡◌, ap}
+use mathlib.Core.Path.{ap}
 use Prim.Native.Nat.{ℕ}
-use mathlib.Core.List.{List, [], ◌∷◌}
+use mathlib.Core.List.{[], ◌∷◌}
 use borrow.Author.Rules.{rules}
 use lib.ListN.{set}
 use Rattle.links.proofs.put_sounder.Statement.{statement}
