@@ -11,11 +11,11 @@ pub found_first_spec : {M : Type 1} → statement M
 found_first_spec =
     tie.close
     (tie.spec
-    (λ c. let a = c.args in found_before _ _ a.at (is_unlisted (shape_of a.code)) c.if-found-end.true)
+    (λ c. let a = c.args in found_before a.found a.end a.at (is_unlisted (shape_of a.code)) (search rules))
     (λ c κs. search rules)
     (λ c. let a = c.args in
-    found_here _ _ a.at (is_unlisted (shape_of a.code)) c.if-found-end.false
+    found_here a.found a.end a.at (is_unlisted (shape_of a.code)) (search rules)
     (sym c.is_unlisted.ensures ∙ c.if-is_unlisted.true))
     (λ c. let a = c.args in
-    found-not _ _ a.at (is_unlisted (shape_of a.code)) c.if-found-end.false
+    found-not a.found a.end a.at (is_unlisted (shape_of a.code)) (search rules)
     (sym c.is_unlisted.ensures ∙ c.if-is_unlisted.false)))

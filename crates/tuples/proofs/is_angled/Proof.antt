@@ -2,6 +2,7 @@
 use mathlib.Core.Path.{◌≡◌, refl, sym, ap, ◌∙◌}
 use mathlib.Core.Bool.{true}
 use Prim.Native.Nat.{ℕ}
+use borrow.Author.Rules.{rules}
 use Rattle.layout.specs.Types.{listings, among, listing_of}
 use Rattle.tuples.specs.Readers.{is_angled}
 use Rattle.tuples.proofs.Codes.{angled, no_code}
@@ -17,6 +18,6 @@ unfolding listing_of among listings
 is_angled_spec =
     tie.close
     (tie.spec
-    (λ c. arm c.in-10001.is refl)
-    (λ c. arm c.in-10031.is refl)
+    (λ c. arm {k = c.args.code} {n = 10001} (search rules) refl)
+    (λ c. arm {k = c.args.code} {n = 10031} (search rules) refl)
     (λ c. sym (no_code angled c.args.code c.in_default.in_default-own.rest)))

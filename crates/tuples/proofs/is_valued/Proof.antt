@@ -2,6 +2,7 @@
 use mathlib.Core.Path.{◌≡◌, refl, sym, ap, ◌∙◌}
 use mathlib.Core.Bool.{true}
 use Prim.Native.Nat.{ℕ}
+use borrow.Author.Rules.{rules}
 use Rattle.layout.specs.Types.{listings, among, listing_of}
 use Rattle.tuples.specs.Readers.{is_valued}
 use Rattle.tuples.proofs.Codes.{valued, no_code}
@@ -17,9 +18,9 @@ unfolding listing_of among listings
 is_valued_spec =
     tie.close
     (tie.spec
-    (λ c. arm c.in-10000.is refl)
-    (λ c. arm c.in-10010.is refl)
-    (λ c. arm c.in-10030.is refl)
-    (λ c. arm c.in-10040.is refl)
-    (λ c. arm c.in-10050.is refl)
+    (λ c. arm {k = c.args.code} {n = 10000} (search rules) refl)
+    (λ c. arm {k = c.args.code} {n = 10010} (search rules) refl)
+    (λ c. arm {k = c.args.code} {n = 10030} (search rules) refl)
+    (λ c. arm {k = c.args.code} {n = 10040} (search rules) refl)
+    (λ c. arm {k = c.args.code} {n = 10050} (search rules) refl)
     (λ c. sym (no_code valued c.args.code c.in_default.in_default-own.rest)))
