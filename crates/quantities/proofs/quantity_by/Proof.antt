@@ -34,6 +34,6 @@ quantity_by_spec =
     (λ c. arm c.in-Biosonics.is c.in-1.is refl)
     (λ c. arm c.in-Biosonics.is c.in-2.is refl)
     (λ c. arm c.in-Biosonics.is refl (rest-biosonics _ c.in_default.in_default-own.rest))
-    (λ c. arm c.in-Simrad.is c.in-2-samples.is refl)
+    (λ c. arm {k = c.args.samples} {j = 2} c.in-Simrad.is (search rules) refl)
     (λ c. arm c.in-Simrad.is c.in-3.is refl)
     (λ c. arm c.in-Simrad.is refl (rest-simrad _ c.in_default-samples.in_default-samples-own.rest)))
