@@ -7,7 +7,7 @@ use lib.ListN.{length, drop}
 use lib.Seq.{sets}
 use Rattle.order.specs.Order.{Bytes}
 use Rattle.order.proofs.Laws.{bytes_of_lem}
-use Rattle.layout.specs.Types.{shape_of, in_class, index}
+use Rattle.layout.specs.Types.{shape_of, in_class, index, listed}
 use Rattle.layout.specs.inner.Codes.{place_in, has_words}
 use Rattle.layout.proofs.Families.{plain-shape}
 use Rattle.frame.specs.Frames.{tup_at}
@@ -78,28 +78,22 @@ placed c = c.listing_of-listing.ensures
 
 write-raw-requires : tie.Need-write_raw-requires
 write-raw-requires c κs =
-    let k = c.before in
-    let l = k.before in
+    let l = c.before.before in
     let d = no_words (no_ping l) in
     let p = (start d).requires in
-    (p.0, (raw-shape _ (outside d) (sym (placed l) ∙ k.if-listing-eq-LISTED.true), omega (arith, whole d, p.1)))
-
-returns-4 : tie.Need-returns-then-listing-eq-LISTED
-returns-4 c =
-    let w = c.before.before in
-    (whole (no_words (no_ping w.before.before.before)), w.write_raw.ensures)
+    (p.0, (raw-shape _ (outside d) (sym (placed l) ∙ (search rules)), omega (arith, whole d, p.1)))
 
 write-row-requires : tie.Need-write_row-requires
 write-row-requires c κs =
-    let k = c.before in
-    let l = k.before in
+    let l = c.before.before in
     let u = l.before in
     let asked = u.before in
     let d = no_words asked in
-    let p = (start d).requires in (
+    let p = (start d).requires in
+    let other : l.listing_of-listing.result ≡ listed → ⊥ = search rules in (
       p.0,
       (
-        by_row _ (outside d) (sym asked.is_ping.ensures ∙ u.if-is_ping.false) (λ e. k.if-listing-eq-LISTED.false (placed l ∙ e)),
+        by_row _ (outside d) (sym asked.is_ping.ensures ∙ u.if-is_ping.false) (λ e. other (placed l ∙ e)),
         (placed l, omega (arith, whole d, p.1)),
       ),
     )
@@ -126,7 +120,7 @@ write_form_spec =
     (λ c κs. search rules)
     write-raw-requires
     (λ c. search rules)
-    returns-4
+    (λ c. let w = c.before.before in (whole (no_words (no_ping w.before.before.before)), w.write_raw.ensures))
     write-row-requires
     (λ c. search rules)
     returns-5)

@@ -7,19 +7,6 @@ use Rattle.pings.proofs.Parts.{wide-words, told-run, told-value}
 use Rattle.pings.proofs.length_of.Statement.{statement}
 use Rattle.pings.proofs.length_of.Tie as tie
 
-returns : tie.Need-returns-then-ends_in_run
-returns c =
-    let ends = c.before.before in
-    let a = ends.args in
-    told-run radix (sym (wide-words a.msb a.part.now)) c.count_samples.ensures
-    (sym ends.ends_in_run.ensures ∙ c.if-ends_in_run.true)
-
-returns-2 : tie.Need-returns
-returns-2 c =
-    let ends = c.before in
-    let a = ends.args in
-    told-value radix (sym (wide-words a.msb a.part.now)) (sym ends.ends_in_run.ensures ∙ c.if-ends_in_run.false)
-
 pub length_of_spec : {M : Type 1} → statement M
 length_of_spec =
     tie.close
@@ -29,5 +16,7 @@ length_of_spec =
     (λ c. search rules)
     (λ c κs. search rules)
     (λ c κs. search rules)
-    returns
-    returns-2)
+    (λ c. let a = c.args in
+    told-run radix (sym (wide-words a.msb a.part.now)) c.count_samples.ensures (sym c.ends_in_run.ensures ∙ search rules))
+    (λ c. let a = c.args in
+    told-value radix (sym (wide-words a.msb a.part.now)) (sym c.ends_in_run.ensures ∙ search rules)))

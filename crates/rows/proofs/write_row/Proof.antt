@@ -1,7 +1,7 @@
 -- `rows::write_row` meets its contract: its rules in their order, then the tuple with the text in its row or behind its fields.
 -- Assumes nothing.
 use mathlib.Core.Path.{◌≡◌, sym, ap, ◌∙◌}
-use mathlib.Core.Bool.{true}
+use mathlib.Core.Bool.{Bool, true}
 use mathlib.Core.List.{List, [], ◌∷◌, ◌++◌}
 use Prim.Native.Nat.{ℕ, ◌+◌, ◌<◌, ◌≤◌}
 use native.Mathlib.Omega.{arith}
@@ -12,12 +12,14 @@ use mir.Facts.{to_z-of_z}
 use lib.ListN.{length, get_or}
 use Rattle.order.specs.Order.{pattern_of}
 use Rattle.order.proofs.Signed.{pattern-signed}
+use Rattle.layout.specs.declared.Answer.{Answer}
+use Rattle.layout.specs.declared.Answer.TheVariants.{Refused}
 use Rattle.layout.specs.Fields.{Field, size, many, bare_size}
 use Rattle.layout.specs.Types.{shape_of, lengths_of, least_of, step_of, more_of, fitting}
 use Rattle.layout.specs.inner.Codes.{place_in, measures, measured}
 use Rattle.tuples.specs.Readers.{is_record}
 use Rattle.rows.specs.Readers.{fields_by}
-use Rattle.rows.specs.Writers.{row_length}
+use Rattle.rows.specs.Writers.{row_length, RowWritten}
 use Rattle.rows.proofs.Shapes.{is-row, row_listed, row_measure, row_little, bare-size}
 use Rattle.rows.proofs.Writing.{no_record, too_few, unfit, over, Kept, own_handable, own-written, behind_handable, behind-written}
 use Rattle.rows.proofs.write_row.Statement.{statement}
@@ -27,11 +29,11 @@ use Rattle.rows.proofs.write_row.Tie as tie
 abbrev start : tie.After-is_record → tie.Start
 start r = r.before.before.before.before
 
-abbrev measuring : tie.Else-whole-gt-MOST → tie.After-measure-measure
-measuring l = l.before.before.before.before
+abbrev measuring : tie.Else-not-fits → tie.After-measure-measure
+measuring e = e.before.before.before
 
-abbrev kept_at : tie.After-signed4-attribute → tie.Else-whole-gt-MOST
-kept_at g = g.before.before
+abbrev kept_at : tie.After-signed4-attribute → tie.Else-not-fits
+kept_at g = g.before.before.before
 
 -- the type's row
 abbrev fields : tie.After-is_record → List Field
@@ -113,32 +115,26 @@ returns-3 c =
     (as-length m)
     (sym (fitted f) ∙ not-true _ c.if-not-fits.true-raw))
 
-returns-4 : tie.Need-returns-then-whole-gt-MOST
-returns-4 c =
-    let e = c.before.before in
-    let f = e.before in
-    let m = f.before.before in
-    let a = (start (typed_at m)).args in
-    rw c.refuse-then-whole-gt-MOST.ensures
-    (over a.code a.numbers.now a.text.now a.msb a.out.now (is m.before.before) (many-told m) f.if-numbers-many.false
-    (as-length m)
-    (sym (fitted f) ∙ not-false _ e.if-not-fits.false-raw) c.if-whole-gt-MOST.true)
+-- too long, by the answer that was given
+overlong : (k : ℕ) (ns t : List ℕ) (o : Bool) (out : List ℕ) {r : Answer} → r ≡ Refused 11 0 → RowWritten k ns t o out (Refused 11 0) out
+    → RowWritten k ns t o out r out
+overlong k ns t o out e h = rw e h
 
 -- ---- all rules are kept
-kept : (l : tie.Else-whole-gt-MOST)
-    → let m = measuring l in
+kept : (e : tie.Else-not-fits)
+    → let m = measuring e in
     let a = (start (typed_at m)).args in
-    Kept a.code a.numbers.now a.text.now (get_or m.measure-measure.result 0 0) (length_at m)
-kept l =
-    let f = l.before.before in
+    length_at m ≤ 262144 → Kept a.code a.numbers.now a.text.now (get_or m.measure-measure.result 0 0) (length_at m)
+kept e h =
+    let f = e.before in
     let m = f.before.before in
     record {
       type = is m.before.before;
       numbers = many-told m;
       there = f.if-numbers-many.false;
       whole = as-length m;
-      fits = sym (fitted f) ∙ not-false _ l.if-not-fits.false-raw;
-      most = l.if-whole-gt-MOST.false;
+      fits = sym (fitted f) ∙ not-false _ e.if-not-fits.false-raw;
+      most = h;
     }
 
 -- the attribute's pattern is the number that was handed over
@@ -161,7 +157,7 @@ returns-5 c =
     let w = c.before.before in
     let h = w.before.before.before in
     let g = h.before in
-    own-written (kept (kept_at g.before)) _ _ _
+    own-written (kept (kept_at g.before) (search rules)) _ _ _
     (ap (pattern_of 4) (to_z-of_z {w = w32} {z = g.signed4-attribute.result} (record { sfits = g.signed4-attribute.type_inv })) ∙ last g.before)
     (own-less h.before) w.write_tuple.ensures
 
@@ -170,7 +166,7 @@ returns-6 c =
     let w = c.before.before in
     let h = w.before.before.before in
     let g = h.before in
-    behind-written (kept (kept_at g.before)) _ _ _
+    behind-written (kept (kept_at g.before) (search rules)) _ _ _
     (ap (pattern_of 4) (to_z-of_z {w = w32} {z = g.signed4-attribute.result} (record { sfits = g.signed4-attribute.type_inv })) ∙ last g.before)
     (behind-full h.before) w.write_tuple-2.ensures
 
@@ -199,14 +195,21 @@ write_row_spec =
     (λ c κs. search rules)
     returns-3
     (λ c κs. search rules)
-    returns-4
+    (λ c. let e = c.before.before in
+    let f = e.before in
+    let m = f.before.before in
+    let a = (start (typed_at m)).args in
+    overlong a.code a.numbers.now a.text.now a.msb a.out.now (search rules)
+    (over a.code a.numbers.now a.text.now a.msb a.out.now (is m.before.before) (many-told m) f.if-numbers-many.false
+    (as-length m)
+    (sym (fitted f) ∙ not-false _ e.if-not-fits.false-raw) (search rules)))
     (λ c. search rules)
     (λ c. search rules)
     (λ c κs. search rules)
     (λ c. search rules)
-    (λ c κs. let h = c.before.before in own_handable (kept (kept_at h.before.before)) (own-less h.before))
+    (λ c κs. let h = c.before.before in own_handable (kept (kept_at h.before.before) (search rules)) (own-less h.before))
     (λ c. search rules)
     returns-5
-    (λ c κs. let h = c.before.before in behind_handable (kept (kept_at h.before.before)) (behind-full h.before))
+    (λ c κs. let h = c.before.before in behind_handable (kept (kept_at h.before.before) (search rules)) (behind-full h.before))
     (λ c. search rules)
     returns-6)

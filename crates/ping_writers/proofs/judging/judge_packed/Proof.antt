@@ -7,6 +7,7 @@ use borrow.Author.Tests.{lt-ltb, le-ltb, eq-eqb, ne_eqb}
 use lib.Dec.{ltb, eqb}
 use lib.ListN.{length}
 use Rattle.rules.specs.Rules.First.{none, here, pass}
+use Rattle.layout.specs.declared.Answer.TheVariants.{Refused}
 use Rattle.samples.specs.inner.Lists.{numbered}
 use Rattle.samples.specs.Runs.{quiet}
 use Rattle.samples.specs.Judging.{first_drop, too_short}
@@ -14,7 +15,7 @@ use Rattle.samples.proofs.Apart.{length-numbered}
 use Rattle.samples.proofs.Rising.{drop-most}
 use Rattle.content.specs.Forms.{has_length}
 use Rattle.pings.specs.Headers.{handed_length}
-use Rattle.ping_writers.specs.inner.Judged.{width_by, radix_by, packed_size}
+use Rattle.ping_writers.specs.inner.Judged.{width_by, radix_by, packed_size, packed_answer}
 use Rattle.ping_writers.proofs.Packed.{packed_said}
 use Rattle.ping_writers.proofs.judging.judge_packed.Statement.{statement}
 use Rattle.ping_writers.proofs.judging.judge_packed.Tie as tie
@@ -44,12 +45,6 @@ rising-by : (c : tie.Else-first-n) → let a = c.args in
 rising-by c =
     let ns = c.args.numbers.now in
     le-ltb (first_drop 0 (numbered ns)) (length ns) (omega (arith, c.first_drop-first.ensures, c.if-first-n.false))
-
-worded-by : (c : tie.Else-wordless-n) → let a = c.args in
-    ltb a.wordless (length a.numbers.now) ≡ false
-worded-by c =
-    let a = c.args in
-    le-ltb a.wordless (length a.numbers.now) c.if-wordless-n.false
 
 long-by : (c : tie.Else-is_short) → let a = c.args in
     too_short (numbered a.numbers.now) (handed_length a.length) ≡ false
@@ -86,18 +81,6 @@ returns-4 c =
     (pass (equal_by equal) (pass (few-by few) (pass (some-by some)
     (here (lt-ltb (first_drop 0 (numbered ns)) (length ns) (omega (arith, first.first_drop-first.ensures, c.if-first-n.true))))))))
 
-returns-5 : tie.Need-returns-then-wordless-n
-returns-5 c =
-    let rise = c.before.before in
-    let some = rise.before.before in
-    let few = some.before.before in
-    let equal = few.before in
-    let a = equal.args in
-    rw c.refuse-then-wordless-n.ensures
-    (packed_said (width_by a.wide) (radix_by a.wide) a.numbers.now a.values a.wordless (handed_length a.length) a.room
-    (pass (equal_by equal) (pass (few-by few) (pass (some-by some) (pass (rising-by rise)
-    (here (lt-ltb a.wordless (length a.numbers.now) c.if-wordless-n.true)))))))
-
 returns-6 : tie.Need-returns-then-is_short
 returns-6 c =
     let tested = c.before.before in
@@ -109,7 +92,8 @@ returns-6 c =
     let a = equal.args in
     rw c.refuse-then-is_short.ensures
     (packed_said (width_by a.wide) (radix_by a.wide) a.numbers.now a.values a.wordless (handed_length a.length) a.room
-    (pass (equal_by equal) (pass (few-by few) (pass (some-by some) (pass (rising-by rise) (pass (worded-by worded)
+    (pass (equal_by equal) (pass (few-by few) (pass (some-by some) (pass (rising-by rise)
+    (pass (le-ltb a.wordless (length a.numbers.now) (search rules))
     (here (sym tested.is_short.ensures ∙ c.if-is_short.true))))))))
 
 quiet-behind-requires : tie.Need-quiet_behind-requires
@@ -145,7 +129,8 @@ returns-7 c =
     let a = equal.args in
     rw c.refuse-then-whole-gt-MOST.ensures
     (packed_said (width_by a.wide) (radix_by a.wide) a.numbers.now a.values a.wordless (handed_length a.length) a.room
-    (pass (equal_by equal) (pass (few-by few) (pass (some-by some) (pass (rising-by rise) (pass (worded-by worded) (pass (long-by long)
+    (pass (equal_by equal) (pass (few-by few) (pass (some-by some) (pass (rising-by rise)
+    (pass (le-ltb a.wordless (length a.numbers.now) (search rules)) (pass (long-by long)
     (here (ap (ltb 262144) (sym (size count)) ∙ lt-ltb 262144 count.count_bytes-whole.result c.if-whole-gt-MOST.true)))))))))
 
 returns-8 : tie.Need-returns-then-room-whole
@@ -161,7 +146,8 @@ returns-8 c =
     let a = equal.args in
     rw c.refuse-then-room-whole.ensures
     (packed_said (width_by a.wide) (radix_by a.wide) a.numbers.now a.values a.wordless (handed_length a.length) a.room
-    (pass (equal_by equal) (pass (few-by few) (pass (some-by some) (pass (rising-by rise) (pass (worded-by worded) (pass (long-by long)
+    (pass (equal_by equal) (pass (few-by few) (pass (some-by some) (pass (rising-by rise)
+    (pass (le-ltb a.wordless (length a.numbers.now) (search rules)) (pass (long-by long)
     (pass (ap (ltb 262144) (sym (size count)) ∙ le-ltb 262144 count.count_bytes-whole.result short.if-whole-gt-MOST.false)
     (here (ap (ltb a.room) (sym (size count)) ∙ lt-ltb a.room count.count_bytes-whole.result c.if-room-whole.true))))))))))
 
@@ -179,7 +165,8 @@ returns-9 c =
     let a = equal.args in
     rw (c.accept.ensures, size count)
     (packed_said (width_by a.wide) (radix_by a.wide) a.numbers.now a.values a.wordless (handed_length a.length) a.room
-    (pass (equal_by equal) (pass (few-by few) (pass (some-by some) (pass (rising-by rise) (pass (worded-by worded) (pass (long-by long)
+    (pass (equal_by equal) (pass (few-by few) (pass (some-by some) (pass (rising-by rise)
+    (pass (le-ltb a.wordless (length a.numbers.now) (search rules)) (pass (long-by long)
     (pass (ap (ltb 262144) (sym (size count)) ∙ le-ltb 262144 count.count_bytes-whole.result short.if-whole-gt-MOST.false)
     (pass (ap (ltb a.room) (sym (size count)) ∙ le-ltb a.room count.count_bytes-whole.result fits.if-room-whole.false) none)))))))))
 
@@ -199,7 +186,17 @@ judge_packed_spec =
     (λ c κs. search rules)
     returns-4
     (λ c κs. search rules)
-    returns-5
+    (λ c. let rise = c.before.before in
+    let some = rise.before.before in
+    let few = some.before.before in
+    let equal = few.before in
+    let a = equal.args in
+    let said : Refused 21 a.wordless
+    ≡ packed_answer (width_by a.wide) (radix_by a.wide) a.numbers.now a.values a.wordless (handed_length a.length) a.room =
+    packed_said (width_by a.wide) (radix_by a.wide) a.numbers.now a.values a.wordless (handed_length a.length) a.room
+    (pass (equal_by equal) (pass (few-by few) (pass (some-by some) (pass (rising-by rise)
+    (here (lt-ltb a.wordless (length a.numbers.now) (search rules))))))) in
+    cc)
     (λ c κs. search rules)
     (λ c κs. search rules)
     returns-6

@@ -5,7 +5,8 @@ use native.Mathlib.Omega.{arith}
 use borrow.Author.Rules.{rules}
 use borrow.Author.Tests.{lt-ltb, le-ltb, eq-eqb, ne_eqb}
 use Rattle.rules.specs.Rules.First.{none, here, pass}
-use Rattle.ping_writers.specs.inner.Judged.{plain_size}
+use Rattle.layout.specs.declared.Answer.TheVariants.{Refused}
+use Rattle.ping_writers.specs.inner.Judged.{plain_size, plain_answer}
 use Rattle.ping_writers.proofs.Plain.{plain-said, bytes-few}
 use Rattle.ping_writers.proofs.judging.judge_plain.Statement.{statement}
 use Rattle.ping_writers.proofs.judging.judge_plain.Tie as tie
@@ -23,15 +24,6 @@ returns-2 c =
     ∙ plain-said a.equal a.n a.first a.sample a.room
     (pass equal.if-not-equal.false-raw (here (lt-ltb 32764 a.n c.if-n-gt-MOST.true)))
 
-returns-3 : tie.Need-returns-then-n-eq0
-returns-3 c =
-    let few = c.before.before in
-    let equal = few.before in
-    let a = equal.args in
-    c.refuse-then-n-eq0.ensures
-    ∙ plain-said a.equal a.n a.first a.sample a.room
-    (pass equal.if-not-equal.false-raw (pass (le-ltb 32764 a.n few.if-n-gt-MOST.false) (here (eq-eqb a.n 0 c.if-n-eq0.true))))
-
 returns-4 : tie.Need-returns-then-first-n
 returns-4 c =
     let some = c.before.before in
@@ -41,7 +33,7 @@ returns-4 c =
     c.refuse-then-first-n.ensures
     ∙ plain-said a.equal a.n a.first a.sample a.room
     (pass equal.if-not-equal.false-raw (pass (le-ltb 32764 a.n few.if-n-gt-MOST.false)
-    (pass (ne_eqb a.n 0 some.if-n-eq0.false) (here (lt-ltb a.first a.n c.if-first-n.true)))))
+    (pass (ne_eqb a.n 0 (search rules)) (here (lt-ltb a.first a.n c.if-first-n.true)))))
 
 -- the samples' bytes are few
 small : (c : tie.Else-first-n) → let a = c.args in a.n * a.sample ≤ 262112
@@ -76,7 +68,7 @@ returns-5 c =
     c.refuse-then-room-whole.ensures
     ∙ plain-said a.equal a.n a.first a.sample a.room
     (pass equal.if-not-equal.false-raw (pass (le-ltb 32764 a.n few.if-n-gt-MOST.false)
-    (pass (ne_eqb a.n 0 some.if-n-eq0.false) (pass (le-ltb a.first a.n rise.if-first-n.false)
+    (pass (ne_eqb a.n 0 (search rules)) (pass (le-ltb a.first a.n rise.if-first-n.false)
     (here (lt-ltb a.room (plain_size a.sample a.n) (omega (arith, c.if-room-whole.true, size rise))))))))
 
 returns-6 : tie.Need-returns
@@ -90,7 +82,7 @@ returns-6 c =
     rw (c.accept.ensures, size rise)
     (plain-said a.equal a.n a.first a.sample a.room
     (pass equal.if-not-equal.false-raw (pass (le-ltb 32764 a.n few.if-n-gt-MOST.false)
-    (pass (ne_eqb a.n 0 some.if-n-eq0.false) (pass (le-ltb a.first a.n rise.if-first-n.false)
+    (pass (ne_eqb a.n 0 (search rules)) (pass (le-ltb a.first a.n rise.if-first-n.false)
     (pass (le-ltb a.room (plain_size a.sample a.n) (omega (arith, fits.if-room-whole.false, size rise))) none))))))
 
 pub judge_plain_spec : {M : Type 1} → statement M
@@ -102,7 +94,11 @@ judge_plain_spec =
     (λ c κs. search rules)
     returns-2
     (λ c κs. search rules)
-    returns-3
+    (λ c. let a = c.args in
+    let said : Refused 22 0 ≡ plain_answer a.equal a.n a.first a.sample a.room =
+    plain-said a.equal a.n a.first a.sample a.room
+    (pass c.if-not-equal.false-raw (pass (le-ltb 32764 a.n c.if-n-gt-MOST.false) (here (eq-eqb a.n 0 (search rules))))) in
+    cc)
     (λ c κs. search rules)
     returns-4
     mul-bytes
