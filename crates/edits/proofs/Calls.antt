@@ -47,13 +47,14 @@ module _ (f out : List ℕ) where
         edited_refused (append_answer f bytes (length out)) (appended_file f bytes) out c p (ap (behind_file behind) e)
 
     module _ (n : Counts) (e : check_file f ≡ Accepted n) where
-      pub appended-over : limit < length bytes → Appended f bytes out (Refused 1 0) out
+      pub appended-over : limit < length bytes → (r : Answer) → r ≡ Refused 1 0 → Appended f bytes out r out
       unfolding append_answer
-      appended-over h =
-          edited_refused (append_answer f bytes (length out)) (appended_file f bytes) out 1 0
+      appended-over h r q =
+          rw q
+          (edited_refused (append_answer f bytes (length out)) (appended_file f bytes) out 1 0
           (ap (behind_file behind) e
           ∙ sym (first_eq {rs = append_rules bytes} {d = result_answer (appended_file f bytes) (length out) n}
-          (here (lt-ltb limit (length bytes) h))))
+          (here (lt-ltb limit (length bytes) h)))))
 
       pub appended-given : length bytes ≤ limit → (r : Answer) (left : List ℕ) → Rewritten (appended_file f bytes) n out r left
           → Appended f bytes out r left

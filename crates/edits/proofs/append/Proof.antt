@@ -1,5 +1,6 @@
 -- `edits::append` meets its contract: the check's refusals, 1 for too many bytes, then the result's. Assumes nothing.
 use mathlib.Core.Path.{◌≡◌, sym, ◌∙◌}
+use native.Mathlib.Omega.{arith}
 use borrow.Author.Rules.{rules}
 use Rattle.layout.specs.declared.Answer.TheVariants.{Accepted}
 use Rattle.intake.specs.Check.{check_file}
@@ -18,16 +19,8 @@ checked c = c.before
 accepted : (c : tie.In-Accepted) → check_file (start (checked c)).args.file.now ≡ Accepted c.in-Accepted.counts
 accepted c = sym (checked c).check.ensures.is ∙ c.in-Accepted.is
 
-returns : tie.Need-returns-then-bytes-gt-LIMIT
-returns c =
-    let t = c.before in
-    let n = t.before in
-    let a = (start (checked n)).args in
-    let z = c.refuse-then-bytes-gt-LIMIT.ensures in
-    rw z (appended-over a.file.now a.out.now a.bytes.now _ (accepted n) t.if-bytes-gt-LIMIT.true)
-
 insert-requires : tie.Need-insert-requires
-insert-requires c κs = let e = c.before in (accepted e.before, e.if-bytes-gt-LIMIT.false)
+insert-requires c κs = let e = c.before in (accepted e.before, omega arith)
 
 returns-2 : tie.Need-returns-in-Refused
 returns-2 c =
@@ -35,14 +28,6 @@ returns-2 c =
     let a = (start k.before).args in
     rw c.refuse.ensures
     (appended-refused a.file.now a.out.now a.bytes.now _ _ (sym k.check.ensures.is ∙ k.in-Refused.is))
-
-returns-3 : tie.Need-returns-else-bytes-gt-LIMIT
-returns-3 c =
-    let i = c.before.before in
-    let e = i.before.before in
-    let n = e.before in
-    let a = (start (checked n)).args in
-    appended-given a.file.now a.out.now a.bytes.now _ (accepted n) e.if-bytes-gt-LIMIT.false _ _ i.insert.ensures
 
 pub append_spec : {M : Type 1} → statement M
 append_spec =
@@ -53,8 +38,13 @@ append_spec =
     (λ c κs. search rules)
     (λ c. search rules)
     (λ c κs. search rules)
-    returns
+    (λ c. let n = c.before.before in
+    let a = (start (checked n)).args in
+    appended-over a.file.now a.out.now a.bytes.now _ (accepted n) (omega arith) _ (search rules))
     insert-requires
     returns-2
     (λ c. search rules)
-    returns-3)
+    (λ c. let i = c.before.before in
+    let n = i.before.before.before in
+    let a = (start (checked n)).args in
+    appended-given a.file.now a.out.now a.bytes.now _ (accepted n) (omega arith) _ _ i.insert.ensures))

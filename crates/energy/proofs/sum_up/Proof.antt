@@ -1,13 +1,15 @@
 -- `energy::sum_up` meets its contract: what is left at a place gives, behind the sum there, what all give (`Summing`). Assumes nothing.
 use Prim.Native.Nat.{ℕ, ◌+◌, ◌-◌, ◌*◌, ◌≤◌, ◌<◌}
-use mathlib.Core.Path.{◌≡◌, ap, ap₂, ◌∙◌}
+use mathlib.Core.Path.{◌≡◌, sym, ap, ap₂, ◌∙◌}
 use mathlib.Core.Bool.{true}
 use mathlib.Core.Logic.{⊎_elim}
 use native.Mathlib.Nat.{lt_of_le_of_lt, mul-le-mul}
 use native.Mathlib.Omega.{arith}
 use borrow.Author.Rules.{rules}
 use lib.Dec.{lit<}
+use lib.IntN.{pos}
 use lib.ListN.{length}
+use lib.Signed.{lt_z}
 use mir.Syntax.{w32}
 use mir.Val.{to_z, of_z}
 use mir.ValLaws.{to_z-of_z}
@@ -69,11 +71,6 @@ depth-here c =
     ap₂ (λ (x y : ℕ). x * y) (c.negated_of.ensures.0 ∙ ap negated (same (told c)))
     (looping (sampled c).before).unit_of-unit.ensures.0
 
-returns : tie.Need-returns-then-value-gt0 invariant-loop decreases-loop
-returns c =
-    let s = c.before.before in
-    turn-stop (turn s.before) s.if-sampled.true (too_loud _ _ (rw (same c.before) at c.if-value-gt0.true))
-
 mul-depth : tie.Need-overflow_mul-depth invariant-loop decreases-loop
 mul-depth c =
     let u = (looping (sampled c).before).unit_of-unit.ensures.1 in
@@ -83,11 +80,6 @@ returns-2 : tie.Need-returns-then-depth-gt-QUIETEST invariant-loop decreases-loo
 returns-2 c =
     let s = sampled c.before in
     turn-stop (turn s.before) s.if-sampled.true (too_quiet _ _ (rw (depth-here c.before) at c.if-depth-gt-QUIETEST.true))
-
--- a value inside
-inside : (c : tie.Else-depth-gt-QUIETEST invariant-loop decreases-loop) → let s = sampled c.before in
-    is_inside (family_of (start (looping s.before)).args.code) s.value_at-it.result.value ≡ true
-inside c = within _ _ (rw (same (told c.before)) at c.if-value-gt0.false) (rw (depth-here c.before) at c.if-depth-gt-QUIETEST.false)
 
 few : (c : tie.Then-sampled invariant-loop decreases-loop) → (looping c.before).loop-at.nth < 32764
 few c = omega (arith, turn_more (turn c.before) c.if-sampled.true, (start (looping c.before)).requires.1.1)
@@ -100,17 +92,15 @@ add-sum c =
 add-nth : tie.Need-overflow_add-nth invariant-loop decreases-loop
 add-nth c = omega (arith, few (sampled c.before.before))
 
--- and added
-added : (c : tie.After-linear_below-sum invariant-loop decreases-loop) → let s = sampled c.before.before in
-    let l = looping s.before in
+-- a value inside is added
+added : (c : tie.After-value_at-it invariant-loop decreases-loop) → let l = looping c in
     let a = (start l).args in
-    Summing a.code a.msb a.held.now (l.loop-at.sum + c.linear_below-sum.result) (l.loop-at.nth + 1)
-    (l.loop-at.at + l.width_of-width.result)
+    let x = c.value_at-it.result in
+    x.sampled ≡ true → is_inside (family_of a.code) x.value ≡ true
+    → (d s : ℕ) → d ≡ depth_of (family_of a.code) x.value → s ≡ linear_below d → s ≤ 100000000000000
+    → Summing a.code a.msb a.held.now (l.loop-at.sum + s) (l.loop-at.nth + 1) (l.loop-at.at + l.width_of-width.result)
 unfolding linear_of
-added c =
-    let s = sampled c.before.before in
-    turn-value (turn s.before) s.if-sampled.true (inside c.before)
-    (c.linear_below-sum.ensures.0 ∙ ap linear_below (depth-here c.before.before)) c.linear_below-sum.ensures.1
+added c e i d s p r m = turn-value (turn c) e i (r ∙ ap linear_below p) m
 
 add_at : tie.Need-overflow_add-at invariant-loop decreases-loop
 add_at c = omega (arith, fits c.before.before)
@@ -121,17 +111,11 @@ loop-less c = omega (arith, fits c.before.before, (looping c.before).width_of-wi
 loop-again : tie.Need-loop-at-preserved invariant-loop decreases-loop
 loop-again c =
     ⊎_elim
-    (λ w. rw (w.sum-is, w.nth-is)
-    (added (record {
-      before = record {
-        before = record {
-          before = record { before = record { before = record { before = c.before; if-sampled = w.if-sampled }; struct_told-1 = w.struct_told-1 }; if-value-gt0 = w.if-value-gt0 };
-          negated_of = w.negated_of;
-        };
-        if-depth-gt-QUIETEST = w.if-depth-gt-QUIETEST;
-      };
-      linear_below-sum = w.linear_below-sum;
-    })))
+    (λ w. let v = c.before in
+    let e = to_z-of_z w32 v.value_at-it.result.value (record { sfits = w.struct_told-1.given.1.0.1 }) in
+    let d = ap₂ (λ (x y : ℕ). x * y) (w.negated_of.ensures.0 ∙ ap negated e) (looping v).unit_of-unit.ensures.0 in
+    let i = within _ _ (ap (lt_z (pos 0)) (sym e) ∙ search rules) (rw d at w.if-depth-gt-QUIETEST.false) in
+    rw (w.sum-is, w.nth-is) (added v w.if-sampled.true i _ _ d w.linear_below-sum.ensures.0 w.linear_below-sum.ensures.1))
     (λ w. rw (w.sum-is, w.nth-is) (turn-run (turn c.before) w.if-sampled.false))
     c.if-sampled.branch-raw
 
@@ -146,7 +130,8 @@ sum_up_spec =
     (λ c. summing_begin _ _ _)
     (λ c. c.loop-at.invariant.within)
     value-at-requires
-    returns
+    (λ c. let s = c.before.before in
+    turn-stop (turn s.before) s.if-sampled.true (too_loud _ _ (ap (lt_z (pos 0)) (sym (same c.before)) ∙ search rules)))
     (λ c κs. search rules)
     mul-depth
     returns-2

@@ -3,7 +3,6 @@ use mathlib.Core.Path.{◌≡◌, sym, ap, ◌∙◌}
 use mathlib.Core.Bool.{true}
 use Prim.Native.Nat.{◌<◌}
 use borrow.Author.Rules.{rules}
-use borrow.Author.Tests.{not-true, not-false}
 use Rattle.layout.specs.Types.{is_ping}
 use lib.ListN.{length}
 use Rattle.intake.specs.inner.Tallies.{Tables, tables, ping_at}
@@ -22,18 +21,14 @@ held s = tables s.args.sounders.now s.args.channels.now
 tested : (c : tie.After-is_ping) → let a = c.args in c.is_ping.result ≡ ping_at a.msb a.file.now a.w.at
 tested c = c.is_ping.ensures ∙ ap is_ping c.kind_at.ensures
 
-returns : tie.Need-returns-then-not-is_ping
-returns c = let s = c.before.before.before.before in
-    ask-other _ _ s.args.w _ (held s) (sym (tested c.before) ∙ not-true _ c.if-not-is_ping.true-raw)
-
-pings : (c : tie.Else-not-is_ping) → let a = c.args in ping_at a.msb a.file.now a.w.at ≡ true
-pings c = sym (tested c.before) ∙ not-false _ c.if-not-is_ping.false-raw
+pings : (c : tie.After-named_at-channel) → let a = c.args in ping_at a.msb a.file.now a.w.at ≡ true
+pings c = sym (tested c.before.before) ∙ search rules
 
 -- the lookups' rows are declared
 below-channel : (c : tie.After-find_channel-found)
     → c.find_channel-found.result < length (start c).args.channels.now
 below-channel c = let s = start c in
-    channel-below _ _ _ s.args.counts (held s) s.requires (pings c.before.before) _ _ c.named_at-channel.ensures
+    channel-below _ _ _ s.args.counts (held s) s.requires (pings c.before) _ _ c.named_at-channel.ensures
     c.find_channel-found.ensures
 
 below-sounder : (c : tie.After-find_sounder-over)
@@ -41,7 +36,7 @@ below-sounder : (c : tie.After-find_sounder-over)
 below-sounder c =
     let f = c.before.before in
     let s = start f in
-    sounder-below _ _ _ s.args.counts (held s) s.requires (pings f.before.before) _ _ f.named_at-channel.ensures
+    sounder-below _ _ _ s.args.counts (held s) s.requires (pings f.before) _ _ f.named_at-channel.ensures
     f.find_channel-found.ensures _ c.find_sounder-over.ensures
 
 returns-2 : tie.Need-returns
@@ -50,7 +45,7 @@ returns-2 c =
     let g = k.before.before in
     let f = g.before.before in
     let s = start f in
-    ask-ping _ _ s.args.w _ (held s) s.requires (pings f.before.before) _ _ f.named_at-channel.ensures f.find_channel-found.ensures
+    ask-ping _ _ s.args.w _ (held s) s.requires (pings f.before) _ _ f.named_at-channel.ensures f.find_channel-found.ensures
     _ g.find_sounder-over.ensures _ _ _ k.wide.ensures k.narrow.ensures c.wide-2.ensures
 
 pub ask_here_spec : {M : Type 1} → statement M
@@ -59,7 +54,7 @@ ask_here_spec =
     (tie.spec
     (λ c κs. search rules)
     (λ c κs. search rules)
-    returns
+    (λ c. let s = c.before.before.before.before in ask-other _ _ s.args.w _ (held s) (sym (tested c.before) ∙ search rules))
     (λ c κs. search rules)
     (λ c κs. search rules)
     (λ c. let l = below-channel c in search rules)

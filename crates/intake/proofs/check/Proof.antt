@@ -1,6 +1,7 @@
 -- `intake::check` meets its contract: the turns give the answer, or stand at the file's length with no end of file. Assumes nothing.
 use mathlib.Core.Path.{◌≡◌, sym, ◌∙◌}
 use mathlib.Core.Bool.{true}
+use native.Mathlib.Omega.{arith}
 use borrow.Author.Rules.{rules}
 use borrow.Author.Tests.{not-true, not-false}
 use lib.ListN.{length}
@@ -17,13 +18,10 @@ use Rattle.intake.proofs.check.Tie as tie
 marks : (c : tie.Else-not-is_marked) → marked c.args.file.now ≡ true
 marks c = sym c.is_marked.ensures ∙ not-false _ c.if-not-is_marked.false-raw
 
-returns : tie.Need-returns-then-file-gt-LIMIT
-returns c = tells (c.refuse.ensures ∙ over-limit _ c.if-file-gt-LIMIT.true)
-
 returns-2 : tie.Need-returns-then-not-is_marked
 returns-2 c =
     tells (c.refuse-then-not-is_marked.ensures
-    ∙ no_mark _ c.if-file-gt-LIMIT.false (sym c.is_marked.ensures ∙ not-true _ c.if-not-is_marked.true-raw))
+    ∙ no_mark c.args.file.now (omega arith) (sym c.is_marked.ensures ∙ not-true _ c.if-not-is_marked.true-raw))
 
 is-msb-requires : tie.Need-is_msb-msb-requires
 is-msb-requires c κs = marked_4 c.args.file.now (marks c)
@@ -33,12 +31,12 @@ abbrev ordered : tie.After-notes-1 → tie.After-is_msb-msb
 ordered c = c.before.before.before
 
 run-requires : tie.Need-run-requires
-run-requires c κs = let e = (ordered c).before in (marked_4 _ (marks e), (e.if-file-gt-LIMIT.false, sized-zeros))
+run-requires c κs = let e = (ordered c).before in (marked_4 _ (marks e), (omega arith, sized-zeros))
 
 -- tuple by tuple, it is the whole check
 whole : (c : tie.After-is_msb-msb) → let f = c.args.file.now in
     check_from (length f) c.is_msb-msb.result f begin ≡ check_file f
-whole c = whole-check _ _ c.if-file-gt-LIMIT.false (marks c.before) c.is_msb-msb.ensures
+whole c = whole-check c.args.file.now _ (omega arith) (marks c.before) c.is_msb-msb.ensures
 
 returns-3 : tie.Need-returns-in-On
 returns-3 c =
@@ -57,7 +55,7 @@ check_spec =
     tie.close
     (tie.spec
     (λ c κs. search rules)
-    returns
+    (λ c. tells (c.refuse.ensures ∙ over-limit c.args.file.now (omega arith)))
     (λ c κs. search rules)
     (λ c κs. search rules)
     returns-2

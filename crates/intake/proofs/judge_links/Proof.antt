@@ -1,6 +1,7 @@
 -- `intake::judge_links` meets its contract: what the tuple declares or names stands in its first bytes, and is judged by what its type
 -- says. Assumes nothing.
 use mathlib.Core.Path.{◌≡◌, sym, ap, ◌∙◌}
+use native.Mathlib.Omega.{arith}
 use borrow.Author.Rules.{rules}
 use Rattle.layout.specs.declared.SoftwareChannel.{SoftwareChannel}
 use Rattle.layout.specs.declared.Says.{Says}
@@ -23,13 +24,6 @@ named : (c : tie.After-named_at-id) → let a = (start c.before.before).args in
     c.named_at-id.result.0 ≡ (named_at a.msb a.part.now a.from).0
 named c = ap (λ (x : SoftwareChannel). x.0) c.named_at-id.ensures
 
-returns : tie.Need-returns-then-id
-returns c =
-    let r = c.before.before in
-    let m = r.before.before in
-    let s = start m in
-    attitude-all _ _ s.requires.0 s.requires.1.0 (said m r.in-NamesOrAll.is) (sym (named r) ∙ c.if-id.true)
-
 returns-2 : tie.Need-returns-in-Nothing
 returns-2 c = let m = c.before in let s = start m in no_link _ _ s.requires.0 s.requires.1.0 (said m c.in-Nothing.is)
 
@@ -48,14 +42,6 @@ returns-4 c =
     let s = start m in
     rw (c.judge_channel.ensures, c.channel_at-it.ensures)
     (channel-told _ _ s.requires.0 s.requires.1.0 (said m e.in-Channel.is))
-
-returns-5 : tie.Need-returns-else-id
-returns-5 c =
-    let r = c.before.before.before in
-    let m = r.before.before in
-    let s = start m in
-    rw (c.judge_name.ensures, r.named_at-id.ensures)
-    (attitude-one _ _ s.requires.0 s.requires.1.0 (said m r.in-NamesOrAll.is) (λ e. c.if-id.false (named r ∙ e)))
 
 returns-6 : tie.Need-returns-in-Names
 returns-6 c =
@@ -82,7 +68,10 @@ judge_links_spec =
     (λ c κs. search rules)
     (λ c. search rules)
     (λ c κs. room (start c.before).requires.0)
-    returns
+    (λ c. let r = c.before.before in
+    let m = r.before.before in
+    let s = start m in
+    attitude-all _ _ s.requires.0 s.requires.1.0 (said m r.in-NamesOrAll.is) (sym (named r) ∙ search rules))
     (λ c κs. search rules)
     (λ c. search rules)
     (λ c κs. room (start c.before).requires.0)
@@ -90,5 +79,9 @@ judge_links_spec =
     returns-2
     returns-3
     returns-4
-    returns-5
+    (λ c. let r = c.before.before.before in
+    let m = r.before.before in
+    let s = start m in
+    rw (c.judge_name.ensures, r.named_at-id.ensures)
+    (attitude-one _ _ s.requires.0 s.requires.1.0 (said m r.in-NamesOrAll.is) (λ e. omega (arith, named r, e))))
     returns-6)

@@ -1,7 +1,7 @@
 -- `samples::judge_words` meets its contract: the values counted and those from here on are all values, and so for the bad ones; then
 -- the rules, one by one. Assumes nothing.
 use mathlib.Core.Path.{◌≡◌, sym, ap, ◌∙◌}
-use mathlib.Core.Bool.{not, ◌||◌}
+use mathlib.Core.Bool.{true, false, not, ◌||◌}
 use mathlib.Core.List.{[], ◌∷◌}
 use Prim.Native.Nat.{ℕ, ◌≤◌, ◌+◌, ◌-◌, ◌*◌}
 use native.Mathlib.Omega.{arith}
@@ -79,27 +79,20 @@ add-fault-at c =
     let head = c.before.before.before.before in
     omega (arith, c.find_bad.ensures.1, head.requires)
 
-returns-2 : tie.Need-returns-then-bad invariant-loop decreases-loop
-returns-2 c =
-    let find = c.before in
-    let rule = find.before in
-    let few = rule.before in
-    c.fault_at.ensures
-    ∙ ap (λ (p : ℕ). Fault 24 (words_at + p)) find.find_bad.ensures.0
-    ∙ rw (le-ltb _ _ few.if-values-gt-MOST.false, rule.if-bad.true) at (said few.before)
-
 returns-3 : tie.Need-returns-then-count-values invariant-loop decreases-loop
 returns-3 c =
     let rule = c.before in
     let good = rule.before in
     let few = good.before in
-    c.fault_at-then-count-values.ensures ∙ rw (le-ltb _ _ few.if-values-gt-MOST.false, good.if-bad.false, ne_eqb _ _ rule.if-count-values.true) at (said few.before)
+    let b : few.loop-p.bad ≡ false = search rules in
+    c.fault_at-then-count-values.ensures ∙ rw (le-ltb _ _ few.if-values-gt-MOST.false, b, ne_eqb _ _ rule.if-count-values.true) at (said few.before)
 
 returns-4 : tie.Need-returns invariant-loop decreases-loop
 returns-4 c =
     let good = c.before in
     let few = good.before in
-    rw (le-ltb _ _ few.if-values-gt-MOST.false, good.if-bad.false, eq-eqb _ _ c.if-count-values.false) at (said few.before)
+    let b : few.loop-p.bad ≡ false = search rules in
+    rw (le-ltb _ _ few.if-values-gt-MOST.false, b, eq-eqb _ _ c.if-count-values.false) at (said few.before)
 
 pub judge_words_spec : {M : Type 1} → statement M
 judge_words_spec =
@@ -123,7 +116,12 @@ judge_words_spec =
     (λ c κs. search rules)
     add-fault-at
     (λ c κs. search rules)
-    returns-2
+    (λ c. let find = c.before in
+    let few = find.before.before in
+    let b : few.loop-p.bad ≡ true = search rules in
+    c.fault_at.ensures
+    ∙ ap (λ (p : ℕ). Fault 24 (words_at + p)) find.find_bad.ensures.0
+    ∙ rw (le-ltb _ _ few.if-values-gt-MOST.false, b) at (said few.before))
     (λ c κs. search rules)
     returns-3
     returns-4)
