@@ -1,7 +1,6 @@
 -- `linked::find_with` meets its contract: the one among the pings to come is the one among all (`Seeking`). Assumes nothing.
 use mathlib.Core.Path.{◌≡◌, sym, ◌∙◌}
-use mathlib.Core.Bool.{true, false}
-use mathlib.Core.Logic.{⊎_elim}
+use mathlib.Core.Bool.{true}
 use Prim.Native.Nat.{◌-◌}
 use native.Mathlib.Omega.{arith}
 use borrow.Author.Rules.{rules}
@@ -73,7 +72,7 @@ returns c =
     let k = read p in
     let l = inside k in
     seeking_here l.loop-at.invariant l.loop-at-test.true _ _ k.length_at-whole.ensures k.kind_at-code.ensures (listed p)
-    p.if-at-place.true _ c.quantity_at-quantity.ensures
+    (search rules) _ c.quantity_at-quantity.ensures
 
 keep-requires : tie.Need-keep-used-requires invariant-loop decreases-loop
 keep-requires c κs =
@@ -97,17 +96,13 @@ loop-less c =
     let l = inside k in
     telling-less l.loop-at.invariant.along.telling l.loop-at-test.true _ k.length_at-whole.ensures
 
--- the tuple is no ping at the place
-other : (c : tie.Joined-at-place invariant-loop decreases-loop)
-    → (inside c.before).loop-at.at ≡ (start (inside c.before)).args.place → is_ping c.kind_at-code.result ≡ false
-other c e = ⊎_elim (λ w. sym w.is_ping.ensures ∙ w.if-is_ping.false) (λ w. absurd (w.if-at-place.false e)) c.if-at-place.branch-raw
-
+-- the tuple is no ping at the place: which branch ran is found, and not named
 loop-again : tie.Need-loop-at-preserved invariant-loop decreases-loop
 loop-again c =
     let k = turning c in
     let l = inside k in
     seeking_again l.loop-at.invariant l.loop-at-test.true _ _ k.length_at-whole.ensures k.kind_at-code.ensures
-    (other c.before.before.before) _ _ c.keep-used.ensures
+    (λ e. grind arith) _ _ c.keep-used.ensures
 
 pub find_with_spec : {M : Type 1} → statement M
 find_with_spec =

@@ -1,10 +1,17 @@
 -- `normal::normalise` meets its contract: the check's refusals, then rule by rule by what is measured. Assumes nothing.
 use mathlib.Core.Path.{◌≡◌, refl, sym, ap, ◌∙◌}
-use mathlib.Core.Bool.{Bool, ◌&&◌}
+use mathlib.Core.Bool.{Bool, false, ◌&&◌}
+use mathlib.Core.List.{List}
+use Prim.Native.Nat.{ℕ, ◌<◌}
+use native.Mathlib.Omega.{arith}
 use borrow.Author.Rules.{rules}
 use lib.Dec.{ltb}
 use lib.ListN.{length}
-use Rattle.frame.specs.Files.{is_msb}
+use Rattle.layout.specs.declared.Counts.{Counts}
+use Rattle.layout.specs.declared.Answer.{Answer}
+use Rattle.layout.specs.declared.Answer.TheVariants.{Refused}
+use Rattle.frame.specs.Files.{limit, is_msb}
+use Rattle.normal.specs.Normaliser.{Normalised}
 use Rattle.normal.specs.declared.Measure.{Measure}
 use Rattle.intake.specs.inner.Sound.{Accepts}
 use Rattle.intake.proofs.Loops.{accepted_4}
@@ -54,12 +61,10 @@ returns c =
     (found_unturnable _ _ _ _ _ (found c.before.before.before.before.before)
     (sym (turns c.before.before) ∙ c.if-is_unturnable.true))
 
-returns-2 : tie.Need-returns-then-m-gt-LIMIT
-returns-2 c =
-    let turnable = c.before.before.before in
-    let u = turnable.before in
-    rw c.refuse-then-m-gt-LIMIT.ensures
-    (found-over _ _ _ _ _ (found (measured u)) (sym (turns u) ∙ turnable.if-is_unturnable.false) c.if-m-gt-LIMIT.true)
+-- a refusal as over the limit, by what was measured
+over : (f out : List ℕ) {n : Counts} {b u : ℕ} → FoundOf f n b u → is_msb f && ltb u (length f) ≡ false → limit < b
+    → {r : Answer} → r ≡ Refused 20 0 → Normalised f out r out
+over f out t e h r = rw r (found-over f out _ _ _ t e h)
 
 returns-3 : tie.Need-returns-then-out-m
 returns-3 c =
@@ -67,7 +72,7 @@ returns-3 c =
     let turnable = small.before.before in
     let u = turnable.before in
     rw c.refuse-then-out-m.ensures
-    (found_no_room _ _ _ _ _ (found (measured u)) (sym (turns u) ∙ turnable.if-is_unturnable.false) small.if-m-gt-LIMIT.false c.if-out-m.true)
+    (found_no_room _ _ _ _ _ (found (measured u)) (sym (turns u) ∙ turnable.if-is_unturnable.false) (omega arith) c.if-out-m.true)
 
 write-normal-requires : tie.Need-write_normal-requires
 write-normal-requires c κs =
@@ -92,7 +97,7 @@ returns-5 c =
     let small = fits.before.before in
     let turnable = small.before.before in
     let u = turnable.before in
-    found-written _ _ _ _ _ (found (measured u)) (sym (turns u) ∙ turnable.if-is_unturnable.false) small.if-m-gt-LIMIT.false fits.if-out-m.false _
+    found-written _ _ _ _ _ (found (measured u)) (sym (turns u) ∙ turnable.if-is_unturnable.false) (omega arith) fits.if-out-m.false _
     written.write_normal.ensures
 
 pub normalise_spec : {M : Type 1} → statement M
@@ -109,7 +114,10 @@ normalise_spec =
     (λ c κs. search rules)
     returns
     (λ c κs. search rules)
-    returns-2
+    (λ c.
+    let turnable = c.before.before.before in
+    let u = turnable.before in
+    over _ _ (found (measured u)) (sym (turns u) ∙ turnable.if-is_unturnable.false) (omega arith) (search rules))
     (λ c κs. search rules)
     returns-3
     write-normal-requires

@@ -33,19 +33,13 @@ turns c =
     c.is_unturnable.ensures
     ∙ ap (λ (b : Bool). c.is_msb-msb.result && b) c.is_unlisted.ensures
 
-returns : tie.Need-returns-then-end-file
-returns c =
-    let k = c.before.before in
-    rw c.refuse.ensures (single_behind _ _ _ _ _ k.is_msb-msb.ensures k.length_at-whole.ensures
-    k.kind_at-code.ensures c.if-end-file.true)
-
 returns-2 : tie.Need-returns-then-is_unturnable
 returns-2 c =
     let u = c.before.before in
     let k = u.before.before.before in
     rw c.refuse-then-is_unturnable.ensures
     (single_unturnable _ _ _ _ _ k.is_msb-msb.ensures k.length_at-whole.ensures k.kind_at-code.ensures
-    u.if-end-file.false (sym (turns u) ∙ c.if-is_unturnable.true))
+    (omega arith) (sym (turns u) ∙ c.if-is_unturnable.true))
 
 returns-3 : tie.Need-returns-then-out-bytes
 returns-3 c =
@@ -54,7 +48,7 @@ returns-3 c =
     let k = u.before.before.before in
     rw c.refuse-then-out-bytes.ensures
     (single_no_room _ _ _ _ _ k.is_msb-msb.ensures k.length_at-whole.ensures k.kind_at-code.ensures
-    u.if-end-file.false (sym (turns u) ∙ measured.if-is_unturnable.false) _
+    (omega arith) (sym (turns u) ∙ measured.if-is_unturnable.false) _
     measured.measure_form-form.ensures.bytes c.if-out-bytes.true)
 
 write-form-requires : tie.Need-write_form-requires
@@ -79,7 +73,7 @@ returns-4 c =
     let start = k.before.before.before.before.before in
     rw c.accept.ensures
     (single_written _ start.args.out.now _ _ _ k.is_msb-msb.ensures k.length_at-whole.ensures
-    k.kind_at-code.ensures u.if-end-file.false (sym (turns u) ∙ measured.if-is_unturnable.false) _
+    k.kind_at-code.ensures (omega arith) (sym (turns u) ∙ measured.if-is_unturnable.false) _
     measured.measure_form-form.ensures.bytes fits.if-out-bytes.false _ _ stored.store4.ensures written.write_form.ensures.1)
 
 pub turn_tuple_spec : {M : Type 1} → statement M
@@ -91,7 +85,9 @@ turn_tuple_spec =
     (λ c κs. omega (arith, (there c.before.before.before.before).long, (there c.before.before.before.before).fits))
     (λ c. omega (arith, (whole (sound c).here).fits))
     (λ c κs. search rules)
-    returns
+    (λ c.
+    let k = c.before.before in
+    rw c.refuse.ensures (single_behind _ _ _ _ _ k.is_msb-msb.ensures k.length_at-whole.ensures k.kind_at-code.ensures (omega arith)))
     (λ c κs. search rules)
     (λ c κs. search rules)
     (λ c κs. search rules)

@@ -109,23 +109,12 @@ returns-2 c =
     let there = lt-ltb (first_bad (lettered w) (these w)) (length (these w)) (omega (arith, c.if-at-end.true, p, ended w)) in
     c.fault_at.ensures ∙ said w false true _ _ (few rule) (sym there) p refl
 
-returns-3 : tie.Need-returns-then-count-values
-returns-3 c =
-    let rule = c.before in
-    let join = rule.before in
-    let w = join.before.before in
-    let a = w.args in
-    c.fault_at-then-count-values.ensures
-    ∙ said w false false true _ (few join.before) (good join) refl
-    (sym (ap not (ne_eqb _ _ rule.if-count-values.true)) ∙ ap (λ (n : ℕ). not (eqb a.count n)) (valued w))
-
 returns-4 : tie.Need-returns
 returns-4 c =
     let join = c.before in
     let w = join.before.before in
-    let a = w.args in
     said w false false false _ (few join.before) (good join) refl
-    (sym (ap not (eq-eqb _ _ c.if-count-values.false)) ∙ ap (λ (n : ℕ). not (eqb a.count n)) (valued w))
+    (sym (ap not (eq-eqb w.args.count (values 256 (these w)) (omega (arith, valued w)))))
 
 pub judge_words_spec : {M : Type 1} → statement M
 judge_words_spec =
@@ -146,5 +135,10 @@ judge_words_spec =
     (λ c κs. search rules)
     returns-2
     (λ c κs. search rules)
-    returns-3
+    (λ c.
+    let join = c.before.before in
+    let w = join.before.before in
+    search rules
+    ∙ said w false false true _ (few join.before) (good join) refl
+    (sym (ap not (ne_eqb w.args.count (values 256 (these w)) (omega (arith, valued w))))))
     returns-4)

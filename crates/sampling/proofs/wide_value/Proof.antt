@@ -12,7 +12,7 @@ use Rattle.sampling.proofs.wide_value.Tie as tie
 returns : tie.Need-returns
 unfolding meant
 returns c =
-    word-valued wide refl c.args.word c.is_run.ensures
+    word-valued wide refl c.args.word (search rules)
     (to_z-of_z {w = w32} {z = c.signed4.result} (record { sfits = c.signed4.type_inv }) ∙ c.signed4.ensures)
 
 pub wide_value_spec : {M : Type 1} → statement M

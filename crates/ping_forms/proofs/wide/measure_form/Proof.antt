@@ -1,5 +1,6 @@
 -- `ping_forms::wide::measure_form` meets its contract: by its words packed, or by its number of samples; and its type. Assumes nothing.
-use mathlib.Core.Path.{sym, ◌∙◌}
+use mathlib.Core.Path.{◌≡◌, sym, ◌∙◌}
+use mathlib.Core.Bool.{true, false}
 use Prim.Native.Nat.{◌+◌, ◌*◌, ◌≤◌}
 use native.Mathlib.Omega.{arith}
 use borrow.Author.Rules.{rules}
@@ -27,26 +28,16 @@ packed : (c : tie.After-count_packed) →
     let a = c.args in
     28 + 4 * c.count_packed.result + 8 ≤ 2 * a.whole
 packed c =
-    let k = c.before in
-    let e = k.before in
-    (length-packed e.requires (bytes e.before.before) (sym e.ends_in_run.ensures
-    ∙ k.if-ends_in_run.true) _ c.count_packed.ensures).1
-
-returns : tie.Need-returns-then-ends_in_run
-returns c =
-    let k = c.before in
-    let e = k.before in
-    let s = e.before.before.before in
-    let h = sym e.ends_in_run.ensures ∙ k.if-ends_in_run.true in
-    let m = length-packed s.requires (bytes e.before.before) h _ c.count_packed.ensures in
-    record { bytes = m.0; twice = m.1; code = type-packed s.requires (bytes e.before.before) h }
+    let e = c.before.before in
+    (length-packed e.requires (bytes e.before.before) (sym e.ends_in_run.ensures ∙ search rules) _ c.count_packed.ensures).1
 
 returns-2 : tie.Need-returns
 returns-2 c =
     let k = c.before in
     let e = k.before in
     let s = e.before.before.before in
-    let h = sym e.ends_in_run.ensures ∙ k.if-ends_in_run.false in
+    let ran : e.ends_in_run.result ≡ false = search rules in
+    let h = sym e.ends_in_run.ensures ∙ ran in
     let m = length-sampled s.requires (bytes e.before.before) h _ c.read4-count.ensures in
     record { bytes = m.0; twice = m.1; code = type-sampled s.requires (bytes e.before.before) h }
 
@@ -65,7 +56,12 @@ measure_form_spec =
     (λ c. let r = room c.before.before.before.before.before in omega (arith, packed c))
     (λ c. let r = room c.before.before.before.before.before in omega (arith, packed c))
     (λ c. let r = room c.before.before.before.before.before in omega (arith, packed c))
-    returns
+    (λ c.
+    let e = c.before.before in
+    let ran : e.ends_in_run.result ≡ true = search rules in
+    let h = sym e.ends_in_run.ensures ∙ ran in
+    let m = length-packed e.requires (bytes e.before.before) h _ c.count_packed.ensures in
+    record { bytes = m.0; twice = m.1; code = type-packed e.requires (bytes e.before.before) h })
     (λ c. search rules)
     (λ c κs. let r = room c.before.before.before.before in omega arith)
     (λ c. search rules)

@@ -1,5 +1,6 @@
 -- `ping_forms::wide::write_form` meets its contract: by whether the ping's last word is a run. Assumes nothing.
-use mathlib.Core.Path.{sym, ◌∙◌}
+use mathlib.Core.Path.{◌≡◌, sym, ◌∙◌}
+use mathlib.Core.Bool.{false}
 use Prim.Native.Nat.{◌+◌, ◌≤◌}
 use native.Mathlib.Omega.{arith}
 use borrow.Author.Rules.{rules}
@@ -27,7 +28,7 @@ write-packed-requires c κs =
     let k = c.before in
     let e = k.before in
     let p = e.requires in
-    (p.0, (sym e.ends_in_run.ensures ∙ k.if-ends_in_run.true, omega (arith, p.1)))
+    (p.0, (sym e.ends_in_run.ensures ∙ search rules, omega (arith, p.1)))
 
 write-sampled-requires : tie.Need-write_sampled-requires
 write-sampled-requires c κs =
@@ -36,7 +37,8 @@ write-sampled-requires c κs =
     let e = k.before in
     let known = e.before.before.before in
     let p = known.requires in
-    let ends = sym e.ends_in_run.ensures ∙ k.if-ends_in_run.false in
+    let ran : e.ends_in_run.result ≡ false = search rules in
+    let ends = sym e.ends_in_run.ensures ∙ ran in
     let m = length-sampled p.0 (bytes known) ends _ r.read4-count.ensures in
     (p.0, (ends, (omega (arith, r.read4-count.ensures), omega (arith, m.0, p.1))))
 
@@ -47,7 +49,8 @@ returns-2 c =
     let k = r.before in
     let e = k.before in
     let known = e.before.before.before in
-    let ends = sym e.ends_in_run.ensures ∙ k.if-ends_in_run.false in
+    let ran : e.ends_in_run.result ≡ false = search rules in
+    let ends = sym e.ends_in_run.ensures ∙ ran in
     ((length-sampled known.requires.0 (bytes known) ends _ r.read4-count.ensures).0, w.write_sampled.ensures)
 
 pub write_form_spec : {M : Type 1} → statement M
