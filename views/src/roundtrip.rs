@@ -28,8 +28,7 @@ use lib.Dec.{lit<}
 use lib.ListN.{take}
 use Rattle.order.specs.Order.{Bytes}
 use Rattle.layout.specs.declared.Counts.{Counts}
-use Rattle.layout.specs.declared.Answer.{Answer}
-use Rattle.layout.specs.declared.Answer.TheVariants.{Accepted}
+use Rattle.layout.specs.Answer.{Answer, Accepted}
 use Rattle.layout.specs.Types.{listings, among, listing_of}
 use Rattle.rows.specs.Readers.{row_text, characters_at}
 use Rattle.roundtrip.specs.Held.{Holds}
@@ -38,8 +37,8 @@ use Rattle.roundtrip.proofs.Handed.{again-row, again-plain}
 
 const USES: &str = "\
 use Rattle.$module$.specs.declared.$Name$.{$Name$}
-use Rattle.$module$.specs.declared.$Name$Read.{$Name$Read}
-use Rattle.$module$.specs.declared.$Name$Read.TheVariants as $camel$
+use Rattle.$module$.specs.$Name$Read.{$Name$Read}
+use Rattle.$module$.specs.$Name$Read as $camel$
 use Rattle.$module$.specs.$Name$.{$module$_of, $module$_integers, $inverse$}
 use Rattle.$module$.specs.$Name$.{$Name$Typed, $Name$At, $Name$Written}
 use Rattle.$module$.specs.$Name$ as $camel$s

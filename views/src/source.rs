@@ -16,13 +16,14 @@ pub fn files(records: &[Record]) -> Vec<File> {
 const SOURCE: &str = "\
 // $made$
 $about$
-#![tactic(auto)]
+#![tactic(auto, unfolding(layout::specs::Types::listings, layout::specs::Types::among, layout::specs::Types::listing_of))]
 
 ghost use Rattle.std.specs.Prelude.{◌≡◌};
 ghost use Rattle.tuples.specs.Readers.{row_of};
 ghost use Rattle.rows.specs.Integers.{integers_from, patterns};
 ghost use Rattle.rows.specs.Places.{places_of};
-ghost use Rattle.$module$.specs.$Name$.{$module$_of, $module$_integers, $Name$At, $Name$Written};
+ghost use Rattle.layout.specs.Views.{as_answer};
+ghost use Rattle.$module$.specs.$Name$.{$module$_of, $module$_integers, $Name$At, $Name$Written, as_read};
 
 $uses$
 
@@ -80,13 +81,10 @@ $given$
 
     // Reads the tuple at a place of a file.
     pub fn read(file: &[u8], place: usize) -> $Name$Read
-        ensures { $Name$At file.now place result }
+        ensures { $Name$At file.now place (as_read result) }
     {
         let mut numbers = [0u32; $count$];
-        match rows::read_row(file, place, $Name$::CODE, &mut numbers) {
-            RowRead::Refused { code, place } => $Name$Read::Refused { code, place },
 $read$
-        }
     }
 
 $write$
@@ -120,9 +118,10 @@ fn source(record: &Record) -> String {
 fn uses(record: &Record) -> String {
     let numbers = record.numbers();
     let mut kinds: Vec<&str> = numbers.iter().filter_map(|f| f.kind.as_deref()).collect();
+    kinds.push("Refusal");
     kinds.sort_unstable();
     let layout = [vec!["Answer"], kinds, vec!["types"]].concat().join(", ");
-    let mut used = format!("use layout::{{{layout}}};\nuse rows::RowRead;");
+    let mut used = format!("use layout::{{{layout}}};");
     if record.text().is_some() {
         used.push_str("\nuse tuples::Part;");
     }
@@ -138,23 +137,15 @@ fn fields(record: &Record, before: &str) -> String {
 
 const GIVES: &str = "\
 // What reading gives: the record, or a refusal.
-#[derive(Clone, Copy)]
-pub enum $Name$Read {
-    Read($Name$),
-    Refused { code: u8, place: usize },
-}
+pub type $Name$Read = Result<$Name$, Refusal>;
 ";
 
 const GIVES_BESIDE: &str = "\
 // What reading gives: the record and the place of its $text$, or a refusal.
-#[derive(Clone, Copy)]
-pub enum $Name$Read {
-    Read { record: $Name$, $text$: Part },
-    Refused { code: u8, place: usize },
-}
+pub type $Name$Read = Result<($Name$, Part), Refusal>;
 ";
 
-/// The enum of what reading gives.
+/// The type of what reading gives.
 fn gives(record: &Record) -> String {
     let values = Values::of(record);
     match record.text() {
@@ -312,32 +303,27 @@ pub fn give(field: &Placed) -> String {
     }
 }
 
-const READ: &str = "            \
-RowRead::Read { text: _ } => $Name$Read::Read($Name$::of(numbers)),";
+const READ: &str = "        \
+rows::read_row(file, place, $Name$::CODE, &mut numbers)?;
+        Ok($Name$::of(numbers))";
 
-const READ_BESIDE: &str = "            \
-RowRead::Read { text } => $Name$Read::Read {
-                record: $Name$::of(numbers),
-                $beside$,
-            },";
+const READ_BESIDE: &str = "        \
+let $text$ = rows::read_row(file, place, $Name$::CODE, &mut numbers)?;
+        Ok(($Name$::of(numbers), $text$))";
 
-/// The arm of `read` for a record that is there.
+/// The lines of `read` behind the numbers' space.
 fn read(record: &Record) -> String {
     let values = Values::of(record);
-    let Some(text) = record.text() else {
-        return values.fill(READ);
-    };
-    let beside = match text.name.as_str() {
-        "text" => String::from("text"),
-        name => format!("{name}: text"),
-    };
-    values.with("beside", beside).fill(READ_BESIDE)
+    match record.text() {
+        Some(text) => values.with("text", &text.name).fill(READ_BESIDE),
+        None => values.fill(READ),
+    }
 }
 
 const WRITE: &str = "    \
 // Writes the tuple$how$.
     pub fn write(self, msb: bool, out: &mut [u8]) -> Answer
-        ensures { $Name$Written msb self out.old result out.new }
+        ensures { $Name$Written msb self out.old (as_answer result) out.new }
     {
         rows::write_row($Name$::CODE, &self.numbers(), $characters$, msb, out)
     }";
@@ -345,7 +331,7 @@ const WRITE: &str = "    \
 const WRITE_BESIDE: &str = "    \
 // Writes the tuple; $how$, then 19.
     pub fn write(self, $text$: &[u8], msb: bool, out: &mut [u8]) -> Answer
-        ensures { $Name$Written msb self $text$.now out.old result out.new }
+        ensures { $Name$Written msb self $text$.now out.old (as_answer result) out.new }
     {
         rows::write_row($Name$::CODE, &self.numbers(), $text$, msb, out)
     }";

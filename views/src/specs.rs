@@ -9,6 +9,7 @@ pub fn files(records: &[Record]) -> Vec<File> {
     for record in records {
         let folder = format!("crates/{}/specs", record.module);
         files.push((format!("{folder}/Lib.antt"), Values::of(record).fill(LIB)));
+        files.push((format!("{folder}/{}Read.antt", record.name), given(record)));
         files.push((format!("{folder}/{}.antt", record.name), specs(record)));
     }
     files
@@ -16,23 +17,49 @@ pub fn files(records: &[Record]) -> Vec<File> {
 
 const LIB: &str = "\
 -- $made$
+pub mod $Name$Read
 pub mod $Name$
 ";
+
+const GIVEN: &str = "\
+-- $made$
+-- What reading gives: the record$with$, or a refusal. Assumes nothing.
+use Rattle.std.specs.Prelude.{ℕ}
+$uses$use Rattle.$module$.specs.declared.$Name$.{$Name$}
+
+pub data $Name$Read : Type 0 where
+  Read : $Name$$part$ → $Name$Read
+  Refused : ℕ → ℕ → $Name$Read
+";
+
+fn given(record: &Record) -> String {
+    let (uses, part) = match record.text() {
+        Some(_) => (PART, " → Part"),
+        None => ("", ""),
+    };
+    Values::of(record)
+        .with("uses", uses)
+        .with("with", beside_said(record))
+        .with("part", part)
+        .fill(GIVEN)
+}
+
+const PART: &str = "use Rattle.tuples.specs.declared.Part.{Part}\n";
 
 const SPECS: &str = "\
 -- $made$
 $about$
-use Rattle.std.specs.Prelude.{◌≡◌, refl, Bool, List, [], ◌∷◌, ℕ, ℤ, pos}
+use Rattle.std.specs.Prelude.{◌≡◌, refl, Bool, List, [], ◌∷◌, ℕ, ℤ, pos, Result, Ok, Err}
 use Rattle.std.proofs.Common.{sym, ◌∙◌}
-use Rattle.layout.specs.declared.Answer.{Answer}
-use Rattle.layout.specs.declared.Answer.TheVariants.{Accepted}
-use Rattle.layout.specs.declared.Answer.TheVariants as answer
+use Rattle.layout.specs.declared.Refusal.{Refusal}
+use Rattle.layout.specs.Code.{number}
+use Rattle.layout.specs.Answer.{Answer, Accepted}
+use Rattle.layout.specs.Answer as answer
 use Rattle.layout.specs.Answers.{numbers, Tells, accepting}
 use Rattle.tuples.specs.Readers.{only, read_answer, row_of}
 $uses$
 use Rattle.$module$.specs.declared.$Name$.{$Name$}
-use Rattle.$module$.specs.declared.$Name$Read.{$Name$Read}
-use Rattle.$module$.specs.declared.$Name$Read.TheVariants.{Read, Refused}
+use Rattle.$module$.specs.$Name$Read.{$Name$Read, Read, Refused}
 
 -- the integers of the row under the fields' names
 abbrev pub $module$_of : List ℤ → $Name$
@@ -55,7 +82,12 @@ $inverse$ r = refl
 abbrev pub $Name$Typed : $Name$ → Type 0
 $Name$Typed r = Typed (row_of $code$ 0) ($module$_integers r)
 
--- ---- reading: 01's answer in each case
+-- ---- reading: what the code gives, in these words
+abbrev pub as_read : Result $gives$ Refusal → $Name$Read
+as_read (Ok r) = Read $read$
+as_read (Err r) = Refused (number r.code) r.place
+
+-- 01's answer in each case
 abbrev pub answer_of : $Name$Read → Answer
 answer_of (Read r$t$) = accepting 1 0
 answer_of (Refused c p) = answer.Refused c p
@@ -89,6 +121,8 @@ fn specs(record: &Record) -> String {
         .with("t", if beside { " t" } else { "" })
         .with("part", if beside { " → Part" } else { "" })
         .with("stands", stands)
+        .with("gives", if beside { "($Name$ × Part)" } else { "$Name$" })
+        .with("read", if beside { "r.0 r.1" } else { "r" })
         .with("written", written(record))
         .fill(SPECS)
 }

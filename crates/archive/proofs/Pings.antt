@@ -7,18 +7,18 @@ use mir.Facts.{to_z-of_z}
 use lib.IntN.{ℤ}
 use lib.ListN.{length, get_or}
 use Rattle.pings.specs.declared.PingHeader.{PingHeader}
-use Rattle.pings.specs.declared.PingLength.{PingLength}
-use Rattle.pings.specs.declared.PingLength.TheVariants.{Absent, Samples}
+use Rattle.pings.specs.PingLength.{PingLength}
+use Rattle.std.specs.Prelude.{Some, None}
 use Rattle.pings.specs.Fields.{length_numbers}
 
 -- by two numbers
 pub two-told : (l : PingLength) → length (length_numbers l) ≡ 2
-two-told Absent = refl
-two-told (Samples n) = refl
+two-told None = refl
+two-told (Some n) = refl
 
 pub both_told : (l : PingLength) → get_or (length_numbers l) 0 0 ∷ get_or (length_numbers l) 1 0 ∷ [] ≡ length_numbers l
-both_told Absent = refl
-both_told (Samples n) = refl
+both_told None = refl
+both_told (Some n) = refl
 
 -- a promise about a header and an attribute that were handed on, of the same ones
 module _ (W : PingHeader → ℤ → Type 0) (header : ℤ → PingHeader) {h : PingHeader} {b z : ℤ} where

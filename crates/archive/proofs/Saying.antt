@@ -7,7 +7,7 @@ use native.Mathlib.Omega.{arith}
 use borrow.Author.Tests.{lt-ltb, le-ltb}
 use lib.ListN.{length, drop, get_or}
 use lib.Seq.{sets, sets-eq}
-use Rattle.layout.specs.declared.Answer.{Answer}
+use Rattle.layout.specs.Answer.{Answer}
 use Rattle.layout.specs.Answers.{numbers}
 use Rattle.archive.specs.Saying.{head, SaidIf, Said, SaidAlone}
 use Rattle.archive.specs.Numbers.{five}

@@ -2,8 +2,8 @@
 use Prim.Native.Nat.{◌+◌, ◌≤◌}
 use native.Mathlib.Omega.{arith}
 use lib.ListN.{length}
-use Rattle.frame.specs.declared.Step.{Step}
-use Rattle.frame.specs.declared.Step.TheVariants.{Tuple, End, Refused}
+use Rattle.frame.specs.Step.{Step}
+use Rattle.frame.specs.Step.{Tuple, End, Refused}
 use Rattle.frame.specs.Steps.{step_numbers, step_fields}
 use Rattle.archive.specs.Saying.{head}
 use Rattle.archive.specs.Numbers.{told}

@@ -1,7 +1,7 @@
 -- The numbers by which an outcome is told. Assumes nothing.
 use Rattle.std.specs.Prelude.{Bool, true, false, List, [], ◌∷◌, ◌++◌, ℕ, ℤ}
 use Rattle.std.proofs.Math.Option.{Option, some, none}
-use Rattle.layout.specs.declared.Answer.{Answer}
+use Rattle.layout.specs.Answer.{Answer}
 use Rattle.layout.specs.Answers.{Numbers, numbers}
 use Rattle.pings.specs.declared.PingHeader.{PingHeader}
 

@@ -32,8 +32,5 @@ pub fn header_of(
 pub fn handed_length(has_length: bool, ping_length: u32) -> PingLength
     ensures { handed_length result ≡ handed_by has_length ping_length }
 {
-    if has_length {
-        return PingLength::Samples(ping_length);
-    }
-    PingLength::Absent
+    has_length.then_some(ping_length)
 }

@@ -19,11 +19,13 @@ mod of_wide_writers;
 ghost use Rattle.std.specs.Prelude.{◌≡◌, [], ◌∷◌, ◌++◌, ◌+◌, ◌≤◌, length};
 ghost use Rattle.std.proofs.lemmas.List.Edits.{sets};
 ghost use Rattle.layout.specs.Answers.{numbers};
-ghost use Rattle.layout.specs.declared.Answer.TheVariants.{Refused};
+ghost use Rattle.layout.specs.Code.{number};
+ghost use Rattle.layout.specs.Views.{as_answer};
+ghost use Rattle.layout.specs.Answer.{Refused};
 ghost use Rattle.archive.specs.Saying.{head};
 ghost use Rattle.archive.specs.Numbers.{five};
 
-use layout::{Answer, Counts};
+use layout::{Answer, Counts, Refusal};
 
 // The entries of an answer's own numbers; a call's fields stand behind them.
 const HEAD: usize = 5;
@@ -33,11 +35,7 @@ fn tell(answer: &mut [u64], at: usize, numbers: &[u64])
     requires { at + length numbers.now ≤ length answer.old }
     ensures { answer.new ≡ sets answer.old at numbers.now }
 {
-    let mut i: usize = 0;
-    while i < numbers.len() {
-        answer[at + i] = numbers[i];
-        i += 1;
-    }
+    answer[at..at + numbers.len()].copy_from_slice(numbers);
 }
 
 // Tells an answer's own numbers.
@@ -57,40 +55,41 @@ fn tell_head(answer: &mut [u64], code: u64, place: usize, counts: Counts)
 }
 
 // Tells a refusal, which counts nothing.
-fn tell_refusal(answer: &mut [u64], code: u8, place: usize) -> u8
+fn tell_refusal(answer: &mut [u64], refusal: Refusal) -> u8
     requires { head ≤ length answer.old }
-    ensures value { result ≡ code }
-    ensures answer_after { answer.new ≡ sets answer.old 0 (five (Refused code place)) }
+    ensures value { result ≡ number refusal.code }
+    ensures answer_after { answer.new ≡ sets answer.old 0 (five (Refused (number refusal.code) refusal.place)) }
 {
+    let code = refusal.code.number();
     let nothing = Counts {
         tuples: 0,
         written: 0,
         compared: 0,
     };
-    tell_head(answer, code as u64, place, nothing);
+    tell_head(answer, u64::from(code), refusal.place, nothing);
     code
 }
 
 // Tells an answer.
 fn tell_answer(answer: &mut [u64], said: Answer) -> u8
     requires { head ≤ length answer.old }
-    ensures value { result ≡ (numbers said).code }
-    ensures answer_after { answer.new ≡ sets answer.old 0 (five said) }
+    ensures value { result ≡ (numbers (as_answer said)).code }
+    ensures answer_after { answer.new ≡ sets answer.old 0 (five (as_answer said)) }
 {
     match said {
-        Answer::Accepted(counts) => {
+        Ok(counts) => {
             tell_head(answer, 0, 0, counts);
             0
         }
-        Answer::Refused { code, place } => tell_refusal(answer, code, place),
+        Err(refusal) => tell_refusal(answer, refusal),
     }
 }
 
 // Tells an answer, and the fields of what was found.
 fn tell_found(answer: &mut [u64], said: Answer, fields: &[u64]) -> u8
     requires { head + length fields.now ≤ length answer.old }
-    ensures value { result ≡ (numbers said).code }
-    ensures answer_after { answer.new ≡ sets answer.old 0 (five said ++ fields.now) }
+    ensures value { result ≡ (numbers (as_answer said)).code }
+    ensures answer_after { answer.new ≡ sets answer.old 0 (five (as_answer said) ++ fields.now) }
 {
     let code = tell_answer(answer, said);
     tell(answer, HEAD, fields);

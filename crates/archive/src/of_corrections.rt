@@ -7,8 +7,8 @@ ghost use Rattle.archive.specs.Saying.{head, SaidAlone};
 ghost use Rattle.archive.specs.Numbers.{five, told};
 
 use super::{HEAD, tell_found};
-use corrections::Found;
-use layout::{SoftwareChannel, codes};
+use layout::SoftwareChannel;
+use layout::codes::Code;
 
 // The entries of finding a ping.
 const FOUND: usize = HEAD + 2;
@@ -19,7 +19,7 @@ fn tell_part(answer: &mut [u64], mark: u8, from: usize, bytes: usize) -> u8
     ensures value { result ≡ 0 }
     ensures answer_after { answer.new ≡ sets answer.old 0 (five (accepting 1 bytes) ++ (mark ∷ from ∷ [])) }
 {
-    let fields = [mark as u64, from as u64];
+    let fields = [u64::from(mark), from as u64];
     tell_found(answer, layout::accept(1, bytes), &fields)
 }
 
@@ -36,18 +36,13 @@ pub extern "C" fn hac_find_ping(
         answer.old result answer.new }
 {
     if answer.len() < FOUND {
-        return codes::NO_ROOM;
+        return Code::NoRoom as u8;
     }
     match corrections::find_ping(deposit, corrections, SoftwareChannel(channel), number) {
-        Found::Corrected { from, length } => {
-            tell_part(answer, corrections::CORRECTIONS, from, length)
-        }
-        Found::Deposited { from, length } => {
-            tell_part(answer, corrections::DEPOSIT, from, length)
-        }
-        Found::Refused { mark, code, place } => {
-            let fields = [mark as u64];
-            tell_found(answer, layout::refuse(code, place), &fields)
+        Ok(held) => tell_part(answer, held.source.mark(), held.span.from, held.span.length),
+        Err(refused) => {
+            let fields = [u64::from(refused.mark())];
+            tell_found(answer, Err(refused.refusal), &fields)
         }
     }
 }

@@ -4,7 +4,7 @@ ghost use Rattle.archive.specs.Saying.{Said};
 ghost use Rattle.archive.specs.Numbers.{five};
 
 use super::{HEAD, tell_answer};
-use layout::codes;
+use layout::codes::Code;
 
 #[unsafe(no_mangle)]
 pub extern "C" fn hac_index(file: &[u8], out: &mut [u8], answer: &mut [u64]) -> u8
@@ -12,7 +12,7 @@ pub extern "C" fn hac_index(file: &[u8], out: &mut [u8], answer: &mut [u64]) -> 
         answer.old out.old result answer.new out.new }
 {
     if answer.len() < HEAD {
-        return codes::NO_ROOM;
+        return Code::NoRoom as u8;
     }
     tell_answer(answer, edits::index(file, out))
 }
@@ -23,7 +23,7 @@ pub extern "C" fn hac_append(file: &[u8], tuples: &[u8], out: &mut [u8], answer:
         answer.old out.old result answer.new out.new }
 {
     if answer.len() < HEAD {
-        return codes::NO_ROOM;
+        return Code::NoRoom as u8;
     }
     tell_answer(answer, edits::append(file, tuples, out))
 }
@@ -34,7 +34,7 @@ pub extern "C" fn hac_remove(file: &[u8], place: usize, out: &mut [u8], answer: 
         answer.old out.old result answer.new out.new }
 {
     if answer.len() < HEAD {
-        return codes::NO_ROOM;
+        return Code::NoRoom as u8;
     }
     tell_answer(answer, edits::remove(file, place, out))
 }

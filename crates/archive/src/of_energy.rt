@@ -1,12 +1,12 @@
 // Energies: the echo energy of a ping, and of all pings of a file.
+ghost use Rattle.layout.specs.Answer.{Answer};
 ghost use Rattle.std.specs.Prelude.{List, ℕ};
 ghost use Rattle.energy.specs.Energy.{energy_numbers, energy_fields, EnergyTold, EnergiesTold};
 ghost use Rattle.archive.specs.Saying.{Said, SaidAlone};
 ghost use Rattle.archive.specs.Numbers.{five, told};
 
 use super::{HEAD, tell_answer, tell_found, tell_refusal};
-use energy::Echo;
-use layout::{Answer, codes};
+use layout::codes::Code;
 
 // The entries of an energy.
 const ENERGY: usize = HEAD + 1;
@@ -17,14 +17,14 @@ pub extern "C" fn hac_energy(file: &[u8], place: usize, answer: &mut [u64]) -> u
         answer.old result answer.new }
 {
     if answer.len() < ENERGY {
-        return codes::NO_ROOM;
+        return Code::NoRoom as u8;
     }
     match energy::energy(file, place) {
-        Echo::Sum { units, counts } => {
-            let fields = [units];
-            tell_found(answer, Answer::Accepted(counts), &fields)
+        Ok(told) => {
+            let fields = [told.units];
+            tell_found(answer, Ok(told.counts), &fields)
         }
-        Echo::Refused { code, place } => tell_refusal(answer, code, place),
+        Err(refusal) => tell_refusal(answer, refusal),
     }
 }
 
@@ -44,7 +44,7 @@ pub extern "C" fn hac_energies(
         answer.new (places.new, energies.new, codes.new) }
 {
     if answer.len() < HEAD {
-        return codes::NO_ROOM;
+        return Code::NoRoom as u8;
     }
     tell_answer(answer, energy::energies(file, places, energies, codes))
 }

@@ -1,6 +1,7 @@
 // Whole files: the check, the walk, a ping's parents, the normal form.
 ghost use Rattle.std.specs.Prelude.{◌≡◌, ◌+◌, ◌≤◌, length, get_or};
 ghost use Rattle.std.proofs.lemmas.List.Edits.{sets};
+ghost use Rattle.frame.specs.Views.{as_step};
 ghost use Rattle.frame.specs.Steps.{step_numbers, step_fields, SteppedForward, SteppedBackward};
 ghost use Rattle.intake.specs.Check.{Checked};
 ghost use Rattle.intake.specs.Asking.{asked_numbers, asked_fields, AskedFor};
@@ -11,8 +12,7 @@ ghost use Rattle.archive.specs.Numbers.{five, told};
 
 use super::{HEAD, tell_answer, tell_found, tell_refusal};
 use frame::{Step, Walk};
-use intake::Asked;
-use layout::{Answer, codes};
+use layout::codes::Code;
 
 // The entries of a step and of asking.
 const STEP: usize = HEAD + 4;
@@ -24,7 +24,7 @@ pub extern "C" fn hac_check(file: &[u8], answer: &mut [u64]) -> u8
     ensures { SaidAlone 0 five (Checked file.now) answer.old result answer.new }
 {
     if answer.len() < HEAD {
-        return codes::NO_ROOM;
+        return Code::NoRoom as u8;
     }
     tell_answer(answer, intake::check(file))
 }
@@ -32,21 +32,21 @@ pub extern "C" fn hac_check(file: &[u8], answer: &mut [u64]) -> u8
 // Tells what a step finds.
 fn tell_step(answer: &mut [u64], step: Step) -> u8
     requires { head + 4 ≤ length answer.old }
-    ensures value { result ≡ get_or (told step_numbers step_fields step) 0 0 }
-    ensures answer_after { answer.new ≡ sets answer.old 0 (told step_numbers step_fields step) }
+    ensures value { result ≡ get_or (told step_numbers step_fields (as_step step)) 0 0 }
+    ensures answer_after { answer.new ≡ sets answer.old 0 (told step_numbers step_fields (as_step step)) }
 {
     match step {
-        Step::Tuple {
-            place,
-            length,
-            kind,
-            next,
-        } => {
-            let fields = [place as u64, length as u64, kind as u64, next.at as u64];
+        Ok(Some(tuple)) => {
+            let fields = [
+                tuple.place as u64,
+                tuple.length as u64,
+                tuple.kind as u64,
+                tuple.next.at as u64,
+            ];
             tell_found(answer, layout::accept(1, 0), &fields)
         }
-        Step::End => tell_answer(answer, layout::accept(0, 0)),
-        Step::Refused { code, place } => tell_refusal(answer, code, place),
+        Ok(None) => tell_answer(answer, layout::accept(0, 0)),
+        Err(refusal) => tell_refusal(answer, refusal),
     }
 }
 
@@ -56,7 +56,7 @@ pub extern "C" fn hac_forward(file: &[u8], place: usize, answer: &mut [u64]) -> 
         answer.old result answer.new }
 {
     if answer.len() < STEP {
-        return codes::NO_ROOM;
+        return Code::NoRoom as u8;
     }
     tell_step(answer, Walk { at: place }.forward(file))
 }
@@ -67,7 +67,7 @@ pub extern "C" fn hac_backward(file: &[u8], place: usize, answer: &mut [u64]) ->
         answer.old result answer.new }
 {
     if answer.len() < STEP {
-        return codes::NO_ROOM;
+        return Code::NoRoom as u8;
     }
     tell_step(answer, Walk { at: place }.backward(file))
 }
@@ -78,29 +78,21 @@ pub extern "C" fn hac_ask(file: &[u8], place: usize, answer: &mut [u64]) -> u8
         answer.old result answer.new }
 {
     if answer.len() < ASK {
-        return codes::NO_ROOM;
+        return Code::NoRoom as u8;
     }
     match intake::ask(file, place) {
-        Asked::Parents {
-            channel,
-            channel_place,
-            sampling_rate,
-            sample_type,
-            sounder,
-            sounder_place,
-            counts,
-        } => {
+        Ok(parents) => {
             let fields = [
-                channel.0 as u64,
-                channel_place as u64,
-                sampling_rate as u64,
-                sample_type as u64,
-                sounder.0 as u64,
-                sounder_place as u64,
+                parents.channel.0 as u64,
+                parents.channel_place as u64,
+                parents.sampling_rate as u64,
+                parents.sample_type as u64,
+                parents.sounder.0 as u64,
+                parents.sounder_place as u64,
             ];
-            tell_found(answer, Answer::Accepted(counts), &fields)
+            tell_found(answer, Ok(parents.counts), &fields)
         }
-        Asked::Refused { code, place } => tell_refusal(answer, code, place),
+        Err(refusal) => tell_refusal(answer, refusal),
     }
 }
 
@@ -110,7 +102,7 @@ pub extern "C" fn hac_normalise(file: &[u8], out: &mut [u8], answer: &mut [u64])
         answer.old out.old result answer.new out.new }
 {
     if answer.len() < HEAD {
-        return codes::NO_ROOM;
+        return Code::NoRoom as u8;
     }
     tell_answer(answer, normal::normalise(file, out))
 }
@@ -121,7 +113,7 @@ pub extern "C" fn hac_normalise_tuple(file: &[u8], out: &mut [u8], answer: &mut 
         answer.old out.old result answer.new out.new }
 {
     if answer.len() < HEAD {
-        return codes::NO_ROOM;
+        return Code::NoRoom as u8;
     }
     tell_answer(answer, normal::normalise_tuple(file, out))
 }

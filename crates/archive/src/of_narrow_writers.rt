@@ -5,7 +5,7 @@ ghost use Rattle.archive.specs.Saying.{Said};
 ghost use Rattle.archive.specs.Numbers.{five, header_with, handed_by};
 
 use super::{HEAD, handed, tell_answer};
-use layout::codes;
+use layout::codes::Code;
 
 #[unsafe(no_mangle)]
 pub extern "C" fn hac_write_u16(
@@ -29,7 +29,7 @@ pub extern "C" fn hac_write_u16(
         answer.old out.old result answer.new out.new }
 {
     if answer.len() < HEAD {
-        return codes::NO_ROOM;
+        return Code::NoRoom as u8;
     }
     let header = handed::header_of(
         time_fraction,
@@ -68,7 +68,7 @@ pub extern "C" fn hac_write_u16_angles(
         answer.old out.old result answer.new out.new }
 {
     if answer.len() < HEAD {
-        return codes::NO_ROOM;
+        return Code::NoRoom as u8;
     }
     let header = handed::header_of(
         time_fraction,
@@ -116,7 +116,7 @@ pub extern "C" fn hac_write_c16(
         answer.old out.old result answer.new out.new }
 {
     if answer.len() < HEAD {
-        return codes::NO_ROOM;
+        return Code::NoRoom as u8;
     }
     let header = handed::header_of(
         time_fraction,
@@ -157,7 +157,7 @@ pub extern "C" fn hac_write_ce16(
         answer.old out.old result answer.new out.new }
 {
     if answer.len() < HEAD {
-        return codes::NO_ROOM;
+        return Code::NoRoom as u8;
     }
     let header = handed::header_of(
         time_fraction,

@@ -1,18 +1,18 @@
 // Pings: fields, samples and angles read.
-ghost use Rattle.std.specs.Prelude.{◌≡◌, List, ℕ, ◌+◌, ◌≤◌, ℤ, length, get_or};
+ghost use Rattle.std.specs.Prelude.{Ok, ◌≡◌, List, ℕ, ◌+◌, ◌≤◌, ℤ, length, get_or};
 ghost use Rattle.std.proofs.lemmas.List.Edits.{sets};
-ghost use Rattle.layout.specs.declared.Answer.{Answer};
-ghost use Rattle.pings.specs.declared.PingRead.TheVariants.{Read};
+ghost use Rattle.layout.specs.Answer.{Answer};
+ghost use Rattle.pings.specs.Views.{as_ping};
 ghost use Rattle.pings.specs.Fields.{ping_numbers, kind_number, length_numbers, read_fields, PingAt};
 ghost use Rattle.pings.specs.Readers.{SamplesRead, AnglesRead};
 ghost use Rattle.archive.specs.Saying.{head, Said, SaidAlone};
 ghost use Rattle.archive.specs.Numbers.{five, told};
 
 use super::{HEAD, tell_answer, tell_found, tell_refusal};
-use layout::codes;
-use pings::{PingHeader, PingKind, PingLength, PingRead};
+use layout::codes::Code;
+use pings::{Ping, PingKind, PingLength};
 
-// The kinds of ping as numbers.
+// The kinds of ping by the numbers of include/hac.h, as C has them.
 const U32: u64 = 0;
 
 const C32: u64 = 1;
@@ -49,8 +49,8 @@ fn has_number(length: PingLength) -> u64
     ensures { result ≡ get_or (length_numbers length) 0 0 }
 {
     match length {
-        PingLength::Absent => 0,
-        PingLength::Samples(_) => 1,
+        None => 0,
+        Some(_) => 1,
     }
 }
 
@@ -59,25 +59,19 @@ fn length_number(length: PingLength) -> u64
     ensures { result ≡ get_or (length_numbers length) 1 0 }
 {
     match length {
-        PingLength::Absent => 0,
-        PingLength::Samples(all) => all as u64,
+        None => 0,
+        Some(all) => u64::from(all),
     }
 }
 
 // Tells the fields of a ping.
-fn tell_ping(
-    answer: &mut [u64],
-    header: PingHeader,
-    attribute: i32,
-    kind: PingKind,
-    values: usize,
-    ping_length: PingLength,
-) -> u8
+fn tell_ping(answer: &mut [u64], ping: Ping) -> u8
     requires { head + 11 ≤ length answer.old }
     ensures value { result ≡ 0 }
     ensures answer_after { answer.new
-        ≡ sets answer.old 0 (told ping_numbers read_fields (Read header attribute kind values ping_length)) }
+        ≡ sets answer.old 0 (told ping_numbers read_fields (as_ping (Ok ping))) }
 {
+    let header = ping.header;
     let fields = [
         header.time_fraction as u64,
         header.time_cpu as u64,
@@ -85,11 +79,11 @@ fn tell_ping(
         header.transmitter_mode as u64,
         header.ping_number as u64,
         order::pattern4(header.detected_bottom_range) as u64,
-        order::pattern4(attribute) as u64,
-        kind_number(kind),
-        values as u64,
-        has_number(ping_length),
-        length_number(ping_length),
+        order::pattern4(ping.attribute) as u64,
+        kind_number(ping.kind),
+        ping.values as u64,
+        has_number(ping.length),
+        length_number(ping.length),
     ];
     tell_found(answer, layout::accept(1, 0), &fields)
 }
@@ -100,17 +94,11 @@ pub extern "C" fn hac_read_ping(file: &[u8], place: usize, answer: &mut [u64]) -
         answer.old result answer.new }
 {
     if answer.len() < PING {
-        return codes::NO_ROOM;
+        return Code::NoRoom as u8;
     }
     match pings::read_ping(file, place) {
-        PingRead::Read {
-            header,
-            attribute,
-            kind,
-            values,
-            length,
-        } => tell_ping(answer, header, attribute, kind, values, length),
-        PingRead::Refused { code, place } => tell_refusal(answer, code, place),
+        Ok(ping) => tell_ping(answer, ping),
+        Err(refusal) => tell_refusal(answer, refusal),
     }
 }
 
@@ -129,7 +117,7 @@ pub extern "C" fn hac_read_samples(
         answer.new (numbers.new, values.new) }
 {
     if answer.len() < HEAD {
-        return codes::NO_ROOM;
+        return Code::NoRoom as u8;
     }
     tell_answer(answer, pings::read_samples(file, place, numbers, values))
 }
@@ -151,7 +139,7 @@ pub extern "C" fn hac_read_angles(
         answer.new (numbers.new, alongship.new, athwartship.new) }
 {
     if answer.len() < HEAD {
-        return codes::NO_ROOM;
+        return Code::NoRoom as u8;
     }
     tell_answer(
         answer,

@@ -1,11 +1,12 @@
 // Readings: what a viewer is shown for each sample number of a ping.
+ghost use Rattle.layout.specs.Answer.{Answer};
 ghost use Rattle.std.specs.Prelude.{List, Float, ℕ};
 ghost use Rattle.readings.specs.Readings.{ReadingsTold};
 ghost use Rattle.archive.specs.Saying.{Said};
 ghost use Rattle.archive.specs.Numbers.{five};
 
 use super::{HEAD, tell_answer};
-use layout::{Answer, codes};
+use layout::codes::Code;
 
 #[unsafe(no_mangle)]
 pub extern "C" fn hac_readings(
@@ -23,7 +24,7 @@ pub extern "C" fn hac_readings(
         answer.new (cases.new, doubles.new) }
 {
     if answer.len() < HEAD {
-        return codes::NO_ROOM;
+        return Code::NoRoom as u8;
     }
     tell_answer(
         answer,

@@ -6,8 +6,7 @@ ghost use Rattle.archive.specs.Saying.{Said};
 ghost use Rattle.archive.specs.Numbers.{five, told};
 
 use super::{HEAD, tell_answer, tell_found, tell_refusal};
-use layout::codes;
-use rows::RowRead;
+use layout::codes::Code;
 
 // The entries of a record that was read: behind the answer's numbers, where its characters stand and how many they are.
 const RECORD: usize = HEAD + 2;
@@ -24,14 +23,14 @@ pub extern "C" fn hac_read_record(
         answer.old numbers.old result answer.new numbers.new }
 {
     if answer.len() < RECORD {
-        return codes::NO_ROOM;
+        return Code::NoRoom as u8;
     }
     match rows::read_row(file, place, code, numbers) {
-        RowRead::Read { text } => {
+        Ok(text) => {
             let fields = [text.place as u64, text.length as u64];
             tell_found(answer, layout::accept(1, 0), &fields)
         }
-        RowRead::Refused { code, place } => tell_refusal(answer, code, place),
+        Err(refusal) => tell_refusal(answer, refusal),
     }
 }
 
@@ -48,7 +47,7 @@ pub extern "C" fn hac_write_record(
         answer.old out.old result answer.new out.new }
 {
     if answer.len() < HEAD {
-        return codes::NO_ROOM;
+        return Code::NoRoom as u8;
     }
     tell_answer(answer, rows::write_row(code, numbers, text, msb, out))
 }

@@ -1,12 +1,12 @@
 // Salvage: what is kept of a damaged recording.
+ghost use Rattle.salvage.specs.Outcome.{Outcome};
 ghost use Rattle.std.specs.Prelude.{List, ℕ};
 ghost use Rattle.salvage.specs.Salvage.{salvage_numbers, salvage_fields, Salvaged};
 ghost use Rattle.archive.specs.Saying.{Said};
 ghost use Rattle.archive.specs.Numbers.{told};
 
 use super::{HEAD, tell_found, tell_refusal};
-use layout::{Answer, codes};
-use salvage::Outcome;
+use layout::codes::Code;
 
 // The entries of a salvage.
 const SALVAGE: usize = HEAD + 2;
@@ -25,17 +25,13 @@ pub extern "C" fn hac_salvage(
         answer.new (out.new, table.new) }
 {
     if answer.len() < SALVAGE {
-        return codes::NO_ROOM;
+        return Code::NoRoom as u8;
     }
     match salvage::salvage(file, out, table) {
-        Outcome::Saved {
-            ranges,
-            tried,
-            counts,
-        } => {
-            let fields = [ranges as u64, tried as u64];
-            tell_found(answer, Answer::Accepted(counts), &fields)
+        Ok(saved) => {
+            let fields = [saved.ranges as u64, saved.tried as u64];
+            tell_found(answer, Ok(saved.counts), &fields)
         }
-        Outcome::Refused { code, place } => tell_refusal(answer, code, place),
+        Err(refusal) => tell_refusal(answer, refusal),
     }
 }

@@ -1,11 +1,12 @@
 // Settings: which thresholds and attitudes held at each ping.
+ghost use Rattle.layout.specs.Answer.{Answer};
 ghost use Rattle.std.specs.Prelude.{List, ℕ};
 ghost use Rattle.settings.specs.Settings.{SettingsTold};
 ghost use Rattle.archive.specs.Saying.{Said};
 ghost use Rattle.archive.specs.Numbers.{five};
 
 use super::{HEAD, tell_answer};
-use layout::{Answer, codes};
+use layout::codes::Code;
 
 #[unsafe(no_mangle)]
 pub extern "C" fn hac_settings(
@@ -23,7 +24,7 @@ pub extern "C" fn hac_settings(
         answer.new (pings.new, thresholds.new, attitudes.new) }
 {
     if answer.len() < HEAD {
-        return codes::NO_ROOM;
+        return Code::NoRoom as u8;
     }
     tell_answer(
         answer,

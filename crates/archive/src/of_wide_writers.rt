@@ -5,7 +5,7 @@ ghost use Rattle.archive.specs.Saying.{Said};
 ghost use Rattle.archive.specs.Numbers.{five, header_with, handed_by};
 
 use super::{HEAD, handed, tell_answer};
-use layout::codes;
+use layout::codes::Code;
 
 #[unsafe(no_mangle)]
 pub extern "C" fn hac_write_u32(
@@ -29,7 +29,7 @@ pub extern "C" fn hac_write_u32(
         answer.old out.old result answer.new out.new }
 {
     if answer.len() < HEAD {
-        return codes::NO_ROOM;
+        return Code::NoRoom as u8;
     }
     let header = handed::header_of(
         time_fraction,
@@ -69,7 +69,7 @@ pub extern "C" fn hac_write_c32(
         answer.old out.old result answer.new out.new }
 {
     if answer.len() < HEAD {
-        return codes::NO_ROOM;
+        return Code::NoRoom as u8;
     }
     let header = handed::header_of(
         time_fraction,
@@ -109,7 +109,7 @@ pub extern "C" fn hac_write_u32_16_angles(
         answer.old out.old result answer.new out.new }
 {
     if answer.len() < HEAD {
-        return codes::NO_ROOM;
+        return Code::NoRoom as u8;
     }
     let header = handed::header_of(
         time_fraction,

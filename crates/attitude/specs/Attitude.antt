@@ -1,18 +1,18 @@
 -- Made from views/records.txt by views/make.
 -- Attitude, type 40: TR Table 10. A platform's. Software channel 65535 means all channels, here alone. Assumes nothing.
-use Rattle.std.specs.Prelude.{◌≡◌, refl, Bool, List, [], ◌∷◌, ℕ, ℤ, pos}
+use Rattle.std.specs.Prelude.{◌≡◌, refl, Bool, List, [], ◌∷◌, ℕ, ℤ, pos, Result, Ok, Err}
 use Rattle.std.proofs.Common.{sym, ◌∙◌}
-use Rattle.layout.specs.declared.Answer.{Answer}
-use Rattle.layout.specs.declared.Answer.TheVariants.{Accepted}
-use Rattle.layout.specs.declared.Answer.TheVariants as answer
+use Rattle.layout.specs.declared.Refusal.{Refusal}
+use Rattle.layout.specs.Code.{number}
+use Rattle.layout.specs.Answer.{Answer, Accepted}
+use Rattle.layout.specs.Answer as answer
 use Rattle.layout.specs.Answers.{numbers, Tells, accepting}
 use Rattle.tuples.specs.Readers.{only, read_answer, row_of}
 use Rattle.tuples.specs.Writers.{Written, plain_bytes}
 use Rattle.rows.specs.Writers.{row_values}
 use Rattle.rows.specs.Integers.{signed_at, unsigned_at, patterns, row_integers, Typed}
 use Rattle.attitude.specs.declared.Attitude.{Attitude}
-use Rattle.attitude.specs.declared.AttitudeRead.{AttitudeRead}
-use Rattle.attitude.specs.declared.AttitudeRead.TheVariants.{Read, Refused}
+use Rattle.attitude.specs.AttitudeRead.{AttitudeRead, Read, Refused}
 
 -- the integers of the row under the fields' names
 abbrev pub attitude_of : List ℤ → Attitude
@@ -53,7 +53,12 @@ attitude_inverse r = refl
 abbrev pub AttitudeTyped : Attitude → Type 0
 AttitudeTyped r = Typed (row_of 40 0) (attitude_integers r)
 
--- ---- reading: 01's answer in each case
+-- ---- reading: what the code gives, in these words
+abbrev pub as_read : Result Attitude Refusal → AttitudeRead
+as_read (Ok r) = Read r
+as_read (Err r) = Refused (number r.code) r.place
+
+-- 01's answer in each case
 abbrev pub answer_of : AttitudeRead → Answer
 answer_of (Read r) = accepting 1 0
 answer_of (Refused c p) = answer.Refused c p

@@ -1,15 +1,15 @@
 // Made from views/records.txt by views/make.
 // Attitude, type 40: TR Table 10. A platform's. Software channel 65535 means all channels, here alone.
-#![tactic(auto)]
+#![tactic(auto, unfolding(layout::specs::Types::listings, layout::specs::Types::among, layout::specs::Types::listing_of))]
 
 ghost use Rattle.std.specs.Prelude.{◌≡◌};
 ghost use Rattle.tuples.specs.Readers.{row_of};
 ghost use Rattle.rows.specs.Integers.{integers_from, patterns};
 ghost use Rattle.rows.specs.Places.{places_of};
-ghost use Rattle.attitude.specs.Attitude.{attitude_of, attitude_integers, AttitudeAt, AttitudeWritten};
+ghost use Rattle.layout.specs.Views.{as_answer};
+ghost use Rattle.attitude.specs.Attitude.{attitude_of, attitude_integers, AttitudeAt, AttitudeWritten, as_read};
 
-use layout::{Answer, SoftwareChannel, types};
-use rows::RowRead;
+use layout::{Answer, Refusal, SoftwareChannel, types};
 
 #[derive(Clone, Copy)]
 pub struct Attitude {
@@ -26,11 +26,7 @@ pub struct Attitude {
 }
 
 // What reading gives: the record, or a refusal.
-#[derive(Clone, Copy)]
-pub enum AttitudeRead {
-    Read(Attitude),
-    Refused { code: u8, place: usize },
-}
+pub type AttitudeRead = Result<Attitude, Refusal>;
 
 impl Attitude {
     pub const CODE: u16 = types::ATTITUDE;
@@ -157,18 +153,16 @@ impl Attitude {
 
     // Reads the tuple at a place of a file.
     pub fn read(file: &[u8], place: usize) -> AttitudeRead
-        ensures { AttitudeAt file.now place result }
+        ensures { AttitudeAt file.now place (as_read result) }
     {
         let mut numbers = [0u32; 10];
-        match rows::read_row(file, place, Attitude::CODE, &mut numbers) {
-            RowRead::Refused { code, place } => AttitudeRead::Refused { code, place },
-            RowRead::Read { text: _ } => AttitudeRead::Read(Attitude::of(numbers)),
-        }
+        rows::read_row(file, place, Attitude::CODE, &mut numbers)?;
+        Ok(Attitude::of(numbers))
     }
 
     // Writes the tuple; 19 alone refuses it.
     pub fn write(self, msb: bool, out: &mut [u8]) -> Answer
-        ensures { AttitudeWritten msb self out.old result out.new }
+        ensures { AttitudeWritten msb self out.old (as_answer result) out.new }
     {
         rows::write_row(Attitude::CODE, &self.numbers(), &[], msb, out)
     }

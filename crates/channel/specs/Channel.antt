@@ -1,11 +1,12 @@
 -- Made from views/records.txt by views/make.
 -- Channel, type 1000: TR Table 4. A channel of a Biosonics echosounder, which names one of that maker. Its remarks, 30
 -- characters, stand beside it; to write others is refused by 9 at 0. Assumes nothing.
-use Rattle.std.specs.Prelude.{◌≡◌, refl, Bool, List, [], ◌∷◌, ℕ, ℤ, pos}
+use Rattle.std.specs.Prelude.{◌≡◌, refl, Bool, List, [], ◌∷◌, ℕ, ℤ, pos, Result, Ok, Err}
 use Rattle.std.proofs.Common.{sym, ◌∙◌}
-use Rattle.layout.specs.declared.Answer.{Answer}
-use Rattle.layout.specs.declared.Answer.TheVariants.{Accepted}
-use Rattle.layout.specs.declared.Answer.TheVariants as answer
+use Rattle.layout.specs.declared.Refusal.{Refusal}
+use Rattle.layout.specs.Code.{number}
+use Rattle.layout.specs.Answer.{Answer, Accepted}
+use Rattle.layout.specs.Answer as answer
 use Rattle.layout.specs.Answers.{numbers, Tells, accepting}
 use Rattle.tuples.specs.Readers.{only, read_answer, row_of}
 use Rattle.tuples.specs.declared.Part.{Part}
@@ -13,8 +14,7 @@ use Rattle.rows.specs.Readers.{row_text}
 use Rattle.rows.specs.Writers.{RowWritten}
 use Rattle.rows.specs.Integers.{signed_at, unsigned_at, patterns, row_integers, Typed}
 use Rattle.channel.specs.declared.Channel.{Channel}
-use Rattle.channel.specs.declared.ChannelRead.{ChannelRead}
-use Rattle.channel.specs.declared.ChannelRead.TheVariants.{Read, Refused}
+use Rattle.channel.specs.ChannelRead.{ChannelRead, Read, Refused}
 
 -- the integers of the row under the fields' names
 abbrev pub channel_of : List ℤ → Channel
@@ -85,7 +85,12 @@ channel_inverse r = refl
 abbrev pub ChannelTyped : Channel → Type 0
 ChannelTyped r = Typed (row_of 1000 0) (channel_integers r)
 
--- ---- reading: 01's answer in each case
+-- ---- reading: what the code gives, in these words
+abbrev pub as_read : Result (Channel × Part) Refusal → ChannelRead
+as_read (Ok r) = Read r.0 r.1
+as_read (Err r) = Refused (number r.code) r.place
+
+-- 01's answer in each case
 abbrev pub answer_of : ChannelRead → Answer
 answer_of (Read r t) = accepting 1 0
 answer_of (Refused c p) = answer.Refused c p

@@ -1,16 +1,16 @@
 // Made from views/records.txt by views/make.
 // Channel, type 1000: TR Table 4. A channel of a Biosonics echosounder, which names one of that maker. Its remarks, 30
 // characters, stand beside it; to write others is refused by 9 at 0.
-#![tactic(auto)]
+#![tactic(auto, unfolding(layout::specs::Types::listings, layout::specs::Types::among, layout::specs::Types::listing_of))]
 
 ghost use Rattle.std.specs.Prelude.{◌≡◌};
 ghost use Rattle.tuples.specs.Readers.{row_of};
 ghost use Rattle.rows.specs.Integers.{integers_from, patterns};
 ghost use Rattle.rows.specs.Places.{places_of};
-ghost use Rattle.channel.specs.Channel.{channel_of, channel_integers, ChannelAt, ChannelWritten};
+ghost use Rattle.layout.specs.Views.{as_answer};
+ghost use Rattle.channel.specs.Channel.{channel_of, channel_integers, ChannelAt, ChannelWritten, as_read};
 
-use layout::{Answer, DocumentId, SoftwareChannel, Transceiver, types};
-use rows::RowRead;
+use layout::{Answer, DocumentId, Refusal, SoftwareChannel, Transceiver, types};
 use tuples::Part;
 
 #[derive(Clone, Copy)]
@@ -43,11 +43,7 @@ pub struct Channel {
 }
 
 // What reading gives: the record and the place of its remarks, or a refusal.
-#[derive(Clone, Copy)]
-pub enum ChannelRead {
-    Read { record: Channel, remarks: Part },
-    Refused { code: u8, place: usize },
-}
+pub type ChannelRead = Result<(Channel, Part), Refusal>;
 
 impl Channel {
     pub const CODE: u16 = types::CHANNEL;
@@ -302,21 +298,16 @@ impl Channel {
 
     // Reads the tuple at a place of a file.
     pub fn read(file: &[u8], place: usize) -> ChannelRead
-        ensures { ChannelAt file.now place result }
+        ensures { ChannelAt file.now place (as_read result) }
     {
         let mut numbers = [0u32; 25];
-        match rows::read_row(file, place, Channel::CODE, &mut numbers) {
-            RowRead::Refused { code, place } => ChannelRead::Refused { code, place },
-            RowRead::Read { text } => ChannelRead::Read {
-                record: Channel::of(numbers),
-                remarks: text,
-            },
-        }
+        let remarks = rows::read_row(file, place, Channel::CODE, &mut numbers)?;
+        Ok((Channel::of(numbers), remarks))
     }
 
     // Writes the tuple; 9 unless there are 30 characters of remarks, then 19.
     pub fn write(self, remarks: &[u8], msb: bool, out: &mut [u8]) -> Answer
-        ensures { ChannelWritten msb self remarks.now out.old result out.new }
+        ensures { ChannelWritten msb self remarks.now out.old (as_answer result) out.new }
     {
         rows::write_row(Channel::CODE, &self.numbers(), remarks, msb, out)
     }

@@ -14,7 +14,7 @@ use lib.Seq.{length-take-le, take_at, drop_at}
 use Rattle.order.specs.Order.{num_of, bytes_of, Bytes}
 use Rattle.order.proofs.Laws.{length_bytes_of, num_of_bytes_of, num_of_bound, bytes_take, bytes_drop, bytes_append, bytes-ordered, bytes-lows}
 use Rattle.rules.proofs.Bools.{and_false, or_left, or_right}
-use Rattle.layout.specs.declared.Verdict.TheVariants.{Fine}
+use Rattle.layout.specs.Verdict.{Fine}
 use Rattle.layout.specs.Answers.{judged}
 use Rattle.layout.specs.Families.{Family, has_u, has_c, value_bytes, sample_bytes, radix_of}
 use Rattle.layout.specs.Types.{Shape, uncompressed, compressed, fitting, ping_row}

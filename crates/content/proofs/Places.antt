@@ -32,7 +32,7 @@ use Rattle.samples.specs.Words.{all_words, all_samples}
 use Rattle.samples.specs.Runs.{ping_length}
 use Rattle.samples.specs.Values.{samples_in, held_words}
 use Rattle.samples.specs.Judging.{sample_rules, word_rules, judged_samples, judged_words}
-use Rattle.layout.specs.declared.Verdict.TheVariants.{Fine}
+use Rattle.layout.specs.Verdict.{Fine}
 use Rattle.layout.specs.Answers.{judged}
 use Rattle.content.proofs.Fine.{row-size, upward-least}
 use Rattle.content.proofs.Families.{PingCode, class_u, class_c, plain-least, some_sample_bytes}

@@ -12,9 +12,8 @@ use lib.ListN.{take, drop}
 use lib.Seq.{drop-drop, drop_at, take_at}
 use Rattle.rules.proofs.Bools.{both_true}
 use Rattle.order.specs.Order.{Bytes}
-use Rattle.layout.specs.declared.Answer.{Answer}
-use Rattle.layout.specs.declared.Answer.TheVariants.{Accepted}
-use Rattle.layout.specs.declared.Answer.TheVariants
+use Rattle.layout.specs.Answer.{Answer}
+use Rattle.layout.specs.Answer.{Accepted}
 use Rattle.layout.specs.declared.SoftwareChannel.{SoftwareChannel}
 use Rattle.frame.specs.Frames.{Tup, length_of, frame, frames}
 use Rattle.frame.specs.Files.{is_msb, mark}
@@ -26,10 +25,10 @@ use Rattle.content.specs.Items.{Item, plain, ping, raw, item_of, number_at}
 use Rattle.intake.specs.Check.{check_file}
 use Rattle.intake.specs.inner.Sound.{Accepts}
 use Rattle.intake.proofs.Accepted.{divided}
-use Rattle.corrections.specs.declared.Found.{Found}
-use Rattle.corrections.specs.declared.Found.TheVariants.{Corrected, Deposited, Refused}
-use Rattle.corrections.specs.declared.Spot.{Spot}
-use Rattle.corrections.specs.declared.Spot.TheVariants.{At, Nowhere}
+use Rattle.corrections.specs.Found.{Found}
+use Rattle.corrections.specs.Found.{Corrected, Deposited, Refused}
+use Rattle.corrections.specs.Spot.{Spot}
+use Rattle.corrections.specs.Spot.{At, Nowhere}
 use Rattle.corrections.specs.Corrections.{wanted, first_that, ping_in, chosen, found_by, found_of, part_of, found_numbers, mark_of}
 use Rattle.corrections.specs.Parts.{NoneOf, FirstPing, alone_by, Call, Hands, SameBack, Corrections}
 use Rattle.corrections.proofs.Wanted.{wants, first-here, first-later}
@@ -151,8 +150,8 @@ module _ (d k : List ℕ) (c : SoftwareChannel) (n : ℕ) where
       by-spots i j Nowhere Nowhere p q = tt
 
       by_checks : (a b : Answer) → check_file d ≡ a → check_file k ≡ b → Tells (found_by d k c n a b)
-      by_checks (TheVariants.Refused x p) b e h = tt
-      by_checks (Accepted i) (TheVariants.Refused x p) e h = tt
+      by_checks (Answer.Refused x p) b e h = tt
+      by_checks (Accepted i) (Answer.Refused x p) e h = tt
       by_checks (Accepted i) (Accepted j) e h =
           by-spots (record { counts = i; answer = e }) (record { counts = j; answer = h }) (ping_in true k c n) (ping_in false d c n) refl
           refl
@@ -169,12 +168,12 @@ module _ (d k : List ℕ) (c : SoftwareChannel) (n : ℕ) where
   found-alone j h = ap (found_by d k c n (check_file d)) j.answer ∙ by (check_file d)
     where
       by : (x : Answer) → found_by d k c n x (Accepted j.counts) ≡ alone_by d c n x
-      by (TheVariants.Refused x p) = refl
+      by (Answer.Refused x p) = refl
       by (Accepted i) = ap (λ (x : Spot). chosen x (ping_in false d c n)) h
 
 -- its part lies in the deposit, whatever the corrections
 part-alone : (d k l : List ℕ) (c : SoftwareChannel) (n : ℕ) (x : Answer) → part_of d k (alone_by d c n x) ≡ part_of d l (alone_by d c n x)
-part-alone d k l c n (TheVariants.Refused x p) = refl
+part-alone d k l c n (Answer.Refused x p) = refl
 part-alone d k l c n (Accepted i) = by (ping_in false d c n)
   where
     by : (y : Spot) → part_of d k (chosen Nowhere y) ≡ part_of d l (chosen Nowhere y)

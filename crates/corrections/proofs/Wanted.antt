@@ -24,7 +24,7 @@ use Rattle.intake.specs.inner.Sound.{SoundHere, Accepts}
 use Rattle.intake.proofs.Judges.{whole, sound-fits, long_u, long_c}
 use Rattle.intake.proofs.Loops.{Passing, passing-begin, passing-sound, passing-whole, passing-again, passing-stop, passing-less}
 use Rattle.intake.proofs.Loops.{passing-done}
-use Rattle.corrections.specs.declared.Spot.TheVariants.{At, Nowhere}
+use Rattle.corrections.specs.Spot.{At, Nowhere}
 use Rattle.corrections.specs.Corrections.{wanted, first_that, ping_in}
 use Rattle.corrections.specs.inner.Spans.{Inside}
 

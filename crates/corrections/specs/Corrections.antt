@@ -3,9 +3,8 @@
 use Rattle.std.specs.Prelude.{◌≡◌, ℕ, ◌+◌, Bool, true, false, not, ◌&&◌, ◌||◌, List, [], ◌∷◌, eqb, take, drop}
 use Rattle.std.proofs.Common.{sym, ◌∙◌}
 use Rattle.std.proofs.Math.Option.{Option, some, none}
-use Rattle.layout.specs.declared.Answer.{Answer}
-use Rattle.layout.specs.declared.Answer.TheVariants.{Accepted}
-use Rattle.layout.specs.declared.Answer.TheVariants
+use Rattle.layout.specs.Answer.{Answer}
+use Rattle.layout.specs.Answer.{Accepted}
 use Rattle.layout.specs.declared.SoftwareChannel.{SoftwareChannel}
 use Rattle.layout.specs.Answers.{Numbers, counts, acceptance, refusal, Tells}
 use Rattle.frame.specs.Frames.{Tup, length_of}
@@ -13,10 +12,10 @@ use Rattle.frame.specs.Files.{is_msb}
 use Rattle.frame.specs.Tuples.{tuples_of}
 use Rattle.content.specs.Items.{Item, plain, ping, raw, item_of, number_at}
 use Rattle.intake.specs.Check.{check_file}
-use Rattle.corrections.specs.declared.Found.{Found}
-use Rattle.corrections.specs.declared.Found.TheVariants.{Corrected, Deposited, Refused}
-use Rattle.corrections.specs.declared.Spot.{Spot}
-use Rattle.corrections.specs.declared.Spot.TheVariants.{At, Nowhere}
+use Rattle.corrections.specs.Found.{Found}
+use Rattle.corrections.specs.Found.{Corrected, Deposited, Refused}
+use Rattle.corrections.specs.Spot.{Spot}
+use Rattle.corrections.specs.Spot.{At, Nowhere}
 
 -- ---- the ping that is wanted
 -- a listed ping of a channel and a number, by its header; where `edited` says so, with attribute 1
@@ -51,8 +50,8 @@ chosen Nowhere Nowhere = Refused 0 31 0
 
 -- the deposit's own refusal first, then the corrections', each with its file's mark
 abbrev pub found_by : List ℕ → List ℕ → SoftwareChannel → ℕ → Answer → Answer → Found
-found_by d k c n (TheVariants.Refused x p) b = Refused deposit_mark x p
-found_by d k c n (Accepted i) (TheVariants.Refused x p) = Refused corrections_mark x p
+found_by d k c n (Answer.Refused x p) b = Refused deposit_mark x p
+found_by d k c n (Accepted i) (Answer.Refused x p) = Refused corrections_mark x p
 found_by d k c n (Accepted i) (Accepted j) = chosen (ping_in true k c n) (ping_in false d c n)
 
 unfoldable pub found_of : List ℕ → List ℕ → SoftwareChannel → ℕ → Found

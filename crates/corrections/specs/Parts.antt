@@ -4,9 +4,8 @@
 use Rattle.std.specs.Prelude.{◌≡◌, ◌⊎◌, ℕ, Bool, true, false, List, [], ◌∷◌, ◌++◌}
 use Rattle.std.proofs.Math.Option.{some}
 use Rattle.order.specs.Order.{Bytes}
-use Rattle.layout.specs.declared.Answer.{Answer}
-use Rattle.layout.specs.declared.Answer.TheVariants.{Accepted}
-use Rattle.layout.specs.declared.Answer.TheVariants
+use Rattle.layout.specs.Answer.{Answer}
+use Rattle.layout.specs.Answer.{Accepted}
 use Rattle.layout.specs.declared.SoftwareChannel.{SoftwareChannel}
 use Rattle.frame.specs.Frames.{Tup, frame}
 use Rattle.frame.specs.Files.{is_msb}
@@ -14,9 +13,9 @@ use Rattle.frame.specs.Tuples.{tuples_of}
 use Rattle.content.specs.Pings.{Ping}
 use Rattle.content.specs.Items.{ping, item_of, number_at}
 use Rattle.intake.specs.inner.Sound.{Accepts}
-use Rattle.corrections.specs.declared.Found.{Found}
-use Rattle.corrections.specs.declared.Found.TheVariants.{Refused}
-use Rattle.corrections.specs.declared.Spot.TheVariants.{At, Nowhere}
+use Rattle.corrections.specs.Found.{Found}
+use Rattle.corrections.specs.Found.{Refused}
+use Rattle.corrections.specs.Spot.{At, Nowhere}
 use Rattle.corrections.specs.Corrections.{wanted, ping_in, deposit_mark, corrections_mark, chosen, CorrectedBy}
 
 -- none of these tuples is wanted
@@ -43,7 +42,7 @@ pub record FirstPing (edited : Bool) (f : List ℕ) (c : SoftwareChannel) (n : �
 
 -- what the deposit alone gives
 abbrev pub alone_by : List ℕ → SoftwareChannel → ℕ → Answer → Found
-alone_by d c n (TheVariants.Refused x p) = Refused deposit_mark x p
+alone_by d c n (Answer.Refused x p) = Refused deposit_mark x p
 alone_by d c n (Accepted i) = chosen Nowhere (ping_in false d c n)
 
 -- ---- a call, and what it handed back

@@ -5,26 +5,44 @@ ghost use Rattle.std.specs.Prelude.{◌≡◌, drop};
 ghost use Rattle.frame.specs.Frames.{kind_at, tup_at};
 ghost use Rattle.content.specs.Items.{item_of};
 ghost use Rattle.intake.specs.inner.Sound.{SoundHere, Accepts};
-ghost use Rattle.corrections.specs.Corrections.{wanted, ping_in, chosen, found_of, part_of, found_numbers, mark_of, PingFound};
-ghost use Rattle.corrections.specs.Corrections.{CorrectedBy};
+ghost use Rattle.corrections.specs.Corrections.{wanted, ping_in, chosen, found_of, part_of, PingFound, CorrectedBy};
+ghost use Rattle.corrections.specs.Views.{source_mark, whose_mark, as_spot, held_as, as_found};
 ghost use Rattle.corrections.specs.inner.Spans.{Inside, Within};
 
-use layout::{Answer, SoftwareChannel, codes};
+use frame::passing;
+use layout::codes::Code;
+use layout::{Refusal, SoftwareChannel};
 
-// Where a ping stands in a file, and its length; or that none is there.
-#[derive(Clone, Copy)]
-pub enum Spot {
-    At { from: usize, length: usize },
-    Nowhere,
+// Which of the two files something is from.
+#[derive(Clone, Copy, Debug, PartialEq, Eq)]
+pub enum Source {
+    Deposit,
+    Corrections,
 }
 
-// Where the bytes stand: in which file, from where on and how many; or whose refusal, by its file's mark, its code and its place.
-#[derive(Clone, Copy)]
-pub enum Found {
-    Corrected { from: usize, length: usize },
-    Deposited { from: usize, length: usize },
-    Refused { mark: u8, code: u8, place: usize },
+// The bytes of a ping in a file: from where on, and how many.
+#[derive(Clone, Copy, Debug, PartialEq, Eq)]
+pub struct Span {
+    pub from: usize,
+    pub length: usize,
 }
+
+// The bytes of a ping in the file that it is from.
+#[derive(Clone, Copy, Debug, PartialEq, Eq)]
+pub struct Held {
+    pub source: Source,
+    pub span: Span,
+}
+
+// A refusal, and whose it is: a file's, or that neither holds the ping.
+#[derive(Clone, Copy, Debug, PartialEq, Eq)]
+pub struct FileRefusal {
+    pub source: Option<Source>,
+    pub refusal: Refusal,
+}
+
+// Where the bytes stand, or why none are found.
+pub type Found = Result<Held, FileRefusal>;
 
 // The marks: of neither file, of the deposit, of the corrections.
 pub const NEITHER: u8 = 0;
@@ -35,6 +53,30 @@ pub const CORRECTIONS: u8 = 2;
 
 // The code of a part.
 const ACCEPTED: u8 = 0;
+
+impl Source {
+    // The mark of a file.
+    pub fn mark(self) -> u8
+        ensures { result ≡ source_mark self }
+    {
+        match self {
+            Source::Deposit => DEPOSIT,
+            Source::Corrections => CORRECTIONS,
+        }
+    }
+}
+
+impl FileRefusal {
+    // Whose refusal it is.
+    pub fn mark(self) -> u8
+        ensures { result ≡ whose_mark self.source }
+    {
+        match self.source {
+            Some(source) => source.mark(),
+            None => NEITHER,
+        }
+    }
+}
 
 // The place of a ping's number behind its first byte; what the attribute of an edited ping is.
 const NUMBER: usize = 16;
@@ -71,117 +113,87 @@ fn is_wanted(
 }
 
 // The first such ping of an accepted file.
-fn find(file: &[u8], channel: SoftwareChannel, number: u32, edited: bool) -> Spot
+fn find(file: &[u8], channel: SoftwareChannel, number: u32, edited: bool) -> Option<Span>
     requires { Accepts file.now }
-    ensures value { result ≡ ping_in edited file.now channel number }
-    ensures inside { Inside file.now result }
+    ensures value { as_spot result ≡ ping_in edited file.now channel number }
+    ensures inside { Inside file.now (as_spot result) }
 {
     let msb = frame::is_msb(file);
-    let mut at = frame::MARKED;
-    while at < file.len() {
-        let whole = frame::length_at(file, at, msb);
-        if is_wanted(file, at, msb, whole, channel, number, edited) {
-            return Spot::At {
-                from: at,
-                length: whole,
-            };
+    for tuple in passing::behind_mark(file, msb) {
+        if is_wanted(file, tuple.at, msb, tuple.whole, channel, number, edited) {
+            return Some(Span {
+                from: tuple.at,
+                length: tuple.whole,
+            });
         }
-        at += whole;
     }
-    Spot::Nowhere
+    None
 }
 
 // The corrections' ping before the deposit's.
-fn choose(corrected: Spot, deposited: Spot) -> Found
-    ensures { result ≡ chosen corrected deposited }
+fn choose(corrected: Option<Span>, deposited: Option<Span>) -> Found
+    ensures { as_found result ≡ chosen (as_spot corrected) (as_spot deposited) }
 {
-    match corrected {
-        Spot::At { from, length } => Found::Corrected { from, length },
-        Spot::Nowhere => match deposited {
-            Spot::At { from, length } => Found::Deposited { from, length },
-            Spot::Nowhere => Found::Refused {
-                mark: NEITHER,
-                code: codes::NOT_HELD,
-                place: 0,
-            },
-        },
+    if let Some(span) = corrected {
+        return Ok(Held {
+            source: Source::Corrections,
+            span,
+        });
     }
+    if let Some(span) = deposited {
+        return Ok(Held {
+            source: Source::Deposit,
+            span,
+        });
+    }
+    Err(FileRefusal {
+        source: None,
+        refusal: Refusal {
+            code: Code::NotHeld,
+            place: 0,
+        },
+    })
 }
 
 // The deposit's refusal, the corrections', or what is found in them.
 fn look(deposit: &[u8], corrections: &[u8], channel: SoftwareChannel, number: u32) -> Found
-    ensures value { result ≡ found_of deposit.now corrections.now channel number }
-    ensures within { Within deposit.now corrections.now result }
+    ensures value { as_found result ≡ found_of deposit.now corrections.now channel number }
+    ensures within { Within deposit.now corrections.now (as_found result) }
 {
-    match intake::check(deposit) {
-        Answer::Refused { code, place } => Found::Refused {
-            mark: DEPOSIT,
-            code,
-            place,
-        },
-        Answer::Accepted(_) => match intake::check(corrections) {
-            Answer::Refused { code, place } => Found::Refused {
-                mark: CORRECTIONS,
-                code,
-                place,
-            },
-            Answer::Accepted(_) => {
-                let corrected = find(corrections, channel, number, true);
-                let deposited = find(deposit, channel, number, false);
-                choose(corrected, deposited)
-            }
-        },
+    if let Err(refusal) = intake::check(deposit) {
+        return Err(FileRefusal {
+            source: Some(Source::Deposit),
+            refusal,
+        });
     }
+    if let Err(refusal) = intake::check(corrections) {
+        return Err(FileRefusal {
+            source: Some(Source::Corrections),
+            refusal,
+        });
+    }
+    let corrected = find(corrections, channel, number, true);
+    let deposited = find(deposit, channel, number, false);
+    choose(corrected, deposited)
 }
 
 // Where the ping of a channel and a number stands: in the corrections, with attribute 1, or else in the deposit. Refused, each with its
 // file's mark: by the deposit's check, by the corrections'; 31 at 0 where neither holds it.
 pub fn find_ping(deposit: &[u8], corrections: &[u8], channel: SoftwareChannel, number: u32) -> Found
-    ensures { PingFound deposit.now corrections.now channel number result }
+    ensures { PingFound deposit.now corrections.now channel number (as_found result) }
 {
     look(deposit, corrections, channel, number)
 }
 
 // The bytes of what was found, in the file that it is from.
-fn part<'a>(deposit: &'a [u8], corrections: &'a [u8], found: Found) -> &'a [u8]
-    requires { Within deposit.now corrections.now found }
-    ensures { result.now ≡ part_of deposit.now corrections.now found }
+fn part<'a>(deposit: &'a [u8], corrections: &'a [u8], held: Held) -> &'a [u8]
+    requires { Within deposit.now corrections.now (held_as held.source held.span) }
+    ensures { result.now ≡ part_of deposit.now corrections.now (held_as held.source held.span) }
 {
-    match found {
-        Found::Corrected { from, length } => &corrections[from..from + length],
-        Found::Deposited { from, length } => &deposit[from..from + length],
-        Found::Refused { .. } => &deposit[..0],
-    }
-}
-
-// Whose it is, or whose refusal.
-fn mark_of(found: Found) -> u8
-    ensures { result ≡ mark_of found }
-{
-    match found {
-        Found::Corrected { .. } => CORRECTIONS,
-        Found::Deposited { .. } => DEPOSIT,
-        Found::Refused { mark, .. } => mark,
-    }
-}
-
-fn code_of(found: Found) -> u8
-    ensures { result ≡ (found_numbers found).code }
-{
-    match found {
-        Found::Corrected { .. } => ACCEPTED,
-        Found::Deposited { .. } => ACCEPTED,
-        Found::Refused { code, .. } => code,
-    }
-}
-
-fn place_of(found: Found) -> usize
-    ensures { result ≡ (found_numbers found).place }
-{
-    match found {
-        Found::Corrected { .. } => 0,
-        Found::Deposited { .. } => 0,
-        Found::Refused { place, .. } => place,
+    let Span { from, length } = held.span;
+    match held.source {
+        Source::Corrections => &corrections[from..from + length],
+        Source::Deposit => &deposit[from..from + length],
     }
 }
 
@@ -199,9 +211,18 @@ pub fn corrected<'a>(
     ensures { CorrectedBy deposit.now corrections.now channel number mark.new code.new
         place.new result.now }
 {
-    let found = look(deposit, corrections, channel, number);
-    *mark = mark_of(found);
-    *code = code_of(found);
-    *place = place_of(found);
-    part(deposit, corrections, found)
+    match look(deposit, corrections, channel, number) {
+        Ok(held) => {
+            *mark = held.source.mark();
+            *code = ACCEPTED;
+            *place = 0;
+            part(deposit, corrections, held)
+        }
+        Err(refused) => {
+            *mark = refused.mark();
+            *code = refused.refusal.code.number();
+            *place = refused.refusal.place;
+            &deposit[..0]
+        }
+    }
 }

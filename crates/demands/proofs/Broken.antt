@@ -7,8 +7,8 @@ use Prim.Native.Nat.{ℕ}
 use Rattle.rules.specs.Rules.{Rule, ◌⇒◌, first_of, saying, AllPass}
 use Rattle.rules.proofs.Laws.{Silent, clear, all_pass}
 use Rattle.layout.specs.declared.Counts.{Counts}
-use Rattle.layout.specs.declared.Answer.{Answer}
-use Rattle.layout.specs.declared.Answer.TheVariants.{Accepted, Refused}
+use Rattle.layout.specs.Answer.{Answer}
+use Rattle.layout.specs.Answer.{Accepted, Refused}
 use Rattle.layout.specs.Answers.{is_accepted}
 use Rattle.demands.specs.Causes.{Broken, here, later}
 

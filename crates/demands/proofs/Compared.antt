@@ -14,10 +14,10 @@ use Rattle.order.specs.Order.{Bytes}
 use Rattle.layout.specs.declared.Counts.{Counts}
 use Rattle.layout.specs.declared.SoftwareChannel.{SoftwareChannel}
 use Rattle.layout.specs.declared.DocumentId.{DocumentId}
-use Rattle.layout.specs.declared.Answer.{Answer}
-use Rattle.layout.specs.declared.Answer.TheVariants.{Accepted}
-use Rattle.layout.specs.declared.Answer.TheVariants as answers
-use Rattle.layout.specs.declared.Verdict.TheVariants.{Fine}
+use Rattle.layout.specs.Answer.{Answer}
+use Rattle.layout.specs.Answer.{Accepted}
+use Rattle.layout.specs.Answer as answers
+use Rattle.layout.specs.Verdict.{Fine}
 use Rattle.layout.specs.Answers.{judged, is_accepted}
 use Rattle.layout.proofs.Verdicts.{passes}
 use Rattle.frame.specs.Frames.{Tup, tup_at}
@@ -30,7 +30,7 @@ use Rattle.links.specs.Links.{Link, Digest, Links, start, most_sounders, most_ch
 use Rattle.links.proofs.Linked.{Linked, last, next}
 use Rattle.links.proofs.Rows.{compares-most}
 use Rattle.content.specs.Items.{Item, plain, ping, raw, item_of, digest}
-use Rattle.intake.specs.declared.Asked.TheVariants.{Parents}
+use Rattle.intake.specs.Asked.{Parents}
 use Rattle.intake.specs.Check.{Course, begin, check_file}
 use Rattle.intake.specs.Compared.{comparisons}
 use Rattle.intake.specs.Asking.{course_to, ask_item, ask_course, ask_accepted, ask_checked, ask_at}

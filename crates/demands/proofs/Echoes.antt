@@ -9,9 +9,9 @@ use lib.Dec.{ltb}
 use lib.ListN.{length}
 use Rattle.rules.specs.Rules.{◌⇒◌, first_of}
 use Rattle.layout.specs.declared.Counts.{Counts}
-use Rattle.layout.specs.declared.Answer.{Answer}
-use Rattle.layout.specs.declared.Answer.TheVariants.{Accepted}
-use Rattle.layout.specs.declared.Answer.TheVariants as answers
+use Rattle.layout.specs.Answer.{Answer}
+use Rattle.layout.specs.Answer.{Accepted}
+use Rattle.layout.specs.Answer as answers
 use Rattle.layout.specs.Answers.{counts}
 use Rattle.layout.specs.Families.{Family}
 use Rattle.frame.specs.Frames.{Tup}
@@ -34,8 +34,8 @@ use Rattle.linked.specs.Linked.{Linked, linked_of, standing, sought_by, sought_i
 use Rattle.linked.specs.Contents.{items_of, pairs_of}
 use Rattle.linked.proofs.Contents.{contents}
 use Rattle.linked.proofs.Places.{standing-all}
-use Rattle.energy.specs.declared.Echo.{Echo}
-use Rattle.energy.specs.declared.Echo.TheVariants.{Sum, Refused}
+use Rattle.energy.specs.Echo.{Echo}
+use Rattle.energy.specs.Echo.{Sum, Refused}
 use Rattle.energy.specs.Energy.{is_sv, values_in, echo_by, echo_sought, energy_at, sum_in, code_in, places_of, energies_of, codes_of}
 use Rattle.readings.specs.declared.Reading.{Reading}
 use Rattle.readings.specs.Readings.{readings_from}

@@ -12,7 +12,7 @@ use lib.ListN.{length, drop, length-append}
 use lib.Seq.{drop_at, drop-drop}
 use Rattle.order.specs.Order.{Bytes}
 use Rattle.layout.specs.declared.Counts.{Counts}
-use Rattle.layout.specs.declared.Answer.TheVariants.{Accepted}
+use Rattle.layout.specs.Answer.{Accepted}
 use Rattle.layout.specs.Types.{Shape, indexed, row, uncompressed, compressed, unlisted, shape_of, has_samples, is_ping}
 use Rattle.frame.specs.Frames.{Tup, length_of, frame, frames, tup_at}
 use Rattle.frame.specs.Files.{mark, is_msb}
@@ -22,7 +22,7 @@ use Rattle.frame.proofs.Files.{length-mark}
 use Rattle.links.proofs.Linked.{Linked, linked-here, linked-some, linked-next}
 use Rattle.content.specs.Pings.{Ping}
 use Rattle.content.specs.Items.{Item, plain, ping, raw, item_by, item_of, digest}
-use Rattle.intake.specs.declared.Asked.{Asked}
+use Rattle.intake.specs.Asked.{Asked}
 use Rattle.intake.specs.Check.{Course, begin, past, onward, after, turn, check_file, ending}
 use Rattle.intake.specs.Asking.{course_to, ask_item, ask_course, ask_accepted}
 use Rattle.intake.proofs.Turns.{parts-judged, to_end, to_next}

@@ -13,7 +13,7 @@ use lib.ListN.{length, drop, get_or, length-append}
 use lib.Seq.{drop_at, drop-drop}
 use Rattle.order.specs.Order.{Bytes}
 use Rattle.layout.specs.declared.Counts.{Counts}
-use Rattle.layout.specs.declared.Answer.TheVariants.{Accepted}
+use Rattle.layout.specs.Answer.{Accepted}
 use Rattle.layout.specs.declared.SoftwareChannel.{SoftwareChannel}
 use Rattle.layout.specs.declared.DocumentId.{DocumentId}
 use Rattle.layout.specs.Families.{Family}
@@ -32,7 +32,7 @@ use Rattle.links.proofs.Parents.{Parents, upto, parents, steady-start}
 use Rattle.content.specs.Pings.{Ping, content_u, content_c}
 use Rattle.content.specs.Items.{Item, ping, item_by, item_of, digest_of, digest_item, digest}
 use Rattle.content.proofs.Fine.{Sound}
-use Rattle.intake.specs.declared.Asked.{Asked}
+use Rattle.intake.specs.Asked.{Asked}
 use Rattle.intake.specs.Check.{Course, begin, go, past, onward, after, turn, check_file, sounder_place, channel_place}
 use Rattle.intake.specs.Asking.{no_channel, course_to, parents_in, ask_item, ask_course, ask_accepted, ask_checked, ask_at}
 use Rattle.intake.proofs.Turns.{parts-judged}

@@ -11,15 +11,15 @@ use Rattle.order.specs.Order.{Bytes}
 use Rattle.rules.specs.Rules.{Rule, ◌⇒◌, first_of, saying, AllPass}
 use Rattle.rules.proofs.Laws.{Silent}
 use Rattle.layout.specs.declared.Counts.{Counts}
-use Rattle.layout.specs.declared.Answer.{Answer}
-use Rattle.layout.specs.declared.Answer.TheVariants.{Accepted, Refused}
+use Rattle.layout.specs.Answer.{Answer}
+use Rattle.layout.specs.Answer.{Accepted, Refused}
 use Rattle.layout.specs.Answers.{Breach, refused_at, accepting, is_accepted, numbers}
 use Rattle.layout.proofs.Verdicts.{passed}
 use Rattle.frame.specs.Frames.{len_at, kind_at, tup_at, frame_rules, framing}
 use Rattle.frame.specs.Files.{limit, is_msb, file_rules}
 use Rattle.frame.proofs.Files.{marked_4}
 use Rattle.content.specs.Items.{head_rules, inner_rules}
-use Rattle.intake.specs.declared.Asked.{Asked}
+use Rattle.intake.specs.Asked.{Asked}
 use Rattle.intake.specs.Check.{check_file}
 use Rattle.intake.specs.Asking.{ask_accepted, ask_checked, ask_at}
 use Rattle.intake.specs.inner.Tallies.{own_verdict}

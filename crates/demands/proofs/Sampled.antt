@@ -9,11 +9,11 @@ use borrow.Author.Tests.{not-false}
 use lib.ListN.{drop}
 use Rattle.rules.specs.Rules.{Rule, ◌⇒◌, saying, AllPass}
 use Rattle.rules.proofs.Laws.{Silent, clear}
-use Rattle.layout.specs.declared.Answer.{Answer}
-use Rattle.layout.specs.declared.Answer.TheVariants.{Refused}
+use Rattle.layout.specs.Answer.{Answer}
+use Rattle.layout.specs.Answer.{Refused}
 use Rattle.layout.specs.Answers.{numbers, Breach, ◌byte◌, refused_at, accepting}
-use Rattle.frame.specs.declared.Step.{Step}
-use Rattle.frame.specs.declared.Step.TheVariants as step
+use Rattle.frame.specs.Step.{Step}
+use Rattle.frame.specs.Step as step
 use Rattle.frame.specs.Frames.{tup_at, frame_rules}
 use Rattle.frame.specs.Files.{is_msb, file_rules}
 use Rattle.frame.specs.Steps.{forward_rules, tuple_at, step_forward}

@@ -5,9 +5,9 @@ use Rattle.order.specs.Order.{Bytes}
 use Rattle.layout.specs.declared.Counts.{Counts}
 use Rattle.layout.specs.declared.SoftwareChannel.{SoftwareChannel}
 use Rattle.layout.specs.declared.DocumentId.{DocumentId}
-use Rattle.layout.specs.declared.Answer.TheVariants.{Accepted}
+use Rattle.layout.specs.Answer.{Accepted}
 use Rattle.links.specs.Links.{most_channels}
-use Rattle.intake.specs.declared.Asked.TheVariants.{Parents}
+use Rattle.intake.specs.Asked.{Parents}
 use Rattle.intake.specs.Check.{Checked}
 use Rattle.intake.specs.Compared.{comparisons_of}
 use Rattle.intake.specs.Asking.{AskedFor}

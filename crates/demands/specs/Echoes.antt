@@ -2,7 +2,7 @@
 -- or in both, however their pings are spelled; and so are those of a file and of its normal form. Assumes nothing.
 use Rattle.std.specs.Prelude.{◌≡◌, List, map, ℕ}
 use Rattle.layout.specs.declared.Counts.{Counts}
-use Rattle.layout.specs.declared.Answer.TheVariants.{Accepted}
+use Rattle.layout.specs.Answer.{Accepted}
 use Rattle.intake.specs.Check.{check_file}
 use Rattle.normal.specs.Contents.{content_of}
 use Rattle.normal.specs.Demand.{Call}

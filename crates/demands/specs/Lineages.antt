@@ -15,7 +15,7 @@ use Rattle.links.specs.declared.Channel.{Channel}
 use Rattle.links.specs.Links.{Link}
 use Rattle.content.specs.Pings.{Ping}
 use Rattle.content.specs.Items.{number_at, digest}
-use Rattle.intake.specs.declared.Asked.{Asked}
+use Rattle.intake.specs.Asked.{Asked}
 use Rattle.intake.specs.Asking.{ask_at}
 
 -- ---- one tuple among others

@@ -5,7 +5,7 @@ use Rattle.layout.specs.Answers.{Breach}
 use Rattle.layout.specs.Families.{Family, measures_of, value_bytes, sample_bytes, radix_of}
 use Rattle.layout.specs.Types.{uncompressed, compressed, shape_of}
 use Rattle.frame.specs.declared.Walk.{Walk}
-use Rattle.frame.specs.declared.Step.TheVariants.{Tuple}
+use Rattle.frame.specs.Step.{Tuple}
 use Rattle.frame.specs.Frames.{Tup, tup_at, frame_rules}
 use Rattle.frame.specs.Files.{is_msb, file_rules}
 use Rattle.frame.specs.Steps.{step_forward}

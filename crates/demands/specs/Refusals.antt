@@ -4,14 +4,14 @@ use Rattle.std.specs.Prelude.{◌≡◌, ◌↔◌, Bool, true, List, ℕ, ◌�
 use Rattle.order.specs.Order.{Bytes}
 use Rattle.rules.specs.Rules.{AllPass}
 use Rattle.layout.specs.declared.Counts.{Counts}
-use Rattle.layout.specs.declared.Answer.{Answer}
-use Rattle.layout.specs.declared.Answer.TheVariants.{Accepted, Refused}
+use Rattle.layout.specs.Answer.{Answer}
+use Rattle.layout.specs.Answer.{Accepted, Refused}
 use Rattle.layout.specs.Answers.{◌byte◌, accepting}
 use Rattle.frame.specs.Frames.{Tup}
 use Rattle.frame.specs.Files.{limit, is_msb}
 use Rattle.frame.specs.Tuples.{tuples_of}
 use Rattle.content.specs.Items.{inner_rules}
-use Rattle.intake.specs.declared.Asked.{Asked}
+use Rattle.intake.specs.Asked.{Asked}
 use Rattle.intake.specs.Check.{Checked}
 use Rattle.intake.specs.Asking.{AskedFor}
 use Rattle.tuples.specs.Readers.{read_answer}

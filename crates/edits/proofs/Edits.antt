@@ -3,8 +3,7 @@ use mathlib.Core.Path.{◌≡◌, refl, sym, ap, ap₂, subst, ◌∙◌}
 use mathlib.Core.Bool.{Bool, true, false, cond, true≢false}
 use mathlib.Core.List.{List, [], ◌∷◌, ◌++◌, append_assoc, append-nil}
 use mathlib.Core.Option.{Option, some}
-use mathlib.Core.Option
-use Prim.Native.Nat.{ℕ, ◌+◌, ◌-◌, ◌≤◌}
+use Prim.Native.Nat.{ℕ, ◌+◌, ◌≤◌}
 use native.Mathlib.Omega.{arith}
 use borrow.Author.Tests.{le-ltb}
 use lib.Dec.{ltb, eqb}
@@ -15,8 +14,8 @@ use Rattle.rules.specs.Rules.{◌⇒◌, first_of}
 use Rattle.rules.specs.Rules.First.{none, pass}
 use Rattle.rules.proofs.Laws.{first_eq}
 use Rattle.layout.specs.declared.Counts.{Counts}
-use Rattle.layout.specs.declared.Answer.{Answer}
-use Rattle.layout.specs.declared.Answer.TheVariants.{Accepted, Refused}
+use Rattle.layout.specs.Answer.{Answer}
+use Rattle.layout.specs.Answer.{Accepted, Refused}
 use Rattle.layout.specs.Answers.{left_by}
 use Rattle.layout.specs.Types
 use Rattle.layout.specs.Types.{in_class, classes}
@@ -32,7 +31,6 @@ use Rattle.intake.proofs.Accepted.{refusal}
 use Rattle.index.specs.Index.{index_of, before_end, from_end, with_index, outside, reindexed}
 use Rattle.index.proofs.Laws.{end-split, reindexed-sound, reindexed-linked}
 use Rattle.index.proofs.Fresh.{outside-next, outside_append, outside-again, reindexed-parts}
-use Rattle.edits.specs.Edits
 use Rattle.edits.specs.Edits.{rewritten, anew, indexed_file, appended_file, removed_file, removed_by, tuples_in}
 use Rattle.edits.specs.Edits.{without, behind, behind_result, result_answer, behind_file, index_answer, append_rules}
 use Rattle.edits.specs.Edits.{append_answer, remove_by}

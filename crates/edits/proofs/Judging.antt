@@ -2,16 +2,16 @@
 use mathlib.Core.Path.{◌≡◌, refl, sym, ap, ap₂, subst, ◌∙◌}
 use mathlib.Core.Bool.{Bool, true, false, ◌&&◌, true≢false}
 use mathlib.Core.List.{List, [], ◌++◌, append-nil}
-use Prim.Native.Nat.{ℕ, ◌+◌, ◌-◌, ◌≤◌}
+use Prim.Native.Nat.{ℕ, ◌+◌, ◌≤◌}
 use native.Mathlib.Omega.{arith}
 use borrow.Author.Tests.{eq-eqb}
 use lib.Dec.{eqb}
 use lib.ListN.{length, drop, length-append, drop_of_length-le}
 use lib.Seq.{drop_at}
 use Rattle.order.specs.Order.{Bytes}
-use Rattle.layout.specs.declared.Answer.{Answer}
-use Rattle.layout.specs.declared.Answer.TheVariants.{Refused}
-use Rattle.layout.specs.declared.Verdict.TheVariants.{Fine, Fault}
+use Rattle.layout.specs.Answer.{Answer}
+use Rattle.layout.specs.Answer.{Refused}
+use Rattle.layout.specs.Verdict.{Fine, Fault}
 use Rattle.layout.specs.Answers.{both, judged}
 use Rattle.layout.specs.Types
 use Rattle.layout.specs.Types.{in_class, classes}
@@ -21,12 +21,11 @@ use Rattle.frame.proofs.Frames.{length-frame, framing-frame, size-frame, kind-fr
 use Rattle.links.specs.Links.{Digest, sign_rules, link_rules}
 use Rattle.content.specs.Items.{head_rules, inner_rules, digest}
 use Rattle.intake.specs.declared.Tally.{Tally}
-use Rattle.intake.specs.declared.Turned.{Turned}
+use Rattle.intake.specs.inner.Turned.{Turned}
 use Rattle.intake.specs.Check.{Course, stop, go, after, turn_on, check_file}
-use Rattle.intake.specs.inner.Tallies.{Tables, Sized, course_of, PassedIndex, tally_begin}
+use Rattle.intake.specs.inner.Tallies.{Tables, course_of, PassedIndex, tally_begin}
 use Rattle.intake.proofs.Turns.{judgement, turn-on-parts}
 use Rattle.intake.proofs.Accepted.{fine-frame}
-use Rattle.intake.proofs.Runs.{standing-begin, steady-begin}
 use Rattle.intake.proofs.Parts.{turn-on-same}
 use Rattle.index.specs.Index.{types_of}
 use Rattle.index.proofs.Laws.{few-types, index-framed, index-digest}
@@ -154,10 +153,6 @@ module _ (o : Bool) (n : ℕ) (z : List ℕ) (m : ℕ) (w : Tally) (c : Tables) 
         ∙ ap (left o n (course_of u c)) (sym (append-nil (kept_of o z)))
         ∙ t.same []
         ∙ left-stop o n (course_of v d) [] (Refused 4 v.at) (nothing_left o n (course_of v d)))
-
--- ---- behind the mark
-pub ready-begin : (w : Tally) (c : Tables) → w ≡ tally_begin → Sized c → Ready w c
-ready-begin w c e g = record { standing = standing-begin e; steady = steady-begin c e; sized = g }
 
 -- ---- the index is one
 pub index_of : (o : Bool) (a b z : List ℕ) (m : ℕ) → m ≡ length_of (index_in o a b z) → IndexOf o m (index_in o a b z)

@@ -1,5 +1,6 @@
 pub mod Dividing
 pub mod Keeping
+pub mod Onward
 pub mod Joining
 pub mod Left
 pub mod Judging

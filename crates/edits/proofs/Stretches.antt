@@ -9,7 +9,7 @@ use lib.Dec.{ltb}
 use lib.ListN.{length, take, drop, length-append, length-drop}
 use lib.Seq.{drop_at, take_at, take_all}
 use Rattle.order.specs.Order.{Bytes}
-use Rattle.layout.specs.declared.Answer.{Answer}
+use Rattle.layout.specs.Answer.{Answer}
 use Rattle.layout.specs.Types
 use Rattle.layout.specs.Types.{in_class}
 use Rattle.frame.specs.Frames.{Tup, length_of, frame, frames, len_at, kind_at}
@@ -18,8 +18,8 @@ use Rattle.frame.proofs.Frames.{length-frame, size-frame}
 use Rattle.samples.proofs.Blocks.{drop-take}
 use Rattle.intake.specs.Check.{Course, Turn, stop, go, turn_on}
 use Rattle.intake.specs.declared.Tally.{Tally}
-use Rattle.intake.specs.declared.Turned.{Turned}
-use Rattle.intake.specs.declared.Turned.TheVariants.{On, Done}
+use Rattle.intake.specs.inner.Turned.{Turned}
+use Rattle.intake.specs.inner.Turned.{On, Done}
 use Rattle.intake.specs.inner.Tallies.{Tables, course_of, turn_of, StandsOn, SteadyOn, turns_to, ThereOn, RanTo}
 use Rattle.intake.proofs.Parts.{turn-on-past}
 use Rattle.intake.proofs.Runs.{turns-there, turns_next, turns-on}

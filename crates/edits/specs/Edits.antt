@@ -4,8 +4,8 @@ use Rattle.std.proofs.Common.{sym, ◌∙◌}
 use Rattle.std.proofs.Math.Option.{Option, some, none}
 use Rattle.rules.specs.Rules.{Rule, ◌⇒◌, first_of}
 use Rattle.layout.specs.declared.Counts.{Counts}
-use Rattle.layout.specs.declared.Answer.{Answer}
-use Rattle.layout.specs.declared.Answer.TheVariants.{Accepted, Refused}
+use Rattle.layout.specs.Answer.{Answer}
+use Rattle.layout.specs.Answer.{Accepted, Refused}
 use Rattle.layout.specs.Answers.{numbers, Tells, left_by}
 use Rattle.frame.specs.Frames.{Tup, length_of, frames}
 use Rattle.frame.specs.Files.{limit, mark, is_msb}

@@ -3,3 +3,4 @@ pub mod Parts
 pub mod Left
 pub mod Judging
 pub mod Places
+pub mod Judged

@@ -3,23 +3,30 @@
 
 ghost use Rattle.std.specs.Prelude.{◌≡◌, true, false, ◌+◌, ◌≤◌, ◌<◌, length, drop, replicate};
 ghost use Rattle.std.proofs.lemmas.List.Edits.{sets};
+ghost use Rattle.layout.specs.Views.{as_answer};
 ghost use Rattle.frame.specs.Files.{limit};
 ghost use Rattle.frame.specs.Frames.{allowed, frames};
 ghost use Rattle.intake.specs.Check.{check_file};
 ghost use Rattle.intake.specs.inner.Sound.{Accepts};
 ghost use Rattle.intake.specs.inner.Tallies.{tables};
+ghost use Rattle.intake.specs.inner.Views.{as_turned};
 ghost use Rattle.index.specs.Index.{types_of, before_end};
 ghost use Rattle.index.specs.inner.Flags.{flag_all, flagged_types};
 ghost use Rattle.edits.specs.Edits.{tuples_in, appended_file, removed_file, Indexed, Appended, Removed};
-ghost use Rattle.edits.specs.inner.Parts.{is_tuple, is_dropped, is_kept, kept_length, kept_tuples, kept_of, Divides, all_of, result_of};
+ghost use Rattle.edits.specs.inner.Parts.{is_tuple, is_dropped, kept_length, kept_tuples, kept_of, Divides, all_of, result_of};
 ghost use Rattle.edits.specs.inner.Parts.{Surveyed, Stretch, Cut, SizeOf, Rewritten};
 ghost use Rattle.edits.specs.inner.Judging.{Ready, PartTo, SaidBehind};
 ghost use Rattle.edits.specs.inner.Places.{Sought, Taken};
 
+mod judged;
+
+use frame::passing;
 use index::FLAGS;
 use intake::{Tally, Turned};
-use layout::{Answer, Counts, Verdict, codes, types};
+use layout::codes::Code;
+use layout::{Answer, Class, Counts, types};
 use links::{CHANNELS, Row, SOUNDERS};
+use std::ops::ControlFlow::{Break, Continue};
 
 // How many bytes a result has, and its index.
 #[derive(Clone, Copy)]
@@ -40,17 +47,14 @@ fn is_tuple(part: &[u8], at: usize, msb: bool) -> bool
     requires { at ≤ length part.now }
     ensures { result ≡ is_tuple msb (drop at part.now) }
 {
-    match frame::judge_frame(part, at, msb) {
-        Verdict::Fine => true,
-        Verdict::Fault { code: _, offset: _ } => false,
-    }
+    frame::judge_frame(part, at, msb).is_ok()
 }
 
 // How many bytes of a tuple are kept: none of the index class.
 fn kept_length(code: u16, whole: usize) -> usize
     ensures { result ≡ kept_length code whole }
 {
-    if layout::in_class(layout::INDEX, code) {
+    if layout::in_class(Class::Index, code) {
         return 0;
     }
     whole
@@ -63,13 +67,10 @@ fn copy_kept(part: &[u8], msb: bool, out: &mut [u8], to: usize) -> usize
     ensures out_after { out.new ≡ sets out.old to (kept_tuples msb part.now) }
 {
     let mut next = to;
-    let mut at = 0;
-    while is_tuple(part, at, msb) {
-        let whole = frame::length_at(part, at, msb);
-        let kept = kept_length(frame::kind_at(part, at, msb), whole);
-        turning::copy(part, at, kept, out, next);
+    for tuple in judged::tuples(part, msb) {
+        let kept = kept_length(tuple.code, tuple.whole);
+        turning::copy(part, tuple.at, kept, out, next);
         next += kept;
-        at += whole;
     }
     next
 }
@@ -78,14 +79,14 @@ fn copy_kept(part: &[u8], msb: bool, out: &mut [u8], to: usize) -> usize
 fn find_end(part: &[u8], msb: bool) -> usize
     ensures { result ≡ length (frames msb (before_end (tuples_in msb part.now))) }
 {
-    let mut at = 0;
-    while is_tuple(part, at, msb) {
-        if frame::kind_at(part, at, msb) == types::FILE_END {
-            return at;
+    let mut end = 0;
+    for tuple in judged::tuples(part, msb) {
+        if tuple.code == types::FILE_END {
+            return tuple.at;
         }
-        at += frame::length_at(part, at, msb);
+        end = tuple.at + tuple.whole;
     }
-    at
+    end
 }
 
 // Whether the tuple at a place of a part is dropped: one of the index class stands there.
@@ -94,18 +95,7 @@ fn is_dropped(part: &[u8], at: usize, msb: bool) -> bool
     ensures { result ≡ is_dropped msb (drop at part.now) }
 {
     if is_tuple(part, at, msb) {
-        return layout::in_class(layout::INDEX, frame::kind_at(part, at, msb));
-    }
-    false
-}
-
-// Whether the tuple at a place of a part is kept: one stands there that isn't of the index class.
-fn is_kept(part: &[u8], at: usize, msb: bool) -> bool
-    requires { at ≤ length part.now }
-    ensures { result ≡ is_kept msb (drop at part.now) }
-{
-    if is_tuple(part, at, msb) {
-        return !layout::in_class(layout::INDEX, frame::kind_at(part, at, msb));
+        return layout::in_class(Class::Index, frame::kind_at(part, at, msb));
     }
     false
 }
@@ -117,12 +107,10 @@ fn stretch_end(part: &[u8], from: usize, msb: bool) -> usize
     requires part_value { is_dropped msb (drop from part.now) ≡ false }
     ensures { Stretch msb part.now from result }
 {
-    let mut at = from;
-    while is_kept(part, at, msb) {
-        at += frame::length_at(part, at, msb);
-    }
-    if is_tuple(part, at, msb) {
-        return at;
+    for tuple in judged::tuples_from(part, from, msb) {
+        if layout::in_class(Class::Index, tuple.code) {
+            return tuple.at;
+        }
     }
     part.len()
 }
@@ -141,18 +129,19 @@ fn judge_part(
     requires part_bound { from.at + length (kept_of msb part.now) ≤ limit }
     ensures { PartTo msb total part.now from
         (tables sounders.old channels.old)
-        result
+        (as_turned result)
         (tables sounders.new channels.new) }
 {
     let mut w = from;
     let mut at = 0;
+    // It goes on by a dropped tuple or by a stretch: an iterator over stretches would hold this same step, and the loop be no shorter.
     while at < part.len() {
         if is_dropped(part, at, msb) {
             at += frame::length_at(part, at, msb);
         } else {
             let end = stretch_end(part, at, msb);
             let until = w.at + (end - at);
-            match intake::run_on(
+            w = intake::run_on(
                 &part[..end],
                 at,
                 total,
@@ -162,18 +151,11 @@ fn judge_part(
                 sounders,
                 channels,
                 notes,
-            ) {
-                Turned::On(next) => {
-                    w = next;
-                    at = end;
-                }
-                Turned::Done(answer) => {
-                    return Turned::Done(answer);
-                }
-            }
+            )?;
+            at = end;
         }
     }
-    Turned::On(w)
+    Continue(w)
 }
 
 // What the check would say from the index on, which has so many bytes and stands where the tally does, before the last part. Where
@@ -192,15 +174,15 @@ fn judge_back(
     requires index_value { allowed size.index ≡ true }
     ensures { SaidBehind msb size.whole last.now size.index from
         (tables sounders.old channels.old)
-        result }
+        (as_answer result) }
 {
     if from.count == 0 {
-        return layout::refuse(codes::MISPLACED_SIGNATURE, from.at);
+        return layout::refuse(Code::MisplacedSignature, from.at);
     }
     let w = intake::pass_index(from, size.index);
     match judge_part(last, size.whole, msb, w, sounders, channels, notes) {
-        Turned::On(next) => layout::refuse(codes::NO_END, next.at),
-        Turned::Done(answer) => answer,
+        Continue(next) => layout::refuse(Code::NoEnd, next.at),
+        Break(answer) => answer,
     }
 }
 
@@ -209,14 +191,14 @@ fn judge_result(first: &[u8], second: &[u8], last: &[u8], msb: bool, size: Size)
     requires divides { Divides msb first.now }
     requires size_of { SizeOf msb first.now second.now last.now size }
     requires whole_le_limit { size.whole ≤ limit }
-    ensures { result ≡ check_file (result_of msb first.now second.now last.now) }
+    ensures { as_answer result ≡ check_file (result_of msb first.now second.now last.now) }
 {
     let mut sounders = [links::BLANK; SOUNDERS];
     let mut channels = [links::BLANK; CHANNELS];
     let mut notes = [0u16; CHANNELS];
     let total = size.whole;
     let begin = Tally::begin();
-    match judge_part(
+    let w = match judge_part(
         first,
         total,
         msb,
@@ -225,24 +207,22 @@ fn judge_result(first: &[u8], second: &[u8], last: &[u8], msb: bool, size: Size)
         &mut channels,
         &mut notes,
     ) {
-        Turned::Done(answer) => answer,
-        Turned::On(w) => {
-            match judge_part(
-                second,
-                total,
-                msb,
-                w,
-                &mut sounders,
-                &mut channels,
-                &mut notes,
-            ) {
-                Turned::Done(answer) => answer,
-                Turned::On(v) => {
-                    judge_back(last, size, msb, v, &mut sounders, &mut channels, &mut notes)
-                }
-            }
-        }
-    }
+        Continue(w) => w,
+        Break(answer) => return answer,
+    };
+    let v = match judge_part(
+        second,
+        total,
+        msb,
+        w,
+        &mut sounders,
+        &mut channels,
+        &mut notes,
+    ) {
+        Continue(v) => v,
+        Break(answer) => return answer,
+    };
+    judge_back(last, size, msb, v, &mut sounders, &mut channels, &mut notes)
 }
 
 // Flags the types of a part's tuples, and measures what is kept of them.
@@ -250,15 +230,13 @@ fn survey(part: &[u8], msb: bool, flags: &mut [u8; FLAGS]) -> Found
     ensures { Surveyed msb part.now flags.old result.kept result.end flags.new }
 {
     let mut kept = 0;
-    let mut at = 0;
-    while is_tuple(part, at, msb) {
-        let whole = frame::length_at(part, at, msb);
-        let code = frame::kind_at(part, at, msb);
-        index::flag_type(flags, code);
-        kept += kept_length(code, whole);
-        at += whole;
+    let mut end = 0;
+    for tuple in judged::tuples(part, msb) {
+        index::flag_type(flags, tuple.code);
+        kept += kept_length(tuple.code, tuple.whole);
+        end = tuple.at + tuple.whole;
     }
-    Found { kept, end: at }
+    Found { kept, end }
 }
 
 // Measures a result in parts, and flags the types of all its tuples. Behind bytes that don't divide nothing stands.
@@ -322,35 +300,31 @@ fn rewrite(
 ) -> Answer
     requires { Cut msb first.now second.now last.now }
     ensures { Rewritten (result_of msb first.now second.now last.now) counts out.old
-        result
+        (as_answer result)
         out.new }
 {
     let mut flags = [0u8; FLAGS];
     let size = measure(first, second, last, msb, &mut flags);
     if frame::LIMIT < size.whole {
-        return layout::refuse(codes::OVER_LIMIT, 0);
+        return layout::refuse(Code::OverLimit, 0);
     }
-    match judge_result(first, second, last, msb, size) {
-        Answer::Refused { code, place } => layout::refuse(code, place),
-        Answer::Accepted(_) => {
-            if out.len() < size.whole {
-                return layout::refuse(codes::NO_ROOM, 0);
-            }
-            write_result(first, second, last, msb, size, &flags, out);
-            Answer::Accepted(Counts {
-                tuples: counts.tuples,
-                written: size.whole,
-                compared: counts.compared,
-            })
-        }
+    judge_result(first, second, last, msb, size)?;
+    if out.len() < size.whole {
+        return layout::refuse(Code::NoRoom, 0);
     }
+    write_result(first, second, last, msb, size, &flags, out);
+    Ok(Counts {
+        tuples: counts.tuples,
+        written: size.whole,
+        compared: counts.compared,
+    })
 }
 
 // An accepted file, that counts so much, with bytes put behind its tuples before the index and the end of file.
 fn insert(file: &[u8], bytes: &[u8], counts: Counts, out: &mut [u8]) -> Answer
     requires taken { Taken file.now counts }
     requires bytes_len_bound { length bytes.now ≤ limit }
-    ensures { Rewritten (appended_file file.now bytes.now) counts out.old result out.new }
+    ensures { Rewritten (appended_file file.now bytes.now) counts out.old (as_answer result) out.new }
 {
     let msb = frame::is_msb(file);
     let end = frame::MARKED + find_end(&file[frame::MARKED..], msb);
@@ -366,35 +340,22 @@ fn insert(file: &[u8], bytes: &[u8], counts: Counts, out: &mut [u8]) -> Answer
 
 // A file with its index written afresh: the check's refusals, the result's, then 19; a refusal leaves every byte of out.
 pub fn index(file: &[u8], out: &mut [u8]) -> Answer
-    ensures { Indexed file.now out.old result out.new }
+    ensures { Indexed file.now out.old (as_answer result) out.new }
 {
-    match intake::check(file) {
-        Answer::Refused { code, place } => layout::refuse(code, place),
-        Answer::Accepted(counts) => insert(file, &file[..0], counts, out),
-    }
+    let counts = intake::check(file)?;
+    insert(file, &file[..0], counts, out)
 }
 
 // A file with tuples put before its end of file, and its index written afresh: the check's refusals, the result's, then 19; a refusal
 // leaves every byte of out.
 pub fn append(file: &[u8], bytes: &[u8], out: &mut [u8]) -> Answer
-    ensures { Appended file.now bytes.now out.old result out.new }
+    ensures { Appended file.now bytes.now out.old (as_answer result) out.new }
 {
-    match intake::check(file) {
-        Answer::Refused { code, place } => layout::refuse(code, place),
-        Answer::Accepted(counts) => {
-            if frame::LIMIT < bytes.len() {
-                return layout::refuse(codes::OVER_LIMIT, 0);
-            }
-            insert(file, bytes, counts, out)
-        }
+    let counts = intake::check(file)?;
+    if frame::LIMIT < bytes.len() {
+        return layout::refuse(Code::OverLimit, 0);
     }
-}
-
-// The smaller of two.
-fn least(a: usize, b: usize) -> usize
-    ensures { (result ≤ a) × (result ≤ b) × ((result < b) → (result ≡ a)) }
-{
-    if a < b { a } else { b }
+    insert(file, bytes, counts, out)
 }
 
 // The first place between an accepted file's tuples that isn't before another place; the file's end where that is behind it.
@@ -403,12 +364,12 @@ fn find_place(file: &[u8], place: usize) -> usize
     ensures { Sought file.now place result }
 {
     let msb = frame::is_msb(file);
-    let until = least(place, file.len());
-    let mut at = frame::MARKED;
-    while at < until {
-        at += frame::length_at(file, at, msb);
+    for tuple in passing::behind_mark(file, msb) {
+        if place <= tuple.at {
+            return tuple.at;
+        }
     }
-    at
+    file.len()
 }
 
 // An accepted file, that counts so much, without the tuple at a place.
@@ -416,7 +377,7 @@ fn cut_out(file: &[u8], at: usize, counts: Counts, out: &mut [u8]) -> Answer
     requires taken { Taken file.now counts }
     requires sought { Sought file.now at at }
     requires at_in_bounds { at < length file.now }
-    ensures { Rewritten (removed_file file.now at) counts out.old result out.new }
+    ensures { Rewritten (removed_file file.now at) counts out.old (as_answer result) out.new }
 {
     let msb = frame::is_msb(file);
     let next = at + frame::length_at(file, at, msb);
@@ -434,18 +395,14 @@ fn cut_out(file: &[u8], at: usize, counts: Counts, out: &mut [u8]) -> Answer
 // A file without the tuple at a place, and its index written afresh: the check's refusals, 3 where no tuple starts there, the result's
 // refusals, then 19; a refusal leaves every byte of out.
 pub fn remove(file: &[u8], place: usize, out: &mut [u8]) -> Answer
-    ensures { Removed file.now place out.old result out.new }
+    ensures { Removed file.now place out.old (as_answer result) out.new }
 {
-    match intake::check(file) {
-        Answer::Refused { code, place } => layout::refuse(code, place),
-        Answer::Accepted(counts) => {
-            if find_place(file, place) != place {
-                return layout::refuse(codes::CUT_SHORT, place);
-            }
-            if place == file.len() {
-                return layout::refuse(codes::CUT_SHORT, place);
-            }
-            cut_out(file, place, counts, out)
-        }
+    let counts = intake::check(file)?;
+    if find_place(file, place) != place {
+        return layout::refuse(Code::CutShort, place);
     }
+    if place == file.len() {
+        return layout::refuse(Code::CutShort, place);
+    }
+    cut_out(file, place, counts, out)
 }

@@ -1,11 +1,12 @@
 -- Made from views/records.txt by views/make.
 -- Ek500Channel, type 2000: TR Table 5. A channel of an EK-500, which names an echosounder of that maker. Its remarks, 30
 -- characters, stand beside it; to write others is refused by 9 at 0. Assumes nothing.
-use Rattle.std.specs.Prelude.{◌≡◌, refl, Bool, List, [], ◌∷◌, ℕ, ℤ, pos}
+use Rattle.std.specs.Prelude.{◌≡◌, refl, Bool, List, [], ◌∷◌, ℕ, ℤ, pos, Result, Ok, Err}
 use Rattle.std.proofs.Common.{sym, ◌∙◌}
-use Rattle.layout.specs.declared.Answer.{Answer}
-use Rattle.layout.specs.declared.Answer.TheVariants.{Accepted}
-use Rattle.layout.specs.declared.Answer.TheVariants as answer
+use Rattle.layout.specs.declared.Refusal.{Refusal}
+use Rattle.layout.specs.Code.{number}
+use Rattle.layout.specs.Answer.{Answer, Accepted}
+use Rattle.layout.specs.Answer as answer
 use Rattle.layout.specs.Answers.{numbers, Tells, accepting}
 use Rattle.tuples.specs.Readers.{only, read_answer, row_of}
 use Rattle.tuples.specs.declared.Part.{Part}
@@ -13,8 +14,7 @@ use Rattle.rows.specs.Readers.{row_text}
 use Rattle.rows.specs.Writers.{RowWritten}
 use Rattle.rows.specs.Integers.{signed_at, unsigned_at, patterns, row_integers, Typed}
 use Rattle.ek500_channel.specs.declared.Ek500Channel.{Ek500Channel}
-use Rattle.ek500_channel.specs.declared.Ek500ChannelRead.{Ek500ChannelRead}
-use Rattle.ek500_channel.specs.declared.Ek500ChannelRead.TheVariants.{Read, Refused}
+use Rattle.ek500_channel.specs.Ek500ChannelRead.{Ek500ChannelRead, Read, Refused}
 
 -- the integers of the row under the fields' names
 abbrev pub ek500_channel_of : List ℤ → Ek500Channel
@@ -85,7 +85,12 @@ ek500_channel_inverse r = refl
 abbrev pub Ek500ChannelTyped : Ek500Channel → Type 0
 Ek500ChannelTyped r = Typed (row_of 2000 0) (ek500_channel_integers r)
 
--- ---- reading: 01's answer in each case
+-- ---- reading: what the code gives, in these words
+abbrev pub as_read : Result (Ek500Channel × Part) Refusal → Ek500ChannelRead
+as_read (Ok r) = Read r.0 r.1
+as_read (Err r) = Refused (number r.code) r.place
+
+-- 01's answer in each case
 abbrev pub answer_of : Ek500ChannelRead → Answer
 answer_of (Read r t) = accepting 1 0
 answer_of (Refused c p) = answer.Refused c p

@@ -1,16 +1,16 @@
 // Made from views/records.txt by views/make.
 // Ek500Channel, type 2000: TR Table 5. A channel of an EK-500, which names an echosounder of that maker. Its remarks, 30
 // characters, stand beside it; to write others is refused by 9 at 0.
-#![tactic(auto)]
+#![tactic(auto, unfolding(layout::specs::Types::listings, layout::specs::Types::among, layout::specs::Types::listing_of))]
 
 ghost use Rattle.std.specs.Prelude.{◌≡◌};
 ghost use Rattle.tuples.specs.Readers.{row_of};
 ghost use Rattle.rows.specs.Integers.{integers_from, patterns};
 ghost use Rattle.rows.specs.Places.{places_of};
-ghost use Rattle.ek500_channel.specs.Ek500Channel.{ek500_channel_of, ek500_channel_integers, Ek500ChannelAt, Ek500ChannelWritten};
+ghost use Rattle.layout.specs.Views.{as_answer};
+ghost use Rattle.ek500_channel.specs.Ek500Channel.{ek500_channel_of, ek500_channel_integers, Ek500ChannelAt, Ek500ChannelWritten, as_read};
 
-use layout::{Answer, DocumentId, SoftwareChannel, Transceiver, types};
-use rows::RowRead;
+use layout::{Answer, DocumentId, Refusal, SoftwareChannel, Transceiver, types};
 use tuples::Part;
 
 #[derive(Clone, Copy)]
@@ -43,11 +43,7 @@ pub struct Ek500Channel {
 }
 
 // What reading gives: the record and the place of its remarks, or a refusal.
-#[derive(Clone, Copy)]
-pub enum Ek500ChannelRead {
-    Read { record: Ek500Channel, remarks: Part },
-    Refused { code: u8, place: usize },
-}
+pub type Ek500ChannelRead = Result<(Ek500Channel, Part), Refusal>;
 
 impl Ek500Channel {
     pub const CODE: u16 = types::EK500_CHANNEL;
@@ -300,21 +296,16 @@ impl Ek500Channel {
 
     // Reads the tuple at a place of a file.
     pub fn read(file: &[u8], place: usize) -> Ek500ChannelRead
-        ensures { Ek500ChannelAt file.now place result }
+        ensures { Ek500ChannelAt file.now place (as_read result) }
     {
         let mut numbers = [0u32; 25];
-        match rows::read_row(file, place, Ek500Channel::CODE, &mut numbers) {
-            RowRead::Refused { code, place } => Ek500ChannelRead::Refused { code, place },
-            RowRead::Read { text } => Ek500ChannelRead::Read {
-                record: Ek500Channel::of(numbers),
-                remarks: text,
-            },
-        }
+        let remarks = rows::read_row(file, place, Ek500Channel::CODE, &mut numbers)?;
+        Ok((Ek500Channel::of(numbers), remarks))
     }
 
     // Writes the tuple; 9 unless there are 30 characters of remarks, then 19.
     pub fn write(self, remarks: &[u8], msb: bool, out: &mut [u8]) -> Answer
-        ensures { Ek500ChannelWritten msb self remarks.now out.old result out.new }
+        ensures { Ek500ChannelWritten msb self remarks.now out.old (as_answer result) out.new }
     {
         rows::write_row(Ek500Channel::CODE, &self.numbers(), remarks, msb, out)
     }

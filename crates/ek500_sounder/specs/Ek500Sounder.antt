@@ -2,11 +2,12 @@
 -- Ek500Sounder, type 200: TR Table 3. An echosounder of the other maker, the EK-500 of Simrad. The start of its super layer is
 -- one signed number of four bytes at 30: nothing is aligned. Its remarks, 30 characters, stand beside it; to write others is
 -- refused by 9 at 0. Assumes nothing.
-use Rattle.std.specs.Prelude.{◌≡◌, refl, Bool, List, [], ◌∷◌, ℕ, ℤ, pos}
+use Rattle.std.specs.Prelude.{◌≡◌, refl, Bool, List, [], ◌∷◌, ℕ, ℤ, pos, Result, Ok, Err}
 use Rattle.std.proofs.Common.{sym, ◌∙◌}
-use Rattle.layout.specs.declared.Answer.{Answer}
-use Rattle.layout.specs.declared.Answer.TheVariants.{Accepted}
-use Rattle.layout.specs.declared.Answer.TheVariants as answer
+use Rattle.layout.specs.declared.Refusal.{Refusal}
+use Rattle.layout.specs.Code.{number}
+use Rattle.layout.specs.Answer.{Answer, Accepted}
+use Rattle.layout.specs.Answer as answer
 use Rattle.layout.specs.Answers.{numbers, Tells, accepting}
 use Rattle.tuples.specs.Readers.{only, read_answer, row_of}
 use Rattle.tuples.specs.declared.Part.{Part}
@@ -14,8 +15,7 @@ use Rattle.rows.specs.Readers.{row_text}
 use Rattle.rows.specs.Writers.{RowWritten}
 use Rattle.rows.specs.Integers.{signed_at, unsigned_at, patterns, row_integers, Typed}
 use Rattle.ek500_sounder.specs.declared.Ek500Sounder.{Ek500Sounder}
-use Rattle.ek500_sounder.specs.declared.Ek500SounderRead.{Ek500SounderRead}
-use Rattle.ek500_sounder.specs.declared.Ek500SounderRead.TheVariants.{Read, Refused}
+use Rattle.ek500_sounder.specs.Ek500SounderRead.{Ek500SounderRead, Read, Refused}
 
 -- the integers of the row under the fields' names
 abbrev pub ek500_sounder_of : List ℤ → Ek500Sounder
@@ -68,7 +68,12 @@ ek500_sounder_inverse r = refl
 abbrev pub Ek500SounderTyped : Ek500Sounder → Type 0
 Ek500SounderTyped r = Typed (row_of 200 0) (ek500_sounder_integers r)
 
--- ---- reading: 01's answer in each case
+-- ---- reading: what the code gives, in these words
+abbrev pub as_read : Result (Ek500Sounder × Part) Refusal → Ek500SounderRead
+as_read (Ok r) = Read r.0 r.1
+as_read (Err r) = Refused (number r.code) r.place
+
+-- 01's answer in each case
 abbrev pub answer_of : Ek500SounderRead → Answer
 answer_of (Read r t) = accepting 1 0
 answer_of (Refused c p) = answer.Refused c p

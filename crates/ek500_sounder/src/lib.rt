@@ -2,16 +2,16 @@
 // Ek500Sounder, type 200: TR Table 3. An echosounder of the other maker, the EK-500 of Simrad. The start of its super layer is
 // one signed number of four bytes at 30: nothing is aligned. Its remarks, 30 characters, stand beside it; to write others is
 // refused by 9 at 0.
-#![tactic(auto)]
+#![tactic(auto, unfolding(layout::specs::Types::listings, layout::specs::Types::among, layout::specs::Types::listing_of))]
 
 ghost use Rattle.std.specs.Prelude.{◌≡◌};
 ghost use Rattle.tuples.specs.Readers.{row_of};
 ghost use Rattle.rows.specs.Integers.{integers_from, patterns};
 ghost use Rattle.rows.specs.Places.{places_of};
-ghost use Rattle.ek500_sounder.specs.Ek500Sounder.{ek500_sounder_of, ek500_sounder_integers, Ek500SounderAt, Ek500SounderWritten};
+ghost use Rattle.layout.specs.Views.{as_answer};
+ghost use Rattle.ek500_sounder.specs.Ek500Sounder.{ek500_sounder_of, ek500_sounder_integers, Ek500SounderAt, Ek500SounderWritten, as_read};
 
-use layout::{Answer, DocumentId, types};
-use rows::RowRead;
+use layout::{Answer, DocumentId, Refusal, types};
 use tuples::Part;
 
 #[derive(Clone, Copy)]
@@ -35,11 +35,7 @@ pub struct Ek500Sounder {
 }
 
 // What reading gives: the record and the place of its remarks, or a refusal.
-#[derive(Clone, Copy)]
-pub enum Ek500SounderRead {
-    Read { record: Ek500Sounder, remarks: Part },
-    Refused { code: u8, place: usize },
-}
+pub type Ek500SounderRead = Result<(Ek500Sounder, Part), Refusal>;
 
 impl Ek500Sounder {
     pub const CODE: u16 = types::EK500_SOUNDER;
@@ -217,21 +213,16 @@ impl Ek500Sounder {
 
     // Reads the tuple at a place of a file.
     pub fn read(file: &[u8], place: usize) -> Ek500SounderRead
-        ensures { Ek500SounderAt file.now place result }
+        ensures { Ek500SounderAt file.now place (as_read result) }
     {
         let mut numbers = [0u32; 16];
-        match rows::read_row(file, place, Ek500Sounder::CODE, &mut numbers) {
-            RowRead::Refused { code, place } => Ek500SounderRead::Refused { code, place },
-            RowRead::Read { text } => Ek500SounderRead::Read {
-                record: Ek500Sounder::of(numbers),
-                remarks: text,
-            },
-        }
+        let remarks = rows::read_row(file, place, Ek500Sounder::CODE, &mut numbers)?;
+        Ok((Ek500Sounder::of(numbers), remarks))
     }
 
     // Writes the tuple; 9 unless there are 30 characters of remarks, then 19.
     pub fn write(self, remarks: &[u8], msb: bool, out: &mut [u8]) -> Answer
-        ensures { Ek500SounderWritten msb self remarks.now out.old result out.new }
+        ensures { Ek500SounderWritten msb self remarks.now out.old (as_answer result) out.new }
     {
         rows::write_row(Ek500Sounder::CODE, &self.numbers(), remarks, msb, out)
     }

@@ -13,8 +13,8 @@ use Rattle.rules.specs.Rules.First.{none, here, pass}
 use Rattle.rules.proofs.Bools.{or_true}
 use Rattle.rules.proofs.Laws.{first_eq}
 use Rattle.layout.specs.declared.Counts.{Counts}
-use Rattle.layout.specs.declared.Answer.{Answer}
-use Rattle.layout.specs.declared.Answer.TheVariants.{Accepted, Refused}
+use Rattle.layout.specs.Answer.{Answer}
+use Rattle.layout.specs.Answer.{Accepted, Refused}
 use Rattle.layout.specs.Answers.{tells}
 use Rattle.layout.proofs.Lent.{left-refused, left-accepted}
 use Rattle.intake.specs.Check.{writing, check_file}

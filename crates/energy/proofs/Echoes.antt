@@ -15,9 +15,8 @@ use Rattle.rules.specs.Rules.First.{none, here, pass}
 use Rattle.rules.proofs.Bools.{or_true}
 use Rattle.rules.proofs.Laws.{first_eq}
 use Rattle.layout.specs.declared.Counts.{Counts}
-use Rattle.layout.specs.declared.Answer.{Answer}
-use Rattle.layout.specs.declared.Answer.TheVariants
-use Rattle.layout.specs.declared.Answer.TheVariants.{Accepted}
+use Rattle.layout.specs.Answer.{Answer}
+use Rattle.layout.specs.Answer.{Accepted}
 use Rattle.layout.specs.Answers.{tells}
 use Rattle.layout.specs.Families.{Family, wide, narrow, encoded, wide_angles, narrow_angles, value_count}
 use Rattle.layout.specs.Types.{Shape, indexed, row, uncompressed, compressed, unlisted, is_ping, shape_of}
@@ -38,8 +37,8 @@ use Rattle.linear.specs.Linear.{first_outside, total}
 use Rattle.linked.specs.declared.Spot.{Spot}
 use Rattle.linked.specs.Linked.{Linked, linked_of, standing, sought_by, sought_in, sought_at}
 use Rattle.linked.specs.inner.Here.{FoundPing}
-use Rattle.energy.specs.declared.Echo.{Echo}
-use Rattle.energy.specs.declared.Echo.TheVariants.{Sum, Refused}
+use Rattle.energy.specs.Echo.{Echo}
+use Rattle.energy.specs.Echo.{Sum, Refused}
 use Rattle.energy.specs.Energy.{is_sv, values_in, echo_rules, echo_by, echo_sought, energy_at, EnergyTold}
 use Rattle.energy.specs.inner.Telling.{echo_here}
 
@@ -111,7 +110,7 @@ span-short s m h = simp (length-take, length-drop) (omega arith)
 
 -- ---- in a file
 module _ (f : List ℕ) (p : ℕ) where
-  pub told-refused : {c q : ℕ} → check_file f ≡ TheVariants.Refused c q → EnergyTold f p (Refused c q)
+  pub told-refused : {c q : ℕ} → check_file f ≡ Answer.Refused c q → EnergyTold f p (Refused c q)
   unfolding energy_at sought_at
   told-refused e = tells (sym (ap (λ (a : Answer). echo_sought (sought_in f p a)) e))
 

@@ -9,7 +9,7 @@ use lib.ListN.{length, drop, get_or, set, length-append, length-map}
 use lib.Seq.{sets, length-sets}
 use Rattle.order.proofs.Stores.{stored-behind}
 use Rattle.layout.specs.declared.Counts.{Counts}
-use Rattle.layout.specs.declared.Answer.TheVariants.{Accepted}
+use Rattle.layout.specs.Answer.{Accepted}
 use Rattle.layout.specs.Types.{is_ping}
 use Rattle.frame.specs.Frames.{len_at, kind_at}
 use Rattle.frame.specs.Files.{is_msb}
@@ -25,7 +25,7 @@ use Rattle.linked.specs.inner.Here.{FoundPing, new_here, Past}
 use Rattle.linked.proofs.Places.{standing-told}
 use Rattle.linked.proofs.Along.{telling-done, telling-whole, telling-tells, linked-at, linked-place, linked-part, linked-says}
 use Rattle.linked.proofs.Along.{Along, along-begin, along-other, along-ping, along-quantity}
-use Rattle.energy.specs.declared.Echo.{Echo}
+use Rattle.energy.specs.Echo.{Echo}
 use Rattle.energy.specs.Energy.{energy_at, sum_in, code_in, places_of, energies_of, codes_of}
 use Rattle.energy.specs.inner.Telling.{echo_here}
 use Rattle.energy.proofs.Echoes.{found_echo}

@@ -11,9 +11,8 @@ use lib.ListN.{length, drop, length-map}
 use Rattle.rules.specs.Rules.{◌⇒◌, first_of}
 use Rattle.rules.proofs.Laws.{clear}
 use Rattle.layout.specs.declared.Counts.{Counts}
-use Rattle.layout.specs.declared.Answer.{Answer}
-use Rattle.layout.specs.declared.Answer.TheVariants
-use Rattle.layout.specs.declared.Answer.TheVariants.{Accepted}
+use Rattle.layout.specs.Answer.{Answer}
+use Rattle.layout.specs.Answer.{Accepted}
 use Rattle.layout.specs.Families.{Family}
 use Rattle.layout.specs.Types.{is_ping}
 use Rattle.frame.specs.Frames.{len_at, kind_at}
@@ -30,10 +29,9 @@ use Rattle.linked.specs.Linked.{Linked, linked_of, standing, sought, sought_by, 
 use Rattle.linked.proofs.Places.{stands_here, stands-later}
 use Rattle.linked.proofs.Along.{Telling, telling-begin, telling-done, telling-less, telling-other, telling-ping, telling-stop}
 use Rattle.linked.proofs.Along.{linked-at, linked-part, linked-says}
-use Rattle.energy.specs.declared.Echo.{Echo}
-use Rattle.energy.specs.declared.Echo.TheVariants.{Sum, Refused}
-use Rattle.energy.specs.declared.Summed.{Summed}
-use Rattle.energy.specs.declared.Summed.TheVariants.{All, Outside}
+use Rattle.energy.specs.Echo.{Echo}
+use Rattle.energy.specs.Echo.{Sum, Refused}
+use Rattle.std.specs.Prelude.{Result, Ok, Err}
 use Rattle.energy.specs.Energy.{is_sv, values_in, echo_rules, echo_by, echo_sought, energy_at, sum_in, code_in, EnergyTold}
 use Rattle.energy.specs.Results.{Energies}
 use Rattle.energy.specs.inner.Sums.{summed_of}
@@ -96,10 +94,10 @@ sum_within p x f s n {e} {m} h few =
     let is : total f vs ≡ e = cc in
     rw (← is) (total-within f vs none (simp length-map few))
   where
-    by : (r : Summed) → Tells f (values_in f s) 0 0 r → length (values_in f s) ≤ first_outside f (values_in f s)
+    by : (r : Result ℕ ℕ) → Tells f (values_in f s) 0 0 r → length (values_in f s) ≤ first_outside f (values_in f s)
         → first_outside f (values_in f s) ≡ length (values_in f s)
-    by (All t) g h = g.0
-    by (Outside q) g h = absurd (omega arith)
+    by (Ok t) g h = g.0
+    by (Err q) g h = absurd (omega arith)
 
 refused_sum : {c q e : ℕ} {n : Counts} → Refused c q ≡ Sum e n → ⊥
 refused_sum x = let z : ◌≡◌ {A = ℕ} 0 1 = cc in omega arith
@@ -115,7 +113,7 @@ most f p e n t = by_answer (check_file f) refl (sym t.is)
 
     by_answer : (r : Answer) → check_file f ≡ r → echo_sought (sought_in f p r) ≡ Sum e n → e < 2 ^ 64
     by_answer (Accepted i) a h = by-standing a (standing p (linked_of f)) refl h
-    by_answer (TheVariants.Refused c q) a h = absurd (refused_sum h)
+    by_answer (Answer.Refused c q) a h = absurd (refused_sum h)
 
 -- ---- what is told hangs on the content
 abbrev told_by : Bool → Bool → ℕ → ℕ → ℕ → Counts → Echo

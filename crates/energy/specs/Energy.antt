@@ -3,9 +3,8 @@ use Rattle.std.specs.Prelude.{◌≡◌, ℕ, Bool, true, false, not, ◌||◌, 
 use Rattle.std.proofs.Common.{sym, ◌∙◌}
 use Rattle.rules.specs.Rules.{Rule, ◌⇒◌, first_of}
 use Rattle.layout.specs.declared.Counts.{Counts}
-use Rattle.layout.specs.declared.Answer.{Answer}
-use Rattle.layout.specs.declared.Answer.TheVariants.{Accepted}
-use Rattle.layout.specs.declared.Answer.TheVariants
+use Rattle.layout.specs.Answer.{Answer}
+use Rattle.layout.specs.Answer.{Accepted}
 use Rattle.layout.specs.Answers
 use Rattle.layout.specs.Answers.{Numbers, acceptance, refusal, Tells, left_by}
 use Rattle.layout.specs.Families.{Family}
@@ -16,8 +15,8 @@ use Rattle.quantities.specs.declared.Quantity.{Quantity}
 use Rattle.quantities.specs.declared.Quantity.TheVariants.{Volts, Sv, Ts, Other}
 use Rattle.quantities.specs.Quantities.{quantity_of, has_angles}
 use Rattle.linked.specs.Linked.{Linked, linked_of, Sought, sought, refused, sought_at}
-use Rattle.energy.specs.declared.Echo.{Echo}
-use Rattle.energy.specs.declared.Echo.TheVariants.{Sum, Refused}
+use Rattle.energy.specs.Echo.{Echo}
+use Rattle.energy.specs.Echo.{Sum, Refused}
 use Rattle.linear.specs.Linear.{first_outside, total}
 
 -- ---- of one ping
@@ -89,13 +88,13 @@ codes_of f = map (λ (p : ℕ). code_in (energy_at f p)) (places_of f)
 
 -- the check's refusals, then 19 at 0 where one of the slices is too short; as the length the number of pings
 abbrev pub room_rules : ℕ → ℕ → ℕ → ℕ → List (Rule Answer)
-room_rules n places energies codes = (ltb places n || (ltb energies n || ltb codes n) ⇒ TheVariants.Refused 19 0) ∷ []
+room_rules n places energies codes = (ltb places n || (ltb energies n || ltb codes n) ⇒ Answer.Refused 19 0) ∷ []
 
 abbrev pub behind_check : List ℕ → ℕ → ℕ → ℕ → Answer → Answer
 behind_check f places energies codes (Accepted n) =
     let pings = length (linked_of f) in
     first_of (room_rules pings places energies codes) (Accepted (writing n pings))
-behind_check f places energies codes (TheVariants.Refused c p) = TheVariants.Refused c p
+behind_check f places energies codes (Answer.Refused c p) = Answer.Refused c p
 
 unfoldable pub energies_answer : List ℕ → ℕ → ℕ → ℕ → Answer
 energies_answer f places energies codes = behind_check f places energies codes (check_file f)

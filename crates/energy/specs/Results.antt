@@ -4,7 +4,7 @@ use Rattle.std.specs.Prelude.{◌≡◌, ℕ, ◌^◌, ◌<◌, List}
 use Rattle.layout.specs.declared.Counts.{Counts}
 use Rattle.linked.specs.Linked.{Linked, sought, sought_at}
 use Rattle.quantities.specs.Quantities.{quantity_of}
-use Rattle.energy.specs.declared.Echo.TheVariants.{Sum}
+use Rattle.energy.specs.Echo.{Sum}
 use Rattle.energy.specs.Energy.{energy_at, sum_in, code_in, EnergyTold}
 
 pub record Energies : Type 0 where

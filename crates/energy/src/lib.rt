@@ -1,6 +1,8 @@
 // Energy: the echo energy of a ping, and of all pings of a file, in linear units.
 #![tactic(auto)]
 
+ghost use Rattle.layout.specs.Views.{as_answer};
+ghost use Rattle.energy.specs.Views.{as_echo};
 ghost use Rattle.std.specs.Prelude.{◌≡◌, true, ◌≤◌, length};
 ghost use Rattle.std.proofs.lemmas.List.Edits.{sets};
 ghost use Rattle.layout.specs.Types.{shape_of};
@@ -14,28 +16,26 @@ ghost use Rattle.energy.specs.Energy.{is_sv, sum_in, code_in, places_of, energie
 ghost use Rattle.energy.specs.inner.Sums.{summed_of};
 ghost use Rattle.energy.specs.inner.Telling.{echo_here, Roomy};
 
-use layout::{Answer, Counts, codes};
+use frame::passing::{self, Located};
+use layout::codes::Code;
+use layout::{Answer, Counts, Refusal};
 use linear::LEVELS;
-use linked::{Found, Spot};
+use linked::Spot;
 use links::{CHANNELS, Row};
 use quantities::Quantity;
 
-// What is told of a ping: its energy in units of 10^-14, with what the file's acceptance counts; or a refusal.
+// The energy of a ping in units of 10^-14, with what the file's acceptance counts.
 #[derive(Clone, Copy)]
-pub enum Echo {
-    Sum { units: u64, counts: Counts },
-    Refused { code: u8, place: usize },
+pub struct Told {
+    pub units: u64,
+    pub counts: Counts,
 }
 
-// What adding up values gives: the sum of all, or the place among them of the first outside -150 to 0 dB.
-#[derive(Clone, Copy)]
-enum Summed {
-    All(u64),
-    Outside(usize),
-}
+// What is told of a ping: its energy, or a refusal.
+pub type Echo = Result<Told, Refusal>;
 
-// The linear values of the samples that bytes hold, added up.
-fn sum_up(values: &[u64; LEVELS], held: &[u8], msb: bool, code: u16) -> Summed
+// The linear values of the samples that bytes hold, added up; or the place among them of the first outside -150 to 0 dB.
+fn sum_up(values: &[u64; LEVELS], held: &[u8], msb: bool, code: u16) -> Result<u64, usize>
     requires values_value { (values.now ≡ all_values) × (is_valued code ≡ true) }
     requires held_len_bound { (length held.now ≤ 262112) × (length (values_left (shape_of code) msb held.now) ≤ 32764) }
     ensures { result ≡ summed_of (family_of code) (values_left (shape_of code) msb held.now) }
@@ -44,59 +44,45 @@ fn sum_up(values: &[u64; LEVELS], held: &[u8], msb: bool, code: u16) -> Summed
     let unit = linear::unit_of(code);
     let mut sum: u64 = 0;
     let mut nth: usize = 0;
-    let mut at: usize = 0;
-    while width <= held.len() - at {
-        let it = sampling::value_at(held, at, msb, code);
-        let sampled = it.sampled;
-        if sampled {
-            let value = it.value;
-            if 0 < value {
-                return Summed::Outside(nth);
-            }
-            let depth = linear::negated_of(value) * unit;
-            if linear::QUIETEST < depth {
-                return Summed::Outside(nth);
-            }
-            sum += linear::linear_below(values, depth);
-            nth += 1;
+    for piece in held.chunks_exact(width) {
+        let Some(value) = sampling::value_at(piece, 0, msb, code) else {
+            continue;
+        };
+        let loud = 0 < value;
+        if loud {
+            return Err(nth);
         }
-        at += width;
+        let depth = linear::negated_of(value) * unit;
+        if linear::QUIETEST < depth {
+            return Err(nth);
+        }
+        sum += linear::linear_below(values, depth);
+        nth += 1;
     }
-    Summed::All(sum)
+    Ok(sum)
 }
 
 fn is_sv(quantity: Quantity) -> bool
     ensures { result ≡ is_sv quantity }
 {
-    match quantity {
-        Quantity::Volts => false,
-        Quantity::Sv => true,
-        Quantity::Ts => false,
-        Quantity::Other => false,
-    }
+    matches!(quantity, Quantity::Sv)
 }
 
 // What is told of a linked ping: 28 for angles or a channel that isn't Sv, 29 for a value outside, or its energy.
 fn echo_of(values: &[u64; LEVELS], file: &[u8], ping: Spot, counts: Counts) -> Echo
     requires values_value { values.now ≡ all_values }
     requires spot_here { SpotHere file.now ping }
-    ensures { result ≡ echo_here file.now ping counts }
+    ensures { as_echo result ≡ echo_here file.now ping counts }
 {
     let at = ping.at;
     let code = ping.code;
     let msb = ping.msb;
     let quantity = ping.quantity;
     if !tuples::is_valued(code) {
-        return Echo::Refused {
-            code: codes::NOT_SV,
-            place: at,
-        };
+        return layout::refuse(Code::NotSv, at);
     }
     if !is_sv(quantity) {
-        return Echo::Refused {
-            code: codes::NOT_SV,
-            place: at,
-        };
+        return layout::refuse(Code::NotSv, at);
     }
     let end = at + ping.whole - frame::TAIL;
     let part = &file[at + samples::SAMPLES..end];
@@ -104,55 +90,42 @@ fn echo_of(values: &[u64; LEVELS], file: &[u8], ping: Spot, counts: Counts) -> E
     let from = span.from;
     let until = span.end;
     match sum_up(values, &part[from..until], msb, code) {
-        Summed::Outside(nth) => Echo::Refused {
-            code: codes::OUTSIDE_LEVELS,
-            place: nth,
-        },
-        Summed::All(units) => Echo::Sum { units, counts },
+        Err(nth) => layout::refuse(Code::OutsideLevels, nth),
+        Ok(units) => Ok(Told { units, counts }),
     }
 }
 
 // The echo energy of the ping at a place. The refusals of asking for its channel, then 28 at the ping, then 29 at a value's place in the
 // list.
 pub fn energy(file: &[u8], place: usize) -> Echo
-    ensures { EnergyTold file.now place result }
+    ensures { EnergyTold file.now place (as_echo result) }
 {
-    match intake::check(file) {
-        Answer::Refused { code, place } => Echo::Refused { code, place },
-        Answer::Accepted(counts) => match linked::find(file, place) {
-            Found::Nowhere => Echo::Refused {
-                code: codes::UNFIT,
-                place,
-            },
-            Found::Ping(ping) => {
-                let mut values = [0u64; LEVELS];
-                linear::fill_values(&mut values);
-                echo_of(&values, file, ping, counts)
-            }
-        },
-    }
+    let counts = intake::check(file)?;
+    let Some(ping) = linked::find(file, place) else {
+        return layout::refuse(Code::Unfit, place);
+    };
+    let mut values = [0u64; LEVELS];
+    linear::fill_values(&mut values);
+    echo_of(&values, file, ping, counts)
 }
 
 // The energy that is told, 0 where none is,
 fn units_in(echo: Echo) -> u64
-    ensures { result ≡ sum_in echo }
+    ensures { result ≡ sum_in (as_echo echo) }
 {
     match echo {
-        Echo::Sum { units, counts: _ } => units,
-        Echo::Refused { code: _, place: _ } => 0,
+        Ok(told) => told.units,
+        Err(_) => 0,
     }
 }
 
 // and the code, 0 where an energy is.
 fn code_in(echo: Echo) -> u8
-    ensures { result ≡ code_in echo }
+    ensures { result ≡ code_in (as_echo echo) }
 {
     match echo {
-        Echo::Sum {
-            units: _,
-            counts: _,
-        } => 0,
-        Echo::Refused { code, place: _ } => code,
+        Ok(_) => 0,
+        Err(refusal) => refusal.code.number(),
     }
 }
 
@@ -176,10 +149,8 @@ fn fill_with(
     let msb = frame::is_msb(file);
     let mut used: usize = 0;
     let mut row: usize = 0;
-    let mut at = frame::MARKED;
-    while at < file.len() {
-        let whole = frame::length_at(file, at, msb);
-        let code = frame::kind_at(file, at, msb);
+    for tuple in passing::behind_mark(file, msb) {
+        let Located { at, whole, code } = tuple;
         if intake::is_ping(code) {
             let quantity = linked::quantity_at(file, at, msb, used, rows, notes);
             let ping = Spot {
@@ -196,7 +167,6 @@ fn fill_with(
             row += 1;
         }
         used = linked::keep(file, at, msb, whole, code, used, rows, notes);
-        at += whole;
     }
 }
 
@@ -219,28 +189,24 @@ fn fill(file: &[u8], counts: Counts, places: &mut [usize], energies: &mut [u64],
 // The echo energies of all listed pings, in file order: the place of each, and what asking for it alone says, its energy and code 0, or 0
 // and its code. The check's refusals, then 19 where one slice is too short; a refusal leaves every element.
 pub fn energies(file: &[u8], places: &mut [usize], energies: &mut [u64], codes: &mut [u8]) -> Answer
-    ensures { EnergiesTold file.now places.old energies.old codes.old result
+    ensures { EnergiesTold file.now places.old energies.old codes.old (as_answer result)
         places.new energies.new codes.new }
 {
-    match intake::check(file) {
-        Answer::Refused { code, place } => layout::refuse(code, place),
-        Answer::Accepted(counts) => {
-            let n = linked::count_pings(file);
-            if places.len() < n {
-                return layout::refuse(codes::NO_ROOM, 0);
-            }
-            if energies.len() < n {
-                return layout::refuse(codes::NO_ROOM, 0);
-            }
-            if codes.len() < n {
-                return layout::refuse(codes::NO_ROOM, 0);
-            }
-            fill(file, counts, places, energies, codes);
-            Answer::Accepted(Counts {
-                tuples: counts.tuples,
-                written: n,
-                compared: counts.compared,
-            })
-        }
+    let counts = intake::check(file)?;
+    let n = linked::count_pings(file);
+    if places.len() < n {
+        return layout::refuse(Code::NoRoom, 0);
     }
+    if energies.len() < n {
+        return layout::refuse(Code::NoRoom, 0);
+    }
+    if codes.len() < n {
+        return layout::refuse(Code::NoRoom, 0);
+    }
+    fill(file, counts, places, energies, codes);
+    Ok(Counts {
+        tuples: counts.tuples,
+        written: n,
+        compared: counts.compared,
+    })
 }

@@ -1,11 +1,12 @@
 -- Made from views/records.txt by views/make.
 -- Event, type 10110: TR Table 11. An event marker. Its text, a multiple of four characters and not none, stands beside it; to
 -- write another is refused by 9 at 0, one that makes the tuple too long by 11 at 0. Assumes nothing.
-use Rattle.std.specs.Prelude.{◌≡◌, refl, Bool, List, [], ◌∷◌, ℕ, ℤ, pos}
+use Rattle.std.specs.Prelude.{◌≡◌, refl, Bool, List, [], ◌∷◌, ℕ, ℤ, pos, Result, Ok, Err}
 use Rattle.std.proofs.Common.{sym, ◌∙◌}
-use Rattle.layout.specs.declared.Answer.{Answer}
-use Rattle.layout.specs.declared.Answer.TheVariants.{Accepted}
-use Rattle.layout.specs.declared.Answer.TheVariants as answer
+use Rattle.layout.specs.declared.Refusal.{Refusal}
+use Rattle.layout.specs.Code.{number}
+use Rattle.layout.specs.Answer.{Answer, Accepted}
+use Rattle.layout.specs.Answer as answer
 use Rattle.layout.specs.Answers.{numbers, Tells, accepting}
 use Rattle.tuples.specs.Readers.{only, read_answer, row_of}
 use Rattle.tuples.specs.declared.Part.{Part}
@@ -13,8 +14,7 @@ use Rattle.rows.specs.Readers.{row_text}
 use Rattle.rows.specs.Writers.{RowWritten}
 use Rattle.rows.specs.Integers.{signed_at, unsigned_at, patterns, row_integers, Typed}
 use Rattle.event.specs.declared.Event.{Event}
-use Rattle.event.specs.declared.EventRead.{EventRead}
-use Rattle.event.specs.declared.EventRead.TheVariants.{Read, Refused}
+use Rattle.event.specs.EventRead.{EventRead, Read, Refused}
 
 -- the integers of the row under the fields' names
 abbrev pub event_of : List ℤ → Event
@@ -41,7 +41,12 @@ event_inverse r = refl
 abbrev pub EventTyped : Event → Type 0
 EventTyped r = Typed (row_of 10110 0) (event_integers r)
 
--- ---- reading: 01's answer in each case
+-- ---- reading: what the code gives, in these words
+abbrev pub as_read : Result (Event × Part) Refusal → EventRead
+as_read (Ok r) = Read r.0 r.1
+as_read (Err r) = Refused (number r.code) r.place
+
+-- 01's answer in each case
 abbrev pub answer_of : EventRead → Answer
 answer_of (Read r t) = accepting 1 0
 answer_of (Refused c p) = answer.Refused c p

@@ -1,16 +1,16 @@
 // Made from views/records.txt by views/make.
 // Event, type 10110: TR Table 11. An event marker. Its text, a multiple of four characters and not none, stands beside it; to
 // write another is refused by 9 at 0, one that makes the tuple too long by 11 at 0.
-#![tactic(auto)]
+#![tactic(auto, unfolding(layout::specs::Types::listings, layout::specs::Types::among, layout::specs::Types::listing_of))]
 
 ghost use Rattle.std.specs.Prelude.{◌≡◌};
 ghost use Rattle.tuples.specs.Readers.{row_of};
 ghost use Rattle.rows.specs.Integers.{integers_from, patterns};
 ghost use Rattle.rows.specs.Places.{places_of};
-ghost use Rattle.event.specs.Event.{event_of, event_integers, EventAt, EventWritten};
+ghost use Rattle.layout.specs.Views.{as_answer};
+ghost use Rattle.event.specs.Event.{event_of, event_integers, EventAt, EventWritten, as_read};
 
-use layout::{Answer, types};
-use rows::RowRead;
+use layout::{Answer, Refusal, types};
 use tuples::Part;
 
 #[derive(Clone, Copy)]
@@ -21,11 +21,7 @@ pub struct Event {
 }
 
 // What reading gives: the record and the place of its text, or a refusal.
-#[derive(Clone, Copy)]
-pub enum EventRead {
-    Read { record: Event, text: Part },
-    Refused { code: u8, place: usize },
-}
+pub type EventRead = Result<(Event, Part), Refusal>;
 
 impl Event {
     pub const CODE: u16 = types::EVENT;
@@ -95,21 +91,16 @@ impl Event {
 
     // Reads the tuple at a place of a file.
     pub fn read(file: &[u8], place: usize) -> EventRead
-        ensures { EventAt file.now place result }
+        ensures { EventAt file.now place (as_read result) }
     {
         let mut numbers = [0u32; 3];
-        match rows::read_row(file, place, Event::CODE, &mut numbers) {
-            RowRead::Refused { code, place } => EventRead::Refused { code, place },
-            RowRead::Read { text } => EventRead::Read {
-                record: Event::of(numbers),
-                text,
-            },
-        }
+        let text = rows::read_row(file, place, Event::CODE, &mut numbers)?;
+        Ok((Event::of(numbers), text))
     }
 
     // Writes the tuple; 9 unless there are 4 characters of text or more by steps of 4, 11 where the tuple is too long, then 19.
     pub fn write(self, text: &[u8], msb: bool, out: &mut [u8]) -> Answer
-        ensures { EventWritten msb self text.now out.old result out.new }
+        ensures { EventWritten msb self text.now out.old (as_answer result) out.new }
     {
         rows::write_row(Event::CODE, &self.numbers(), text, msb, out)
     }

@@ -1,11 +1,12 @@
 -- Made from views/records.txt by views/make.
 -- FileEnd, type 65534: TR Table 17. Its possible data, 2 bytes or 6, 10, 14 and so on, stand beside it when it is read. It is
 -- written with 2 bytes of them, all 0. Assumes nothing.
-use Rattle.std.specs.Prelude.{◌≡◌, refl, Bool, List, [], ◌∷◌, ℕ, ℤ, pos}
+use Rattle.std.specs.Prelude.{◌≡◌, refl, Bool, List, [], ◌∷◌, ℕ, ℤ, pos, Result, Ok, Err}
 use Rattle.std.proofs.Common.{sym, ◌∙◌}
-use Rattle.layout.specs.declared.Answer.{Answer}
-use Rattle.layout.specs.declared.Answer.TheVariants.{Accepted}
-use Rattle.layout.specs.declared.Answer.TheVariants as answer
+use Rattle.layout.specs.declared.Refusal.{Refusal}
+use Rattle.layout.specs.Code.{number}
+use Rattle.layout.specs.Answer.{Answer, Accepted}
+use Rattle.layout.specs.Answer as answer
 use Rattle.layout.specs.Answers.{numbers, Tells, accepting}
 use Rattle.tuples.specs.Readers.{only, read_answer, row_of}
 use Rattle.tuples.specs.Writers.{Written, plain_bytes}
@@ -14,8 +15,7 @@ use Rattle.rows.specs.Readers.{row_text}
 use Rattle.rows.specs.Writers.{row_values}
 use Rattle.rows.specs.Integers.{signed_at, unsigned_at, patterns, row_integers, Typed}
 use Rattle.file_end.specs.declared.FileEnd.{FileEnd}
-use Rattle.file_end.specs.declared.FileEndRead.{FileEndRead}
-use Rattle.file_end.specs.declared.FileEndRead.TheVariants.{Read, Refused}
+use Rattle.file_end.specs.FileEndRead.{FileEndRead, Read, Refused}
 
 -- the integers of the row under the fields' names
 abbrev pub file_end_of : List ℤ → FileEnd
@@ -44,7 +44,12 @@ file-end_inverse r = refl
 abbrev pub FileEndTyped : FileEnd → Type 0
 FileEndTyped r = Typed (row_of 65534 0) (file_end_integers r)
 
--- ---- reading: 01's answer in each case
+-- ---- reading: what the code gives, in these words
+abbrev pub as_read : Result (FileEnd × Part) Refusal → FileEndRead
+as_read (Ok r) = Read r.0 r.1
+as_read (Err r) = Refused (number r.code) r.place
+
+-- 01's answer in each case
 abbrev pub answer_of : FileEndRead → Answer
 answer_of (Read r t) = accepting 1 0
 answer_of (Refused c p) = answer.Refused c p

@@ -1,16 +1,16 @@
 // Made from views/records.txt by views/make.
 // FileEnd, type 65534: TR Table 17. Its possible data, 2 bytes or 6, 10, 14 and so on, stand beside it when it is read. It is
 // written with 2 bytes of them, all 0.
-#![tactic(auto)]
+#![tactic(auto, unfolding(layout::specs::Types::listings, layout::specs::Types::among, layout::specs::Types::listing_of))]
 
 ghost use Rattle.std.specs.Prelude.{◌≡◌};
 ghost use Rattle.tuples.specs.Readers.{row_of};
 ghost use Rattle.rows.specs.Integers.{integers_from, patterns};
 ghost use Rattle.rows.specs.Places.{places_of};
-ghost use Rattle.file_end.specs.FileEnd.{file_end_of, file_end_integers, FileEndAt, FileEndWritten};
+ghost use Rattle.layout.specs.Views.{as_answer};
+ghost use Rattle.file_end.specs.FileEnd.{file_end_of, file_end_integers, FileEndAt, FileEndWritten, as_read};
 
-use layout::{Answer, types};
-use rows::RowRead;
+use layout::{Answer, Refusal, types};
 use tuples::Part;
 
 #[derive(Clone, Copy)]
@@ -22,11 +22,7 @@ pub struct FileEnd {
 }
 
 // What reading gives: the record and the place of its data, or a refusal.
-#[derive(Clone, Copy)]
-pub enum FileEndRead {
-    Read { record: FileEnd, data: Part },
-    Refused { code: u8, place: usize },
-}
+pub type FileEndRead = Result<(FileEnd, Part), Refusal>;
 
 impl FileEnd {
     pub const CODE: u16 = types::FILE_END;
@@ -108,21 +104,16 @@ impl FileEnd {
 
     // Reads the tuple at a place of a file.
     pub fn read(file: &[u8], place: usize) -> FileEndRead
-        ensures { FileEndAt file.now place result }
+        ensures { FileEndAt file.now place (as_read result) }
     {
         let mut numbers = [0u32; 4];
-        match rows::read_row(file, place, FileEnd::CODE, &mut numbers) {
-            RowRead::Refused { code, place } => FileEndRead::Refused { code, place },
-            RowRead::Read { text } => FileEndRead::Read {
-                record: FileEnd::of(numbers),
-                data: text,
-            },
-        }
+        let data = rows::read_row(file, place, FileEnd::CODE, &mut numbers)?;
+        Ok((FileEnd::of(numbers), data))
     }
 
     // Writes the tuple with 2 zeros behind its fields; 19 alone refuses it.
     pub fn write(self, msb: bool, out: &mut [u8]) -> Answer
-        ensures { FileEndWritten msb self out.old result out.new }
+        ensures { FileEndWritten msb self out.old (as_answer result) out.new }
     {
         rows::write_row(FileEnd::CODE, &self.numbers(), &[0u8; 2], msb, out)
     }

@@ -16,7 +16,7 @@ ghost use Rattle.ping_forms.specs.inner.Measured.{Measured};
 ghost use Rattle.forms.specs.inner.Parts.{listed_fields, first_listings, Rowed};
 
 use frame::DATA;
-use layout::{FIELDS, types};
+use layout::{Class, FIELDS, types};
 use ping_forms::Form;
 
 // The places of an event's characters and of an end of file's data bytes.
@@ -29,7 +29,7 @@ pub fn measure_form(file: &[u8], at: usize, msb: bool, whole: usize, code: u16) 
     requires { SoundHere msb file.now at whole code }
     ensures { Measured msb (tup_at msb (drop at file.now)) whole code result }
 {
-    if layout::in_class(layout::INDEX, code) {
+    if layout::in_class(Class::Index, code) {
         return Form { bytes: 0, code };
     }
     if ping_forms::is_compressed(code) {
@@ -165,7 +165,7 @@ pub fn write_form(
     ensures value { result ≡ length (form_bytes msb (tup_at msb (drop at file.now))) }
     ensures out_after { out.new ≡ sets out.old to (form_bytes msb (tup_at msb (drop at file.now))) }
 {
-    if layout::in_class(layout::INDEX, code) {
+    if layout::in_class(Class::Index, code) {
         return 0;
     }
     if ping_forms::is_compressed(code) {

@@ -1,2 +1,3 @@
 -- The code's own view of the definitions: what its inner contracts speak of. Nothing here need be believed. Assumes nothing.
 pub mod Framing
+pub mod Located

@@ -4,12 +4,13 @@
 // A file is lent as a slice of bytes and may hold anything; a place is a byte offset in it. Every call answers for every argument and
 // asks for nothing. It accepts, or it refuses by one code with a place: the first rule broken, in the order of docs/RULES.md. A refused
 // call leaves all lent memory as it was; an accepted one leaves what stands past what it wrote. `msb` is the byte order that a writer
-// is asked for: most significant byte first where it is true. Codes are named in `codes`, type codes in `types`.
+// is asked for: most significant byte first where it is true. Codes are named by `Code`, type codes in `types`.
 #![tactic(auto)]
 
-// What a call says: accepted with the tuples counted, the length written and the identifiers compared, or refused with a code and a
-// place.
-pub use layout::{Answer, codes, types};
+// What a call says: `Ok` with the tuples counted, the length written and the identifiers compared, or `Err` with a refusal, a code and a
+// place. Code::number gives a code's number.
+pub use layout::codes::Code;
+pub use layout::{Answer, Counts, Refusal, types};
 
 // Three kinds of identifier that are never taken for one another.
 pub use layout::{DocumentId, SoftwareChannel, Transceiver};
@@ -20,14 +21,14 @@ pub use layout::{DocumentId, SoftwareChannel, Transceiver};
 pub use intake::check;
 
 // The walk: a state that a step takes and hands back. Walk { at }.forward(file) and .backward(file) give a tuple (place, length, type
-// code, next state), the end, or a refusal at the step's place: 1, 2, 3, 5, 3, 6. Promises: `SteppedForward`, `SteppedBackward`,
+// code, next state), none at the end, or a refusal at the step's place: 1, 2, 3, 5, 3, 6. Promises: `SteppedForward`, `SteppedBackward`,
 // crates/frame/specs/Steps.antt.
-pub use frame::{Step, Walk};
+pub use frame::{Step, Tuple, Walk};
 
 // ask(file, place): the channel and the sounder of the ping at a place, both identifiers and both tuples' places, the channel's
 // sampling rate and type of data sample, with what the check counts. Refuses as the check does, then by 9 where no listed ping starts.
 // Promise: `AskedFor`, crates/intake/specs/Asking.antt.
-pub use intake::{Asked, ask};
+pub use intake::{Parents, ask};
 
 // settings(file, pings, thresholds, attitudes): which settings held at each listed ping, in file order, an entry of all three slices for
 // each: its place, the place of the last threshold before it for its channel, and that of the last attitude before it for its channel or
@@ -45,7 +46,7 @@ pub use settings::settings;
 // energies(file, places, energies, codes): those of all listed pings, in file order, an entry of all three slices for each: its place, its
 // energy and 0, or 0 and the code that energy gives there. Refuses as the check does, then by 19 at 0 where one of the slices is short.
 // Accepts with the file's tuples, the number of pings as the length, and the identifiers compared. Promise: `EnergiesTold`, there.
-pub use energy::{Echo, energies, energy};
+pub use energy::{Echo, Told, energies, energy};
 
 // readings(file, place, first, cases, doubles): what a viewer is shown of the ping at a place, for each sample number from the first on, as
 // many as both slices have entries: silent, volts, Sv or TS (SILENT, VOLTS, SV, TS) in one, the double in the other. Refuses as ask does;
@@ -64,7 +65,9 @@ pub use readings::{PAGE, Page, Reading, SILENT, SV, Shown, TS, VOLTS, page_at, r
 // nothing is copied. Tells the mark of that file (DEPOSIT, CORRECTIONS), code 0 and place 0; or a refusal's mark, code and place, with an
 // empty part. Promise: `CorrectedBy`, there; what a part is, and when which file wins: `Corrections`,
 // crates/corrections/specs/Parts.antt.
-pub use corrections::{CORRECTIONS, DEPOSIT, Found, NEITHER, corrected, find_ping};
+pub use corrections::{
+    CORRECTIONS, DEPOSIT, FileRefusal, Found, Held, NEITHER, Source, Span, corrected, find_ping,
+};
 
 // Pings are of seven kinds. With values: U-32 (10000) and U-16 (10030) uncompressed, C-32 (10010), C-16 (10040) and CE-16 (10050)
 // compressed. With angles, uncompressed: U-32-16-angles (10001) and U-16-angles (10031).
@@ -74,7 +77,7 @@ pub use corrections::{CORRECTIONS, DEPOSIT, Found, NEITHER, corrected, find_ping
 // samples always has it; an uncompressed ping, and a compressed one that ends in a value, have none. Refuses as a forward step does, 3 at
 // the end; then 9 for another type; 9, 11; 23 at the byte of the first number that doesn't rise, or 24 at that of the first word outside
 // the limits, 25 at the number of samples. Promise: `PingAt`, crates/pings/specs/Fields.antt.
-pub use pings::{PingHeader, PingKind, PingLength, PingRead, read_ping};
+pub use pings::{Ping, PingHeader, PingKind, PingLength, PingRead, read_ping};
 
 // What is the own of each of the seven types, as constants: the places of the header (PingHeader::TIME_FRACTION and so on, in the row's
 // order PingHeader::places()); code, least length and step, and where samples stand, or number of samples and words. `of_pairs` is
@@ -168,4 +171,4 @@ pub use edits::{append, index, remove};
 // are one range. Refuses at 0 by 1; 2; 27 where the table has fewer entries than three for each range; 19. Saves with the number of
 // ranges, the offsets tried, and as counts the tuples kept and the bytes written. Promise: `Salvaged`, crates/salvage/specs/Salvage.antt;
 // what it means for the ranges, the output and a second salvage: `Salvages`, crates/salvage/specs/Calls.antt.
-pub use salvage::{Outcome, salvage};
+pub use salvage::{Outcome, Saved, salvage};

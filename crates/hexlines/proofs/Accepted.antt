@@ -11,8 +11,8 @@ use Rattle.order.proofs.Laws.{bytes_drop}
 use Rattle.rules.specs.Rules.{Rule, ◌⇒◌, first_of, saying, AllPass}
 use Rattle.rules.proofs.Laws.{clear}
 use Rattle.layout.specs.declared.Counts.{Counts}
-use Rattle.layout.specs.declared.Answer.{Answer}
-use Rattle.layout.specs.declared.Answer.TheVariants.{Accepted, Refused}
+use Rattle.layout.specs.Answer.{Answer}
+use Rattle.layout.specs.Answer.{Accepted, Refused}
 use Rattle.layout.specs.Answers.{Breach, refused_at, accepting, is_accepted}
 use Rattle.layout.proofs.Verdicts.{passed}
 use Rattle.frame.specs.Frames.{Tup, frames, tup_at}

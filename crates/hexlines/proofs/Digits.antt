@@ -1,14 +1,13 @@
 -- Digits in and out: what a digit's code can be, a line's digits from a place on, and those of bytes. Assumes nothing.
 use mathlib.Core.Path.{◌≡◌, refl, sym, ap, ◌∙◌}
-use mathlib.Core.Bool.{Bool, true, false, ◌&&◌, ◌||◌}
+use mathlib.Core.Bool.{Bool, true, false, ◌&&◌}
 use mathlib.Core.List.{List, [], ◌∷◌}
-use mathlib.Core.Logic.{◌⊎◌, inl, inr, ⊎_elim}
 use Prim.Native.Nat.{ℕ, suc, ◌+◌, ◌*◌, ◌/◌, ◌%◌, ◌≤◌, ◌<◌}
 use native.Mathlib.Numerals.{add-one}
 use native.Mathlib.Omega.{arith}
 use lib.ListN.{length, drop, get_or, drop_of_length-le}
 use lib.Seq.{drop-cons}
-use borrow.Author.Tests.{leb-true}
+use Rattle.std.specs.List.{list_all}
 use Rattle.order.proofs.Stores.{add-two}
 use Rattle.rules.proofs.Bools.{both_true}
 use Rattle.hexlines.specs.Lines.{is_digit, digit_of, all_digits, bytes_in, digit, hex}
@@ -17,26 +16,15 @@ pub by_bool : {C : Type 0} (b : Bool) → (b ≡ true → C) → (b ≡ false �
 by_bool true f g = f refl
 by_bool false f g = g refl
 
--- ---- one digit
-one-true : (a b : Bool) → (a || b) ≡ true → (a ≡ true) ⊎ (b ≡ true)
-one-true true b e = inl refl
-one-true false b e = inr e
-
--- 0-9 or a-f
-pub digit-codes : (c : ℕ) → is_digit c ≡ true → ((48 ≤ c) × (c ≤ 57)) ⊎ ((97 ≤ c) × (c ≤ 102))
-digit-codes c e =
-    ⊎_elim (λ t. let p = both_true _ _ t in inl (leb-true 48 c p.0, leb-true c 57 p.1))
-    (λ t. let p = both_true _ _ t in inr (leb-true 97 c p.0, leb-true c 102 p.1))
-    (one-true _ _ e)
-
 -- ---- the digits of a line from i on
+pub digits_all : (l : List ℕ) → list_all (λ c. is_digit c) l ≡ all_digits l
+unfolding all_digits
+digits_all [] = refl
+digits_all (c ∷ cs) = ap (λ (b : Bool). is_digit c && b) (digits_all cs)
+
 pub digits-next : (l : List ℕ) (i : ℕ) → i < length l → all_digits (drop i l) ≡ is_digit (get_or l i 0) && all_digits (drop (i + 1) l)
 unfolding all_digits
 digits-next l i h = rw (drop-cons l i 0 h, add-one i)
-
-pub digits-end : (l : List ℕ) (i : ℕ) → length l ≤ i → all_digits (drop i l) ≡ true
-unfolding all_digits
-digits-end l i h = rw (drop_of_length-le l h)
 
 -- two digits at i, and digits behind them
 split : (l : List ℕ) (i : ℕ) → i < length l → all_digits (drop i l) ≡ true

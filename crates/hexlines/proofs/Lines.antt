@@ -1,14 +1,14 @@
 -- Lines in: a text's first line and the lines behind it, and what each adds to the input. Assumes nothing.
 use mathlib.Core.Path.{◌≡◌, refl, sym, ap, ◌∙◌}
-use mathlib.Core.Bool.{true, false}
+use mathlib.Core.Bool.{Bool, true, false, cond, not}
 use mathlib.Core.List.{List, [], ◌∷◌}
 use Prim.Native.Nat.{ℕ, suc, ◌+◌, ◌≤◌, ◌<◌}
 use native.Mathlib.Numerals.{add-one}
 use native.Mathlib.Omega.{arith}
 use lib.Dec.{eqb}
-use lib.ListN.{length, take, drop, get_or, drop_of_length-le}
-use lib.Seq.{drop-cons}
-use borrow.Author.Tests.{eq-eqb, ne_eqb}
+use lib.ListN.{length, take, drop}
+use Rattle.std.specs.List.{take_while, prefix_len}
+use Rattle.std.proofs.lemmas.List.Folds.{length-prefix_len}
 use Rattle.hexlines.specs.Lines.{line_feed, lines_of, in_front}
 use Rattle.hexlines.specs.inner.Reading.{line_length}
 use Rattle.hexlines.proofs.Digits.{by_bool}
@@ -22,19 +22,16 @@ pub goes_on : (c : ℕ) (cs : List ℕ) → eqb c line_feed ≡ false → line_l
 unfolding line_length
 goes_on c cs e = rw (e, line_length)
 
-module _ (t : List ℕ) (i : ℕ) where
-  pub ends_at : i < length t → get_or t i 0 ≡ line_feed → line_length (drop i t) ≡ 0
-  ends_at h e = ap line_length (drop-cons t i 0 h) ∙ ends (get_or t i 0) (drop (suc i) t) (eq-eqb _ _ e)
-
-  pub goes-past : i < length t → (get_or t i 0 ≡ line_feed → ⊥) → line_length (drop i t) ≡ line_length (drop (i + 1) t) + 1
-  goes-past h e =
-      ap line_length (drop-cons t i 0 h)
-      ∙ goes_on (get_or t i 0) (drop (suc i) t) (ne_eqb _ _ e)
-      ∙ ap (λ (k : ℕ). line_length (drop k t) + 1) (sym (add-one i))
-
-  pub ends_last : length t ≤ i → line_length (drop i t) ≡ 0
-  unfolding line_length
-  ends_last h = rw (drop_of_length-le t h)
+-- as many characters as an iterator takes while they are no line feed
+pub taken_before : (t : List ℕ) → length (take_while (λ c. not (eqb c 10)) t) ≡ line_length t
+taken_before t = length-prefix_len (λ c. not (eqb c 10)) t ∙ counted t
+  where
+    counted : (t : List ℕ) → prefix_len (λ c. not (eqb c 10)) t ≡ line_length t
+    counted [] = unfold line_length in refl
+    counted (c ∷ cs) =
+        by_bool (eqb c line_feed) (λ e. ap (λ (b : Bool). cond (not b) (1 + prefix_len (λ c. not (eqb c 10)) cs) 0) e ∙ sym (ends c cs e))
+        (λ e. ap (λ (b : Bool). cond (not b) (1 + prefix_len (λ c. not (eqb c 10)) cs) 0) e
+        ∙ omega (arith, goes_on c cs e, counted cs))
 
 pub line-within : (t : List ℕ) → line_length t ≤ length t
 line-within [] = unfold line_length in omega arith

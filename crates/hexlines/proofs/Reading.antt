@@ -11,8 +11,7 @@ use lib.ListN.{length, take, drop, length-append, length-drop, drop_of_length-le
 use lib.Seq.{sets, sets-eq, drop-drop, take_at, length-take-le, length-sets}
 use borrow.Author.Tests.{eqb-true, eqb-false, ltb-false, not-false}
 use Rattle.order.proofs.Stores.{sets_append}
-use Rattle.hexlines.specs.declared.lines_in.Decoded.{Decoded}
-use Rattle.hexlines.specs.declared.lines_in.Decoded.TheVariants.{Bytes, Bad}
+use Rattle.std.specs.Prelude.{Result, Ok, Err}
 use Rattle.hexlines.specs.Lines.{room, lines_of, all_digits, bytes_in, is_bad, Input, bad, bytes, joined, input_from, input_of}
 use Rattle.hexlines.specs.inner.Reading.{line_length, bytes_before, counted, Read}
 use Rattle.hexlines.proofs.Digits.{by_bool, length-bytes_in}
@@ -61,7 +60,7 @@ module _ (n : ℕ) (l : List ℕ) (ls : List (List ℕ)) where
 
 counted-joined : (n : ℕ) (l : List ℕ) (x : Input) → counted n (joined l x) ≡ counted (n + length l) x
 counted-joined n l (bad i) = refl
-counted-joined n l (bytes bs) = ap Bytes (omega (arith, length-append l bs))
+counted-joined n l (bytes bs) = ap Ok (omega (arith, length-append l bs))
 
 -- ---- the loop over the lines, at a place
 pub record Reading (text bytes₀ bytes : List ℕ) (number decoded at : ℕ) : Type 0 where
@@ -77,13 +76,13 @@ reading_begin text bytes₀ =
     record { within = omega arith; place = omega arith; few = omega arith; long = refl; answer = refl; memory = refl }
 
 pub reading_done : {text bytes₀ bytes : List ℕ} {number decoded at : ℕ} → Reading text bytes₀ bytes number decoded at → length text ≤ at
-    → Read text bytes₀ (Bytes decoded) bytes
+    → Read text bytes₀ (Ok decoded) bytes
 unfolding lines_of input_from bytes_before
 reading_done {text} {bytes₀} {bytes} {number} {decoded} {at} g h =
     let e : drop at text ≡ [] = drop_of_length-le text h in
     record {
       answer =
-          ap Bytes (sym (add-zero decoded))
+          ap Ok (sym (add-zero decoded))
           ∙ ap (λ (t : List ℕ). counted decoded (input_from number decoded (lines_of t))) (sym e)
           ∙ g.answer;
       memory = ap (λ (t : List ℕ). sets bytes decoded (bytes_before decoded (lines_of t))) (sym e) ∙ g.memory;
@@ -109,7 +108,7 @@ module _ (text : List ℕ) (at end : ℕ) (h : at < length text) (e : end ≡ at
       ∙ ap (λ (t : List ℕ). line ∷ lines_of t) (drop-drop (line_length (drop at text) + 1) at text ∙ ap (λ (k : ℕ). drop k text) m)
 
   module _ {bytes₀ bytes : List ℕ} {number decoded : ℕ} (g : Reading text bytes₀ bytes number decoded at) where
-    pub reading_bad : is_bad decoded line ≡ true → Read text bytes₀ (Bad number) bytes
+    pub reading_bad : is_bad decoded line ≡ true → Read text bytes₀ (Err number) bytes
     reading_bad b =
         record {
           answer =
@@ -171,18 +170,18 @@ input_before (l ∷ ls) i n bs h e =
     (λ b. before-line l ls n bs _ b (λ cs q. input_before ls (i + 1) (n + length l / 2) cs (good n l b).within q)
     (sym (input_good n l ls i b) ∙ e))
 
-module _ {text bytes₀ left : List ℕ} {r : Decoded} (p : Read text bytes₀ r left) (n : ℕ) where
-  pub read-bad : r ≡ Bad n → input_of text ≡ bad n
+module _ {text bytes₀ left : List ℕ} {r : Result ℕ ℕ} (p : Read text bytes₀ r left) (n : ℕ) where
+  pub read-bad : r ≡ Err n → input_of text ≡ bad n
   read-bad e = by_input (input_of text) (sym e ∙ p.answer)
     where
-      by_input : (x : Input) → Bad n ≡ counted 0 x → x ≡ bad n
+      by_input : (x : Input) → Err n ≡ counted 0 x → x ≡ bad n
       by_input (bad k) q = ap bad (sym (cc q))
       by_input (bytes bs) q = absurd (let z : ◌≡◌ {A = ℕ} 0 1 = cc in omega arith)
 
-  pub read-bytes : room ≡ length bytes₀ → r ≡ Bytes n → (n ≤ room) × (input_of text ≡ bytes (take n left))
+  pub read-bytes : room ≡ length bytes₀ → r ≡ Ok n → (n ≤ room) × (input_of text ≡ bytes (take n left))
   read-bytes long e = by_input (input_of text) refl (sym e ∙ p.answer)
     where
-      by_input : (x : Input) → input_of text ≡ x → Bytes n ≡ counted 0 x → (n ≤ room) × (input_of text ≡ bytes (take n left))
+      by_input : (x : Input) → input_of text ≡ x → Ok n ≡ counted 0 x → (n ≤ room) × (input_of text ≡ bytes (take n left))
       by_input (bad k) q z = absurd (let y : ◌≡◌ {A = ℕ} 0 1 = cc in omega arith)
       by_input (bytes bs) q z =
           let m : n ≡ 0 + length bs = cc in

@@ -1,11 +1,12 @@
 -- Stores one behind another: what is left to store, before a step and after it; and texts put one behind another. Assumes nothing.
-use mathlib.Core.Path.{◌≡◌, sym, ap, subst, ◌∙◌}
-use mathlib.Core.List.{List, [], ◌∷◌, ◌++◌}
-use Prim.Native.Nat.{ℕ, ◌+◌, ◌<◌}
+use mathlib.Core.Path.{◌≡◌, refl, sym, ap, subst, ◌∙◌}
+use mathlib.Core.List.{List, [], ◌∷◌, ◌++◌, append_assoc}
+use Prim.Native.Nat.{ℕ, ◌+◌, ◌≤◌, ◌<◌}
 use native.Mathlib.Numerals.{add-one}
 use native.Mathlib.Omega.{arith}
-use lib.ListN.{length, set, length-append, length-set}
-use lib.Seq.{sets}
+use lib.ListN.{length, set, take, drop, length-append, length-set}
+use lib.Seq.{sets, sets-eq, length-sets, drop-drop}
+use borrow.Rule.Slice.PartMut.{put_mid}
 use Rattle.order.proofs.Stores.{add-two, sets_append}
 use Rattle.hexlines.specs.inner.Printing.{Put}
 
@@ -18,6 +19,17 @@ pub store_two : (l xs rest : List ℕ) (to v w : ℕ) → xs ≡ v ∷ w ∷ res
 store_two l xs rest to v w e = rw (add-one to, add-two to) (ap (sets l to) (sym e))
 
 -- ---- a text put at a place
+-- copied into its part
+pub put_copied : (out text : List ℕ) (at n : ℕ) → n ≡ length text → at + length text ≤ length out
+    → {left : List ℕ} → left ≡ put_mid at n out text → Put out at text (at + length text) left
+put_copied out text at n e h {left} p =
+    let k : at + n ≡ at + length text = omega arith in
+    let m : left ≡ sets out at text = p
+    ∙ ap (λ (l : List ℕ). take at out ++ (text ++ l)) (drop-drop n at out ∙ ap (λ (k : ℕ). drop k out) k)
+    ∙ sym (append_assoc (take at out) text (drop (at + length text) out))
+    ∙ sym (sets-eq text out at h) in
+    record { behind = refl; within = omega (arith, ap length m, length-sets out at text); memory = m }
+
 pub put_one : (out text : List ℕ) (at v : ℕ) → at < length out → text ≡ v ∷ [] → Put out at text (at + 1) (set out at v)
 put_one out text at v h e =
     record {

@@ -1,8 +1,8 @@
 -- The two programs, from input bytes to printed bytes. Assumes nothing.
 use Rattle.std.specs.Prelude.{ℕ, false, List, [], ◌∷◌, ◌++◌}
 use Rattle.layout.specs.Text.{ascii}
-use Rattle.layout.specs.declared.Answer.{Answer}
-use Rattle.layout.specs.declared.Answer.TheVariants.{Accepted, Refused}
+use Rattle.layout.specs.Answer.{Answer}
+use Rattle.layout.specs.Answer.{Accepted, Refused}
 use Rattle.frame.specs.Frames.{Tup, frame}
 use Rattle.frame.specs.Files.{mark}
 use Rattle.normal.specs.Contents.{form_tuples, content_of}

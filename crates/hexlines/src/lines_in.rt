@@ -1,5 +1,6 @@
 // Lines in: text of hexadecimal lines, decoded into lent bytes.
-ghost use Rattle.std.specs.Prelude.{◌≡◌, true, false, ◌+◌, ◌*◌, ◌/◌, ◌%◌, ◌<◌, ◌≤◌, length, drop};
+ghost use Rattle.std.specs.Prelude.{◌≡◌, true, false, ◌+◌, ◌*◌, ◌/◌, ◌%◌, ◌<◌, ◌≤◌, ◌==◌, not, length, drop};
+ghost use Rattle.std.specs.List.{list_all, take_while};
 ghost use Rattle.std.proofs.lemmas.List.Edits.{sets};
 ghost use Rattle.hexlines.specs.Lines.{room, is_digit, digit_of, all_digits, bytes_in, is_bad};
 ghost use Rattle.hexlines.specs.inner.Reading.{line_length, Read};
@@ -8,13 +9,6 @@ use crate::{LETTER, LINE_FEED};
 
 // At most so many decoded bytes.
 pub const ROOM: usize = 65_536;
-
-// How the text was read: so many bytes, or the number of the first bad line.
-#[derive(Clone, Copy)]
-pub enum Decoded {
-    Bytes(usize),
-    Bad(usize),
-}
 
 // Whether a character is a digit: 0-9 and a-f.
 fn is_digit(c: u8) -> bool
@@ -42,16 +36,9 @@ fn byte_of(high: u8, low: u8) -> u8
 
 // Whether all characters of a line are digits.
 fn all_digits(line: &[u8]) -> bool
-    ensures { result ≡ all_digits line.now }
+    ensures { result ≡ list_all (λ c. is_digit c) line.now }
 {
-    let mut i = 0;
-    while i < line.len() {
-        if !is_digit(line[i]) {
-            return false;
-        }
-        i += 1;
-    }
-    true
+    line.iter().all(|c| is_digit(*c))
 }
 
 // Whether a line is empty, odd or not hexadecimal, or passes the limit, so many bytes being decoded before it.
@@ -59,16 +46,7 @@ fn is_bad(line: &[u8], decoded: usize) -> bool
     requires { decoded ≤ room }
     ensures { result ≡ is_bad decoded line.now }
 {
-    if line.len() == 0 {
-        return true;
-    }
-    if line.len() % 2 != 0 {
-        return true;
-    }
-    if !all_digits(line) {
-        return true;
-    }
-    ROOM < decoded + line.len() / 2
+    line.len() == 0 || line.len() % 2 != 0 || !all_digits(line) || ROOM < decoded + line.len() / 2
 }
 
 // Stores the bytes of a line, two digits a byte.
@@ -78,13 +56,16 @@ fn decode_line(line: &[u8], bytes: &mut [u8], at: usize)
     requires line_in_bounds { at + length line.now / 2 ≤ length bytes.old }
     ensures { bytes.new ≡ sets bytes.old at (bytes_in line.now) }
 {
-    let mut to = at;
-    let mut i = 0;
-    while i < line.len() {
-        bytes[to] = byte_of(line[i], line[i + 1]);
-        to += 1;
-        i += 2;
+    for i in 0..line.len() / 2 {
+        bytes[at + i] = byte_of(line[2 * i], line[2 * i + 1]);
     }
+}
+
+// The characters before the first line feed; all where there is none.
+fn before_feed(text: &[u8]) -> usize
+    ensures { result ≡ length (take_while (λ c. not (c == 10)) text.now) }
+{
+    text.iter().take_while(|c| **c != LINE_FEED).count()
 }
 
 // The place of the line feed that ends the line at a place; where none does, the end of the text.
@@ -92,18 +73,11 @@ fn line_end(text: &[u8], at: usize) -> usize
     requires { at ≤ length text.now }
     ensures { result ≡ at + line_length (drop at text.now) }
 {
-    let mut end = at;
-    while end < text.len() {
-        if text[end] == LINE_FEED {
-            return end;
-        }
-        end += 1;
-    }
-    end
+    at + before_feed(&text[at..])
 }
 
-// Decodes a text up to its first bad line.
-pub fn decode(text: &[u8], bytes: &mut [u8]) -> Decoded
+// Decodes a text: how many bytes, or the number of the first bad line.
+pub fn decode(text: &[u8], bytes: &mut [u8]) -> Result<usize, usize>
     requires { room ≤ length bytes.old }
     ensures { Read text.now bytes.old result bytes.new }
 {
@@ -113,12 +87,12 @@ pub fn decode(text: &[u8], bytes: &mut [u8]) -> Decoded
     while at < text.len() {
         let end = line_end(text, at);
         if is_bad(&text[at..end], decoded) {
-            return Decoded::Bad(number);
+            return Err(number);
         }
         decode_line(&text[at..end], bytes, decoded);
         decoded += (end - at) / 2;
         number += 1;
         at = end + 1;
     }
-    Decoded::Bytes(decoded)
+    Ok(decoded)
 }

@@ -6,18 +6,16 @@ ghost use Rattle.hexlines.specs.Programs.{file_lines, bad_line, refused_line};
 ghost use Rattle.hexlines.specs.inner.Printing.{Put, Form};
 
 use crate::{LETTER, LINE_FEED};
+use frame::passing;
 
 // Stores a text at a place.
 fn put(out: &mut [u8], at: usize, text: &[u8]) -> usize
     requires { at + length text.now ≤ length out.old }
     ensures { Put out.old at text.now result out.new }
 {
-    let mut i = 0;
-    while i < text.len() {
-        out[at + i] = text[i];
-        i += 1;
-    }
-    at + i
+    let behind = at + text.len();
+    out[at..behind].copy_from_slice(text);
+    behind
 }
 
 // Stores a number in decimal digits, of which it has at most twenty.
@@ -47,17 +45,14 @@ fn put_line(out: &mut [u8], at: usize, bytes: &[u8]) -> usize
     requires { at + 2 * length bytes.now + 1 ≤ length out.old }
     ensures { Put out.old at (line (hex bytes.now)) result out.new }
 {
-    let mut to = at;
-    let mut i = 0;
-    while i < bytes.len() {
-        let byte = bytes[i];
-        out[to] = hex_digit(byte / 16);
-        out[to + 1] = hex_digit(byte % 16);
-        to += 2;
-        i += 1;
+    for (i, byte) in bytes.iter().enumerate() {
+        let to = at + 2 * i;
+        out[to] = hex_digit(*byte / 16);
+        out[to + 1] = hex_digit(*byte % 16);
     }
-    out[to] = LINE_FEED;
-    to + 1
+    let end = at + 2 * bytes.len();
+    out[end] = LINE_FEED;
+    end + 1
 }
 
 // Prints which line is bad: four characters, at most twenty digits and the line feed.
@@ -76,7 +71,7 @@ pub fn print_refused(out: &mut [u8], code: u8, place: usize) -> usize
     ensures { Put out.old 0 (refused_line code place) result out.new }
 {
     let mut to = put(out, 0, b"refused ");
-    to = put_decimal(out, to, code as usize);
+    to = put_decimal(out, to, usize::from(code));
     to = put(out, to, b" ");
     to = put_decimal(out, to, place);
     put(out, to, b"\n")
@@ -89,11 +84,8 @@ pub fn print_form(out: &mut [u8], form: &[u8]) -> usize
     ensures { Put out.old 0 (file_lines (tuples_of form.now)) result out.new }
 {
     let mut to = put_line(out, 0, &form[..frame::MARKED]);
-    let mut at = frame::MARKED;
-    while at < form.len() {
-        let behind = at + frame::length_at(form, at, false);
-        to = put_line(out, to, &form[at..behind]);
-        at = behind;
+    for tuple in passing::behind_mark(form, false) {
+        to = put_line(out, to, &form[tuple.at..tuple.at + tuple.whole]);
     }
     to
 }

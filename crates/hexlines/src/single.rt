@@ -8,6 +8,7 @@ ghost use Rattle.hexlines.specs.inner.Printing.{Put};
 use crate::{print_answer, space};
 
 // Prints the normal form of a mark and one tuple, or its refusal.
+// Beside `whole::print`: one function for both would take the normaliser and, in its contract, all that the two promise; it's no plainer.
 pub fn print(printed: &mut [u8], file: &[u8]) -> usize
     requires { most_printed ≤ length printed.old }
     ensures { Put printed.old 0 (tuple_program (bytes file.now)) result printed.new }

@@ -4,13 +4,15 @@ use mathlib.Core.Path.{◌≡◌, refl, sym, ap, subst, ◌∙◌}
 use mathlib.Core.Bool.{Bool, true, false, not, cond, ◌&&◌, ◌||◌, true≢false}
 use mathlib.Core.List.{List, [], ◌∷◌, ◌++◌}
 use mathlib.Core.Logic.{⊎_elim}
-use Prim.Native.Nat.{ℕ, zero, suc, ◌+◌, ◌-◌, ◌*◌, ◌/◌, ◌%◌, ◌^◌, ◌≤◌, ◌<◌}
+use Prim.Native.Nat.{ℕ, zero, suc, ◌+◌, ◌*◌, ◌/◌, ◌%◌, ◌^◌, ◌≤◌, ◌<◌}
 use native.Mathlib.Nat.{le_of_suc-le-suc, not-suc-le-zero, eq-or-lt_of_le}
 use native.Mathlib.Omega.{arith}
 use borrow.Author.Tests.{eqb-true, eq-eqb, ne_eqb, ltb-true, ltb-false}
 use lib.Dec.{T, eqb, ltb, ltb→lt}
 use lib.ListN.{get_or, set, replicate, get_or-replicate, length-replicate, length-set, get_or-eq_default}
-use lib.Seq.{get_or-set_same, get_or-set_other, set-get_or}
+use lib.Seq.{get_or-set_same, get_or-set_other}
+use Rattle.std.proofs.Math.Facts.{eqb_yes}
+use Rattle.std.specs.Int.Bits.{bit_or}
 use Rattle.rules.proofs.Bools.{or-false}
 use Rattle.layout.specs.Types
 use Rattle.layout.specs.Types.{in_class}
@@ -123,38 +125,24 @@ pub none-flagged : (j : ℕ) → j < 65536 → flagged (replicate 8192 0) j ≡ 
 unfolding flagged
 none-flagged j h = ap (λ (b : ℕ). bit_of b (j % 8)) (get_or-replicate {A = ℕ} 8192 (j / 8) 0 0 (omega arith)) ∙ zero_bits (j % 8) (omega arith)
 
--- ---- the code's bits
-pub power : (j : ℕ) → j < 8 → get_or (1 ∷ 2 ∷ 4 ∷ 8 ∷ 16 ∷ 32 ∷ 64 ∷ 128 ∷ []) j 0 ≡ 2 ^ j
-power j h = eqb-true _ _ (T_true _ (at (λ j. eqb (get_or (1 ∷ 2 ∷ 4 ∷ 8 ∷ 16 ∷ 32 ∷ 64 ∷ 128 ∷ []) j 0) (2 ^ j)) 8 tt j h))
-  where
-    T_true : (b : Bool) → T b → b ≡ true
-    T_true true t = refl
-    T_true false t = absurd t
+-- ---- the code's bits: a byte and its bit j joined by or
+ored : ℕ → ℕ → Bool
+ored b j = eqb (bit_or b (1 * 2 ^ j % 256)) (with_bit b j)
 
-pub power-some : (j : ℕ) → j < 8 → 0 < 2 ^ j
-power-some j h = ltb→lt _ _ (at (λ j. ltb 0 (2 ^ j)) 8 tt j h)
+all_ored : T (below (λ b. below (ored b) 8) 256)
+unfolding ored
+all_ored = tt
 
--- a type of the index class stays out of it, others are flagged
-pub flag-within : (fs : List ℕ) (k : ℕ) → in_class Types.index k ≡ true → fs ≡ flag_outside fs k
-flag-within fs k e = sym (ap (λ (x : Bool). cond x fs (flag fs k)) e)
+pub flag_ored : (fs : List ℕ) (k : ℕ) → get_or fs (k / 8) 0 < 256
+    → set fs (k / 8) (bit_or (get_or fs (k / 8) 0) (1 * 2 ^ (k % 8) % 256)) ≡ flag fs k
+unfolding flag ored
+flag_ored fs k h =
+    let b = get_or fs (k / 8) 0 in
+    ap (set fs (k / 8)) (eqb_yes (at (ored b) 8 (at (λ b. below (ored b) 8) 256 all_ored b h) (k % 8) (omega arith)))
 
+-- a type outside the index class is flagged
 pub flag-outside : (fs : List ℕ) (k : ℕ) → in_class Types.index k ≡ false → flag fs k ≡ flag_outside fs k
 flag-outside fs k e = sym (ap (λ (x : Bool). cond x fs (flag fs k)) e)
-
--- a flag that stands stays as it is; one that doesn't is added
-pub flag-stands : (fs : List ℕ) (k : ℕ) → flagged fs k ≡ true → fs ≡ flag fs k
-unfolding flagged flag
-flag-stands fs k e = sym (ap (λ (x : Bool). set fs (k / 8) (cond x (get_or fs (k / 8) 0) (get_or fs (k / 8) 0 + 2 ^ (k % 8)))) e
-    ∙ set-get_or fs (k / 8) 0)
-
-pub flag_added : (fs : List ℕ) (k : ℕ) → flagged fs k ≡ false → set fs (k / 8) (get_or fs (k / 8) 0 + 2 ^ (k % 8)) ≡ flag fs k
-unfolding flagged flag
-flag_added fs k e = sym (ap (λ (x : Bool). set fs (k / 8) (cond x (get_or fs (k / 8) 0) (get_or fs (k / 8) 0 + 2 ^ (k % 8)))) e)
-
-pub flag-fits : (fs : List ℕ) (k : ℕ) → get_or fs (k / 8) 0 < 256 → flagged fs k ≡ false → get_or fs (k / 8) 0 + 2 ^ (k % 8) < 256
-unfolding flagged
-flag-fits fs k h e = subst (λ (x : Bool). cond x (get_or fs (k / 8) 0) (get_or fs (k / 8) 0 + 2 ^ (k % 8)) < 256) e
-    (bit_inside (get_or fs (k / 8) 0) (k % 8) h (omega arith))
 
 -- what is flagged stays flags
 pub flags-flag : (fs : List ℕ) → Flags fs → (k : ℕ) → Flags (flag fs k)
@@ -286,17 +274,3 @@ blank_byte fs k h e =
 
 pub blank_none : (fs : List ℕ) (k : ℕ) → k ≤ 65536 → Blank fs k k
 blank_none fs k h = record { on = omega arith; few = h; none = λ j l u. absurd (omega arith) }
-
--- from a place on, past a type that isn't flagged
-pub blank-past : (fs : List ℕ) (from k r : ℕ) → Blank fs from k → flagged fs k ≡ false → Blank fs (k + 1) r → Blank fs from r
-blank-past fs from k r a e b =
-    record { on = omega (arith, a.on, b.on); few = b.few; none = λ j l u. by_place j l u (ltb j k) refl (eqb j k) refl }
-  where
-    clash : false ≡ true → ⊥
-    clash z = true≢false (sym z)
-
-    by_place : (j : ℕ) → from ≤ j → j < r → (x : Bool) → ltb j k ≡ x → (y : Bool) → eqb j k ≡ y → flagged fs j ≡ false
-    by_place j l u true p y q = a.none j l (ltb-true j k p)
-    by_place j l u false p true q = ap (flagged fs) (eqb-true j k q) ∙ e
-    by_place j l u false p false q =
-        b.none j (let n : j ≡ k → ⊥ = λ z. clash (sym q ∙ eq-eqb j k z) in omega (arith, ltb-false j k p)) u

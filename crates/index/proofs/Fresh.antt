@@ -13,7 +13,7 @@ use Rattle.layout.specs.Types.{in_class, classes}
 use Rattle.frame.specs.Frames.{Tup, length_of, frame, frames}
 use Rattle.frame.proofs.Frames.{length-frame}
 use Rattle.frame.proofs.Tuples.{frames_append}
-use Rattle.links.specs.Links.{nothing, has}
+use Rattle.links.specs.Links.{has}
 use Rattle.index.specs.Index.{is_typed, types_of, index_tuple, index_of, before_end, from_end, with_index, outside, reindexed}
 use Rattle.index.proofs.Laws.{same_chosen, length_data, end-split}
 

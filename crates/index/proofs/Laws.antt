@@ -11,7 +11,7 @@ use lib.Dec.{eqb}
 use lib.ListN.{length, length-append, length-replicate}
 use Rattle.order.specs.Order.{bytes_of, Bytes}
 use Rattle.order.proofs.Laws.{length_bytes_of, bytes_append, bytes-lows, bytes-ordered}
-use Rattle.layout.specs.declared.Verdict.TheVariants.{Fine}
+use Rattle.layout.specs.Verdict.{Fine}
 use Rattle.layout.specs.Answers.{judged}
 use Rattle.layout.specs.Types.{Shape, indexed, shape_of, in_class, classes}
 use Rattle.layout.specs.Types

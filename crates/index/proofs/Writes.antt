@@ -1,6 +1,6 @@
 -- What the loops over the types carry: with the types still to come, the whole list. Assumes nothing.
 use mathlib.Core.Path.{◌≡◌, refl, sym, ap, ap₂, ◌∙◌}
-use mathlib.Core.Bool.{Bool, true, false}
+use mathlib.Core.Bool.{Bool, false}
 use mathlib.Core.List.{List, [], ◌∷◌, ◌++◌, append-nil, append_assoc}
 use Prim.Native.Nat.{ℕ, zero, suc, ◌+◌, ◌-◌, ◌*◌, ◌/◌, ◌%◌, ◌≤◌, ◌<◌}
 use native.Mathlib.Omega.{arith}
@@ -15,18 +15,18 @@ use Rattle.frame.specs.Frames.{frame, length_of}
 use Rattle.frame.specs.inner.Framing.{open_bytes, close_bytes}
 use Rattle.frame.proofs.Framing.{length_open}
 use Rattle.index.specs.Index.{chosen, spaced, index_data, index_tuple}
-use Rattle.index.specs.inner.Flags.{flagged, flagged_types, Blank, Next, opening_of}
+use Rattle.index.specs.inner.Flags.{flagged, flagged_from, flagged_types, Blank, opening_of}
 use Rattle.index.proofs.Laws.{pick, chosen-next, length-chosen, length_data}
 
 -- the types from k on that a test takes
 abbrev pub to_come : (ℕ → Bool) → ℕ → List ℕ
 to_come p k = chosen p (65536 - k) k
 
-come_next : (p : ℕ → Bool) (k : ℕ) (b : Bool) → k < 65536 → p k ≡ b → to_come p k ≡ pick b k (to_come p (k + 1))
+pub come_next : (p : ℕ → Bool) (k : ℕ) (b : Bool) → k < 65536 → p k ≡ b → to_come p k ≡ pick b k (to_come p (k + 1))
 come_next p k b h e = let z : 65536 - k ≡ suc (65536 - (k + 1)) = omega arith in
     ap (λ (n : ℕ). chosen p n k) z ∙ chosen-next p (65536 - (k + 1)) k b e
 
-come_end : (p : ℕ → Bool) (k : ℕ) → 65536 ≤ k → to_come p k ≡ []
+pub come_end : (p : ℕ → Bool) (k : ℕ) → 65536 ≤ k → to_come p k ≡ []
 unfolding chosen
 come_end p k h = let z : 65536 - k ≡ 0 = omega arith in ap (λ (n : ℕ). chosen p n k) z
 
@@ -45,85 +45,45 @@ come_blank fs from k b =
     past-none (flagged fs) (k - from) from (omega (arith, b.on, b.few)) (λ j l h. b.none j l (omega (arith, b.on)))
     ∙ ap (to_come (flagged fs)) z
 
--- ---- counting
-pub record Counting (fs : List ℕ) (n k : ℕ) : Type 0 where
-  pub few : k ≤ 65536
-  pub under : n ≤ k
-  pub here : k < 65536 → flagged fs k ≡ true
-  pub same : n + length (to_come (flagged fs) k) ≡ length (flagged_types fs)
+-- past a type that isn't flagged, and those that are none behind it
+pub come_past : (fs : List ℕ) (k r : ℕ) → k < 65536 → flagged fs k ≡ false → Blank fs (k + 1) r → flagged_from fs k ≡ flagged_from fs r
+come_past fs k r h e b = come_next (flagged fs) k false h e ∙ come_blank fs (k + 1) r b
 
-pub counting-begin : (fs : List ℕ) (k : ℕ) → Next fs 0 k → Counting fs 0 k
-unfolding flagged_types
-counting-begin fs k h =
-    record { few = h.blank.few; under = omega arith; here = h.here; same = omega (arith, ap length (come_blank fs 0 k h.blank)) }
-
-module _ {fs : List ℕ} {n k : ℕ} (c : Counting fs n k) where
-  pub counting-one : k < 65536 → (r : ℕ) → Next fs (k + 1) r → Counting fs (n + 1) r
-  counting-one l r h =
-      record {
-        few = h.blank.few;
-        under = omega (arith, c.under, h.blank.on);
-        here = h.here;
-        same = omega (
-          arith,
-          c.same,
-          ap length (come_next (flagged fs) k true l (c.here l)),
-          ap length
-              (come_blank fs (k + 1) r h.blank),
-        );
-      }
-
-  pub counting-end : 65536 ≤ k → n ≡ length (flagged_types fs)
-  counting-end h = omega (arith, c.same, ap length (come_end (flagged fs) k h))
-
--- ---- writing
-pub record Typing (fs : List ℕ) (o : Bool) (out₀ : List ℕ) (to : ℕ) (out : List ℕ) (q k : ℕ) : Type 0 where
-  pub few : k ≤ 65536
-  pub here : k < 65536 → flagged fs k ≡ true
+-- ---- writing: the words of ks, of which those left are to come
+pub record Typing (ks : List ℕ) (o : Bool) (out₀ : List ℕ) (to : ℕ) (out : List ℕ) (q : ℕ) (left : List ℕ) : Type 0 where
   pub long : length out ≡ length out₀
-  pub room : q + 2 * length (to_come (flagged fs) k) ≡ to + 2 * length (flagged_types fs)
-  pub same : sets out q (unwords 2 o (to_come (flagged fs) k)) ≡ sets out₀ to (unwords 2 o (flagged_types fs))
+  pub room : q + 2 * length left ≡ to + 2 * length ks
+  pub same : sets out q (unwords 2 o left) ≡ sets out₀ to (unwords 2 o ks)
 
-pub typing_begin : (fs : List ℕ) (o : Bool) (out : List ℕ) (to k : ℕ) → Next fs 0 k → Typing fs o out to out to k
-unfolding flagged_types
-typing_begin fs o out to k h =
-    let e = sym (come_blank fs 0 k h.blank) in
+pub typing_begin : (ks : List ℕ) (o : Bool) (out : List ℕ) (to : ℕ) (left : List ℕ) → left ≡ ks → Typing ks o out to out to left
+typing_begin ks o out to left e =
     record {
-      few = h.blank.few;
-      here = h.here;
       long = refl;
       room = ap (λ (l : List ℕ). to + 2 * length l) e;
       same = ap (λ (l : List ℕ). sets out to (unwords 2 o l)) e;
     }
 
-module _ {fs : List ℕ} {o : Bool} {out₀ : List ℕ} {to : ℕ} {out : List ℕ} {q k : ℕ} (c : Typing fs o out₀ to out q k) where
-  pub typing_room : k < 65536 → q + 2 ≤ to + 2 * length (flagged_types fs)
-  typing_room h = omega (arith, c.room, ap length (come_next (flagged fs) k true h (c.here h)))
+module _ {ks : List ℕ} {o : Bool} {out₀ : List ℕ} {to : ℕ} {out : List ℕ} {q : ℕ} {left : List ℕ} (c : Typing ks o out₀ to out q left) where
+  pub typing_room : (k : ℕ) (rest : List ℕ) → left ≡ k ∷ rest → q + 2 ≤ to + 2 * length ks
+  typing_room k rest e = omega (arith, c.room, ap length e)
 
-  pub typing_one : k < 65536 → (r : ℕ) → Next fs (k + 1) r → (next : List ℕ) → next ≡ sets out q (bytes_of o 2 k)
-      → Typing fs o out₀ to next (q + 2) r
+  pub typing_one : (k : ℕ) (rest : List ℕ) → left ≡ k ∷ rest → (next : List ℕ) → next ≡ sets out q (bytes_of o 2 k)
+      → Typing ks o out₀ to next (q + 2) rest
   unfolding unwords
-  typing_one l r h next w =
-      let rest = to_come (flagged fs) r in
-      let s : to_come (flagged fs) k ≡ k ∷ rest =
-      come_next (flagged fs) k true l (c.here l) ∙ ap (λ (l : List ℕ). k ∷ l) (come_blank fs (k + 1) r h.blank) in
+  typing_one k rest e next w =
       record {
-        few = h.blank.few;
-        here = h.here;
         long = ap length w ∙ length-sets out q (bytes_of o 2 k) ∙ c.long;
-        room = omega (arith, c.room, ap length s);
+        room = omega (arith, c.room, ap length e);
         same =
             ap (λ (l : List ℕ). sets l (q + 2) (unwords 2 o rest)) w
             ∙ sym (store_step o 2 k out (unwords 2 o rest) q)
-            ∙ ap (λ (l : List ℕ). sets out q (unwords 2 o l)) (sym s)
+            ∙ ap (λ (l : List ℕ). sets out q (unwords 2 o l)) (sym e)
             ∙ c.same;
       }
 
-  pub typing_end : 65536 ≤ k → (q ≡ to + 2 * length (flagged_types fs)) × (out ≡ sets out₀ to (unwords 2 o (flagged_types fs)))
+  pub typing_end : left ≡ [] → (q ≡ to + 2 * length ks) × (out ≡ sets out₀ to (unwords 2 o ks))
   unfolding unwords
-  typing_end h =
-      let s = come_end (flagged fs) k h in
-      (omega (arith, c.room, ap length s), sym (ap (λ (l : List ℕ). sets out q (unwords 2 o l)) s) ∙ c.same)
+  typing_end e = (omega (arith, c.room, ap length e), sym (ap (λ (l : List ℕ). sets out q (unwords 2 o l)) e) ∙ c.same)
 
 -- ---- the space
 words_append : (o : Bool) (us vs : List ℕ) → unwords 2 o (us ++ vs) ≡ unwords 2 o us ++ unwords 2 o vs
@@ -137,19 +97,10 @@ module _ (ks : List ℕ) (o : Bool) (out : List ℕ) (to q : ℕ) (e : q ≡ to 
   half : (q - to) / 2 ≡ length ks
   half = omega arith
 
-  even : (q - to) / 2 % 2 ≡ 0 → spaced ks ≡ ks
-  even h = let z : length ks % 2 ≡ 0 = ap (λ (n : ℕ). n % 2) (sym half) ∙ h in ap (λ (n : ℕ). ks ++ replicate n 0) z ∙ append-nil ks
-
   odd : ((q - to) / 2 % 2 ≡ 0 → ⊥) → spaced ks ≡ ks ++ (0 ∷ [])
   odd h =
       let y : length ks % 2 ≡ 0 → ⊥ = λ y. h (ap (λ (n : ℕ). n % 2) half ∙ y) in
       let z : length ks % 2 ≡ 1 = omega arith in ap (λ (n : ℕ). ks ++ replicate n 0) z
-
-  pub spaced-even : (q - to) / 2 % 2 ≡ 0 → (q ≡ to + 2 * length (spaced ks)) × (put ≡ sets out to (unwords 2 o (spaced ks)))
-  spaced-even h = rw (even h) (e, p)
-
-  pub odd-room : ((q - to) / 2 % 2 ≡ 0 → ⊥) → q + 2 ≡ to + 2 * length (spaced ks)
-  odd-room h = omega (arith, ap length (odd h), length-append ks (0 ∷ []))
 
   pub spaced-odd : ((q - to) / 2 % 2 ≡ 0 → ⊥) → (left : List ℕ) → left ≡ sets put q (bytes_of o 2 0)
       → left ≡ sets out to (unwords 2 o (spaced ks))

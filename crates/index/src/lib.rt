@@ -3,17 +3,18 @@
 
 ghost use Rattle.std.specs.Prelude.{◌≡◌, ◌+◌, ◌*◌, ◌%◌, ◌^◌, ◌≤◌, ◌<◌, length};
 ghost use Rattle.std.proofs.lemmas.List.Edits.{sets};
+ghost use Rattle.std.specs.Iterator.{YieldsFirst, item_count};
 ghost use Rattle.samples.specs.Words.{unwords};
 ghost use Rattle.frame.specs.Frames.{frame, length_of};
 ghost use Rattle.index.specs.Index.{spaced, index_tuple};
-ghost use Rattle.index.specs.inner.Flags.{flagged, flag_outside, flagged_types, Blank, Next, opening_of};
+ghost use Rattle.index.specs.inner.Flags.{flagged, flag_outside, flagged_from, flagged_types, Blank, opening_of};
+
+use layout::Class;
 
 // The types that there are, and the bytes of a flag for each.
 const TYPES: usize = 65_536;
 
 pub const FLAGS: usize = 8_192;
-
-const BITS: [u8; 8] = [1, 2, 4, 8, 16, 32, 64, 128];
 
 // The type of the Index 1 tuple.
 pub const INDEX_1: u16 = 65_406;
@@ -23,44 +24,25 @@ const BARE: usize = 20;
 
 const LIST: usize = 12;
 
-// A bit of a byte.
-fn bit(j: usize) -> u8
-    requires { j < 8 }
-    ensures { result ≡ 2 ^ j }
-{
-    BITS[j]
-}
-
-// A byte is under 256.
-fn byte(b: u8) -> u8
-    ensures { (result ≡ b) × (result < 256) }
-{
-    b
-}
-
 // Whether a type is flagged.
+#[tactic(auto, unfolding(crate::specs::inner::Flags::flagged))]
 fn is_flagged(flags: &[u8; FLAGS], code: usize) -> bool
     requires { code < 65536 }
     ensures { result ≡ flagged flags.now code }
 {
-    let b = flags[code / 8];
-    b / bit(code % 8) % 2 == 1
+    (flags[code / 8] >> (code % 8)) % 2 == 1
 }
 
 // Flags a tuple's type, unless it is of the index class, which no index lists.
 pub fn flag_type(flags: &mut [u8; FLAGS], code: u16)
     ensures { flags.new ≡ flag_outside flags.old code }
 {
-    if layout::in_class(layout::INDEX, code) {
+    if layout::in_class(Class::Index, code) {
         return;
     }
-    let k = code as usize;
-    if is_flagged(flags, k) {
-        return;
-    }
+    let k = usize::from(code);
     let at = k / 8;
-    let b = byte(flags[at]);
-    flags[at] = b + bit(k % 8);
+    flags[at] |= 1 << (k % 8);
 }
 
 // The type to look at behind one: past a byte without flags at once, since most are, and a file has few types.
@@ -75,32 +57,46 @@ fn skip(flags: &[u8; FLAGS], code: usize) -> usize
     code + 1
 }
 
-// The first flagged type from one on; the number of types where none is.
-fn next_type(flags: &[u8; FLAGS], from: usize) -> usize
-    requires { from ≤ 65536 }
-    ensures { Next flags.now from result }
-{
-    let mut k = from;
-    while k < TYPES {
-        if is_flagged(flags, k) {
-            return k;
+// The flagged types, ascending.
+#[derive(Drop)]
+struct TypesFrom<'a> {
+    flags: &'a [u8; FLAGS],
+    from: usize,
+}
+
+impl<'a> Iterator for TypesFrom<'a> {
+    type Item = u16;
+
+    ghost next_gives = { YieldsFirst (λ s. flagged_from s.flags.now s.from) };
+
+    ghost remaining = { item_count (λ s. flagged_from s.flags.now s.from) };
+
+    fn next(&mut self) -> Option<u16> {
+        while self.from < TYPES {
+            let code = self.from;
+            if is_flagged(self.flags, code) {
+                self.from = code + 1;
+                return Some(code as u16);
+            }
+            self.from = skip(self.flags, code);
         }
-        k = skip(flags, k);
+        None
     }
-    k
+}
+
+// All of them.
+#[tactic(auto, unfolding(crate::specs::inner::Flags::flagged_types))]
+fn types(flags: &[u8; FLAGS]) -> TypesFrom<'_>
+    ensures { flagged_from result.flags.now result.from ≡ flagged_types flags.now }
+{
+    TypesFrom { flags, from: 0 }
 }
 
 // How many types are flagged.
 pub fn count_types(flags: &[u8; FLAGS]) -> usize
     ensures { result ≡ length (flagged_types flags.now) }
 {
-    let mut n = 0;
-    let mut k = next_type(flags, 0);
-    while k < TYPES {
-        n += 1;
-        k = next_type(flags, k + 1);
-    }
-    n
+    types(flags).count()
 }
 
 // How many bytes the index of so many types has.
@@ -118,11 +114,9 @@ fn write_types(flags: &[u8; FLAGS], msb: bool, out: &mut [u8], to: usize) -> usi
     ensures out_after { out.new ≡ sets out.old to (unwords 2 msb (flagged_types flags.now)) }
 {
     let mut q = to;
-    let mut k = next_type(flags, 0);
-    while k < TYPES {
-        order::store2(out, q, msb, k as u16);
+    for code in types(flags) {
+        order::store2(out, q, msb, code);
         q += 2;
-        k = next_type(flags, k + 1);
     }
     q
 }

@@ -4,7 +4,7 @@ use mathlib.Core.Bool.{Bool}
 use mathlib.Core.List.{List, ◌++◌}
 use Prim.Native.Nat.{ℕ}
 use Rattle.order.specs.Order.{Bytes}
-use Rattle.layout.specs.declared.Verdict.TheVariants.{Fine}
+use Rattle.layout.specs.Verdict.{Fine}
 use Rattle.layout.specs.Answers.{both, judged}
 use Rattle.layout.proofs.Verdicts.{both_left, both_right, both-fine, judged_append}
 use Rattle.frame.specs.Frames.{Tup, frame, tup_at, frame_rules, framing}

@@ -10,8 +10,8 @@ use lib.Dec.{leb, eqb}
 use lib.ListN.{length, take, drop, length-drop}
 use lib.Seq.{length-take-le}
 use Rattle.rules.specs.Rules.{Rule, ◌⇒◌}
-use Rattle.layout.specs.declared.Verdict.{Verdict}
-use Rattle.layout.specs.declared.Verdict.TheVariants.{Fine, Fault}
+use Rattle.layout.specs.Verdict.{Verdict}
+use Rattle.layout.specs.Verdict.{Fine, Fault}
 use Rattle.layout.specs.Answers.{both, judged, Breach, ◌byte◌}
 use Rattle.layout.specs.Fields.{known}
 use Rattle.layout.specs.declared.Maker.{Maker}
@@ -30,8 +30,8 @@ use Rattle.links.specs.declared.Sounder.{Sounder}
 use Rattle.links.specs.declared.Channel.{Channel}
 use Rattle.links.specs.Links.{Link, sign_rules}
 use Rattle.links.specs.Links
-use Rattle.links.specs.declared.LinkVerdict.{LinkVerdict}
-use Rattle.links.specs.declared.LinkVerdict.TheVariants.{Linked, Faulty}
+use Rattle.links.specs.inner.LinkVerdict.{LinkVerdict}
+use Rattle.links.specs.inner.LinkVerdict.{Linked, Faulty}
 use Rattle.links.specs.inner.Tables.{comparing, linking}
 use Rattle.links.proofs.Rows.{told-fine, told_fault}
 use Rattle.samples.specs.Judging.{judged_samples, judged_words}

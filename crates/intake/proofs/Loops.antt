@@ -12,10 +12,10 @@ use lib.ListN.{length, drop, drop_of_length-le}
 use lib.Seq.{drop-drop}
 use Rattle.rules.proofs.Laws.{clear}
 use Rattle.layout.specs.declared.Counts.{Counts}
-use Rattle.layout.specs.declared.Answer.{Answer}
-use Rattle.layout.specs.declared.Answer.TheVariants.{Accepted, Refused}
-use Rattle.layout.specs.declared.Verdict.{Verdict}
-use Rattle.layout.specs.declared.Verdict.TheVariants.{Fine, Fault}
+use Rattle.layout.specs.Answer.{Answer}
+use Rattle.layout.specs.Answer.{Accepted, Refused}
+use Rattle.layout.specs.Verdict.{Verdict}
+use Rattle.layout.specs.Verdict.{Fine, Fault}
 use Rattle.layout.specs.Answers.{both, judged, is_accepted}
 use Rattle.layout.proofs.Verdicts.{both_left, both_right, both-fine, judged_append}
 use Rattle.frame.specs.Frames.{Tup, length_of, len_at, tup_at, framing}

@@ -11,8 +11,8 @@ use lib.ListN.{length, take, drop, length-append, length-drop}
 use lib.Seq.{take-append-le, drop-append-le}
 use Rattle.order.specs.Order.{num_of}
 use Rattle.rules.specs.Rules.{◌⇒◌}
-use Rattle.layout.specs.declared.Verdict.{Verdict}
-use Rattle.layout.specs.declared.Verdict.TheVariants.{Fine, Fault}
+use Rattle.layout.specs.Verdict.{Verdict}
+use Rattle.layout.specs.Verdict.{Fine, Fault}
 use Rattle.layout.specs.Answers.{both, judged, ◌byte◌}
 use Rattle.layout.specs.Types
 use Rattle.layout.specs.Types.{Shape, indexed, Length, fitting, length_from, in_class, shape_of}
@@ -24,8 +24,8 @@ use Rattle.frame.proofs.Frames.{allowed_16}
 use Rattle.links.specs.Links.{Digest, nothing, sign_rules, link_rules, compares, note}
 use Rattle.content.specs.Items.{item_by, item_of, identified_by, inner_by, digest_item, digest}
 use Rattle.intake.specs.declared.Tally.{Tally}
-use Rattle.intake.specs.declared.Turned.{Turned}
-use Rattle.intake.specs.declared.Turned.TheVariants.{On}
+use Rattle.intake.specs.inner.Turned.{Turned}
+use Rattle.intake.specs.inner.Turned.{On}
 use Rattle.intake.specs.Check.{Course, Turn, stop, go, sounder_place, channel_place, past, onward, after, turn_on}
 use Rattle.intake.specs.inner.Tallies.{Tables, course_of, turn_of, Standing, TurnedTo, PassedIndex}
 use Rattle.intake.proofs.Turns.{emptied, judgement, turn-on-parts, parts-judged}

@@ -30,7 +30,7 @@ use Rattle.content.proofs.Fine.{upward-least}
 use Rattle.content.proofs.Families.{plain-least, some_sample_bytes}
 use Rattle.content.proofs.Places.{fits-place, header}
 use Rattle.intake.specs.declared.Tally.{Tally}
-use Rattle.intake.specs.declared.Asked.{Asked}
+use Rattle.intake.specs.Asked.{Asked}
 use Rattle.intake.specs.Asking.{no_channel, channel_nth, channel_for, sounder_nth, parents_in, ask_item}
 use Rattle.intake.specs.inner.Tallies.{Tables, Sized, course_of, Standing, ping_at, named_at, ask_where, AskIn}
 use Rattle.intake.proofs.Asks.{Fair}

@@ -11,7 +11,7 @@ use lib.Dec.{eqb, leb, lit≤}
 use lib.ListN.{length, drop, length-take, length-drop}
 use Rattle.rules.specs.Rules.{◌⇒◌}
 use Rattle.rules.proofs.Bools.{both_true, same_arms}
-use Rattle.layout.specs.declared.Verdict.TheVariants.{Fine, Fault}
+use Rattle.layout.specs.Verdict.{Fine, Fault}
 use Rattle.layout.specs.Families.{Family, value_bytes, sample_bytes}
 use Rattle.layout.specs.Answers.{both, judged, ◌byte◌}
 use Rattle.layout.specs.declared.Says.{Says}

@@ -1,7 +1,7 @@
 -- A tuple by itself, whatever stands around it: at the front of what is left of a file, r. Assumes nothing.
 use Rattle.std.specs.Prelude.{ℕ, Bool, List, ◌++◌}
 use Rattle.rules.specs.Rules.{Rule}
-use Rattle.layout.specs.declared.Verdict.{Verdict}
+use Rattle.layout.specs.Verdict.{Verdict}
 use Rattle.layout.specs.Answers.{judged, Breach}
 use Rattle.frame.specs.Frames.{tup_at, frame_rules}
 use Rattle.content.specs.Items.{head_rules, inner_rules}

@@ -1,3 +1,5 @@
 -- The code's own view of the definitions: what its inner contracts speak of. Nothing here need be believed. Assumes nothing.
+pub mod Turned
+pub mod Views
 pub mod Tallies
 pub mod Sound

@@ -3,6 +3,11 @@
 
 ghost use Rattle.std.specs.Prelude.{◌≡◌, ◌+◌, ◌-◌, ◌^◌, ◌<◌, ◌≤◌, length, drop, true, ◌&&◌, ◌||◌};
 ghost use Rattle.layout.specs.Types;
+ghost use Rattle.layout.specs.Answer.{Accepted};
+ghost use Rattle.layout.specs.Views.{as_verdict, as_answer};
+ghost use Rattle.links.specs.inner.Views.{as_linked};
+ghost use Rattle.intake.specs.Views.{as_asked};
+ghost use Rattle.intake.specs.inner.Views.{as_turned};
 ghost use Rattle.layout.specs.Types.{in_class, is_ping};
 ghost use Rattle.frame.specs.Frames.{tup_at, allowed};
 ghost use Rattle.frame.specs.Files.{limit};
@@ -14,8 +19,12 @@ ghost use Rattle.intake.specs.Alone.{alone};
 ghost use Rattle.intake.specs.Check.{check_file, ending, Checked};
 ghost use Rattle.intake.specs.Asking.{AskedFor, ask_accepted};
 
-use layout::{Answer, Counts, DocumentId, Maker, Says, SoftwareChannel, Verdict, codes, types};
+use layout::codes::Code;
+use layout::{
+    Answer, Class, Counts, DocumentId, Maker, Refusal, Says, SoftwareChannel, Verdict, types,
+};
 use links::{CHANNELS, Channel, LinkVerdict, Row, SOUNDERS, Sounder};
+use std::ops::ControlFlow;
 
 // The places of the fields that link tuples, behind a tuple's first byte.
 const NUMBER_OF_CHANNELS: usize = 6;
@@ -36,22 +45,16 @@ const NAMED_CHANNEL: usize = 12;
 pub const ALL_CHANNELS: u16 = 65535;
 
 // What asking gives: both identifiers and both tuples' places, the channel's sampling rate and type of data sample, and what the
-// file's acceptance counts; or a refusal.
+// file's acceptance counts.
 #[derive(Clone, Copy)]
-pub enum Asked {
-    Parents {
-        channel: SoftwareChannel,
-        channel_place: usize,
-        sampling_rate: u32,
-        sample_type: u16,
-        sounder: DocumentId,
-        sounder_place: usize,
-        counts: Counts,
-    },
-    Refused {
-        code: u8,
-        place: usize,
-    },
+pub struct Parents {
+    pub channel: SoftwareChannel,
+    pub channel_place: usize,
+    pub sampling_rate: u32,
+    pub sample_type: u16,
+    pub sounder: DocumentId,
+    pub sounder_place: usize,
+    pub counts: Counts,
 }
 
 // Where the check stands: its place in the file, the tuples counted, the identifiers compared, the sounders and the channels declared,
@@ -71,11 +74,7 @@ pub struct Tally {
 }
 
 // A turn takes the tally past a tuple, or ends the check.
-#[derive(Clone, Copy)]
-pub enum Turned {
-    On(Tally),
-    Done(Answer),
-}
+pub type Turned = ControlFlow<Answer, Tally>;
 
 // 7, then 9 and 8, of the tuple at a place.
 pub fn judge_head(
@@ -87,22 +86,22 @@ pub fn judge_head(
     first: bool,
 ) -> Verdict
     requires { Here msb file.now at whole code }
-    ensures { result ≡ head_verdict msb first (tup_at msb (drop at file.now)) }
+    ensures { as_verdict result ≡ head_verdict msb first (tup_at msb (drop at file.now)) }
 {
     let signs = code == types::SIGNATURE;
     if signs != first {
-        return layout::fault(codes::MISPLACED_SIGNATURE);
+        return layout::fault(Code::MisplacedSignature);
     }
     if !layout::fits(code, whole) {
-        return layout::fault(codes::UNFIT);
+        return layout::fault(Code::Unfit);
     }
     if code != types::SIGNATURE {
-        return Verdict::Fine;
+        return Ok(());
     }
     if !layout::is_known(order::read2(file, at + IDENTIFIER, msb)) {
-        return layout::fault(codes::UNKNOWN_IDENTIFIER);
+        return layout::fault(Code::UnknownIdentifier);
     }
-    Verdict::Fine
+    Ok(())
 }
 
 // What the sounder tuple of a maker at a place declares.
@@ -155,11 +154,11 @@ fn judge_links(
     requires fits { Fits whole code }
     requires held { Held w (tables sounders.now channels.now) }
     requires most_channels_in_bounds { most_channels ≤ length notes.now }
-    ensures { result ≡ link_told msb (drop from part.now) w
+    ensures { as_linked result ≡ link_told msb (drop from part.now) w
         (tables sounders.now channels.now) }
 {
     match layout::says_of(code) {
-        Says::Nothing => LinkVerdict::Linked { compared: 0 },
+        Says::Nothing => Ok(0),
         Says::Sounder(maker) => {
             let it = sounder_at(part, from, msb, maker);
             links::judge_sounder(sounders, w.sounders, it)
@@ -171,7 +170,7 @@ fn judge_links(
         Says::NamesOrAll => {
             let id = named_at(part, from, msb);
             if id.0 == ALL_CHANNELS {
-                return LinkVerdict::Linked { compared: 0 };
+                return Ok(0);
             }
             links::judge_name(channels, w.channels, id, w.near, notes)
         }
@@ -191,7 +190,7 @@ fn judge_links(
 fn judge_inner(file: &[u8], at: usize, msb: bool, whole: usize, code: u16) -> Verdict
     requires here { Here msb file.now at whole code }
     requires fits { Fits whole code }
-    ensures { result ≡ inner_verdict msb (tup_at msb (drop at file.now)) }
+    ensures { as_verdict result ≡ inner_verdict msb (tup_at msb (drop at file.now)) }
 {
     let until = at + whole - frame::TAIL;
     match code {
@@ -217,7 +216,7 @@ fn judge_inner(file: &[u8], at: usize, msb: bool, whole: usize, code: u16) -> Ve
             let count = order::read4(file, at + samples::COUNT, msb);
             samples16::judge_words(&file[at + samples::WORDS..until], msb, count, true)
         }
-        _ => Verdict::Fine,
+        _ => Ok(()),
     }
 }
 
@@ -235,53 +234,39 @@ fn judge(
     requires from_in_bounds { from ≤ length part.now }
     requires held { Held w (tables sounders.now channels.now) }
     requires most_channels_in_bounds { most_channels ≤ length notes.now }
-    ensures { result ≡ turn_told msb (drop from part.now) w
+    ensures { as_linked result ≡ turn_told msb (drop from part.now) w
         (tables sounders.now channels.now) }
 {
     if part.len() == from {
-        return links::comparing(layout::fault(codes::NO_END), 0);
+        return layout::fault(Code::NoEnd);
     }
-    let framed = frame::judge_frame(part, from, msb);
-    let Verdict::Fine = framed else {
-        return links::comparing(framed, 0);
-    };
+    frame::judge_frame(part, from, msb)?;
     let whole = frame::length_at(part, from, msb);
     let code = frame::kind_at(part, from, msb);
-    let headed = judge_head(part, from, msb, whole, code, w.count == 0);
-    let Verdict::Fine = headed else {
-        return links::comparing(headed, 0);
-    };
-    let linked = judge_links(part, from, msb, w, whole, code, sounders, channels, notes);
-    let LinkVerdict::Linked { compared } = linked else {
-        return linked;
-    };
+    judge_head(part, from, msb, whole, code, w.count == 0)?;
+    let compared = judge_links(part, from, msb, w, whole, code, sounders, channels, notes)?;
     // what judges samples isn't inlined, and so it is called for pings alone
-    if !is_ping(code) {
-        return linked;
+    if is_ping(code) {
+        judge_inner(part, from, msb, whole, code)?;
     }
-    links::comparing(judge_inner(part, from, msb, whole, code), compared)
+    Ok(compared)
 }
 
 // A tuple's own rules, whatever stands before it: 9 and 8, then those of its samples. A signature that stands first breaks no 7.
 pub fn judge_own(file: &[u8], at: usize, msb: bool, whole: usize, code: u16) -> Verdict
     requires { Here msb file.now at whole code }
-    ensures { result ≡ own_verdict msb (tup_at msb (drop at file.now)) }
+    ensures { as_verdict result ≡ own_verdict msb (tup_at msb (drop at file.now)) }
 {
-    match judge_head(file, at, msb, whole, code, code == types::SIGNATURE) {
-        Verdict::Fault { code, offset } => Verdict::Fault { code, offset },
-        Verdict::Fine => judge_inner(file, at, msb, whole, code),
-    }
+    judge_head(file, at, msb, whole, code, code == types::SIGNATURE)?;
+    judge_inner(file, at, msb, whole, code)
 }
 
 // A tuple by itself, whatever stands around it: the rules of its frame, then its own.
 pub fn judge_alone(file: &[u8], at: usize, msb: bool) -> Verdict
     requires { at ≤ length file.now }
-    ensures { result ≡ alone msb (drop at file.now) }
+    ensures { as_verdict result ≡ alone msb (drop at file.now) }
 {
-    let framed = frame::judge_frame(file, at, msb);
-    let Verdict::Fine = framed else {
-        return framed;
-    };
+    frame::judge_frame(file, at, msb)?;
     let whole = frame::length_at(file, at, msb);
     let code = frame::kind_at(file, at, msb);
     judge_own(file, at, msb, whole, code)
@@ -334,10 +319,10 @@ impl Tally {
             sounders: self.sounders,
             channels: self.channels,
             near: nearer(self.near, compared),
-            position: either(self.position, layout::in_class(layout::POSITION, code)),
-            sounder: either(self.sounder, layout::in_class(layout::SOUNDER, code)),
-            channel: either(self.channel, layout::in_class(layout::CHANNEL, code)),
-            ping: either(self.ping, layout::in_class(layout::PING, code)),
+            position: either(self.position, layout::in_class(Class::Position, code)),
+            sounder: either(self.sounder, layout::in_class(Class::Sounder, code)),
+            channel: either(self.channel, layout::in_class(Class::Channel, code)),
+            ping: either(self.ping, layout::in_class(Class::Ping, code)),
         }
     }
 
@@ -360,21 +345,21 @@ impl Tally {
 fn end(total: usize, w: Tally, sounders: &[Row], channels: &[Row]) -> Answer
     requires sounders_in_bounds { w.sounders ≤ length sounders.now }
     requires channels_in_bounds { w.channels ≤ length channels.now }
-    ensures { result ≡ ending total (course_of w (tables sounders.now channels.now)) }
+    ensures { as_answer result ≡ ending total (course_of w (tables sounders.now channels.now)) }
 {
     let at = w.at;
     if at < total {
-        return layout::refuse(codes::BEHIND_END, at);
+        return layout::refuse(Code::BehindEnd, at);
     }
     if !w.complete() {
-        return layout::refuse(codes::CLASS_ABSENT, total);
+        return layout::refuse(Code::ClassAbsent, total);
     }
     let wrong = links::first_wrong(sounders, w.sounders, channels, w.channels);
     if wrong < w.sounders {
         let place = links::wide(sounders[wrong][links::PLACE]);
-        return layout::refuse(codes::WRONG_COUNT, place);
+        return layout::refuse(Code::WrongCount, place);
     }
-    Answer::Accepted(Counts {
+    Ok(Counts {
         tuples: w.count,
         written: 0,
         compared: w.compared,
@@ -387,8 +372,8 @@ fn may_declare(code: u16) -> bool
     ensures { result ≡ in_class Types.sounder code || in_class Types.channel code }
 {
     either(
-        layout::in_class(layout::SOUNDER, code),
-        layout::in_class(layout::CHANNEL, code),
+        layout::in_class(Class::Sounder, code),
+        layout::in_class(Class::Channel, code),
     )
 }
 
@@ -411,38 +396,38 @@ fn turn(
     requires sized { Sized (tables sounders.old channels.old) }
     ensures { TurnedTo msb total (drop from part.now) w
         (tables sounders.old channels.old)
-        result
+        (as_turned result)
         (tables sounders.new channels.new) }
 {
     let at = w.at;
     match judge(part, from, msb, w, sounders, channels, notes) {
-        LinkVerdict::Faulty { code, offset } => Turned::Done(layout::refuse(code, at + offset)),
-        LinkVerdict::Linked { compared } => {
+        Err(flaw) => ControlFlow::Break(Err(flaw.at(at))),
+        Ok(compared) => {
             let whole = frame::length_at(part, from, msb);
             let code = frame::kind_at(part, from, msb);
             let mut next = w.past(whole, code, compared);
             if !may_declare(code) {
                 if code == types::FILE_END {
-                    return Turned::Done(end(total, next, sounders, channels));
+                    return ControlFlow::Break(end(total, next, sounders, channels));
                 }
-                return Turned::On(next);
+                return ControlFlow::Continue(next);
             }
             match layout::says_of(code) {
-                Says::Nothing => Turned::On(next),
-                Says::Names => Turned::On(next),
-                Says::NamesOrAll => Turned::On(next),
+                Says::Nothing => ControlFlow::Continue(next),
+                Says::Names => ControlFlow::Continue(next),
+                Says::NamesOrAll => ControlFlow::Continue(next),
                 Says::Sounder(maker) => {
                     let it = sounder_at(part, from, msb, maker);
                     links::put_sounder(sounders, w.sounders, it, at);
                     next.sounders = w.sounders + 1;
-                    Turned::On(next)
+                    ControlFlow::Continue(next)
                 }
                 Says::Channel(maker) => {
                     let it = channel_at(part, from, msb, maker);
                     links::put_channel(channels, w.channels, it, at);
                     links::note_row(notes, it.id, w.channels);
                     next.channels = w.channels + 1;
-                    Turned::On(next)
+                    ControlFlow::Continue(next)
                 }
             }
         }
@@ -491,23 +476,23 @@ pub fn run_on(
     requires sized { Sized (tables sounders.old channels.old) }
     ensures { RanTo msb total until (drop from part.now) start
         (tables sounders.old channels.old)
-        result
+        (as_turned result)
         (tables sounders.new channels.new) }
 {
     let mut w = start;
     let mut at = from;
     while w.at != until {
         match turn(part, at, total, msb, w, sounders, channels, notes) {
-            Turned::On(next) => {
+            ControlFlow::Continue(next) => {
                 at += next.at - w.at;
                 w = next;
             }
-            Turned::Done(answer) => {
-                return Turned::Done(answer);
+            ControlFlow::Break(answer) => {
+                return ControlFlow::Break(answer);
             }
         }
     }
-    Turned::On(w)
+    ControlFlow::Continue(w)
 }
 
 // The turns of a whole file, from its mark until the tally stands at a place or the check ends.
@@ -522,7 +507,7 @@ fn run(
     requires in_bounds { 4 ≤ length file.now }
     requires file_len_bound { length file.now ≤ limit }
     requires sized { Sized (tables sounders.old channels.old) }
-    ensures { RunTo msb file.now until result
+    ensures { RunTo msb file.now until (as_turned result)
         (tables sounders.new channels.new) }
 {
     let begin = Tally::begin();
@@ -542,13 +527,13 @@ fn run(
 // The check of a file: 1, 2; tuple by tuple as `judge` orders them; 15, 16, 17. It accepts with the tuples and the
 // identifiers compared.
 pub fn check(file: &[u8]) -> Answer
-    ensures { Checked file.now result }
+    ensures { Checked file.now (as_answer result) }
 {
     if frame::LIMIT < file.len() {
-        return layout::refuse(codes::OVER_LIMIT, 0);
+        return layout::refuse(Code::OverLimit, 0);
     }
     if !frame::is_marked(file) {
-        return layout::refuse(codes::NO_MARK, 0);
+        return layout::refuse(Code::NoMark, 0);
     }
     let msb = frame::is_msb(file);
     let mut sounders = [links::BLANK; SOUNDERS];
@@ -562,8 +547,8 @@ pub fn check(file: &[u8]) -> Answer
         &mut channels,
         &mut notes,
     ) {
-        Turned::On(_) => layout::refuse(codes::NO_END, file.len()),
-        Turned::Done(answer) => answer,
+        ControlFlow::Continue(_) => layout::refuse(Code::NoEnd, file.len()),
+        ControlFlow::Break(answer) => answer,
     }
 }
 
@@ -591,23 +576,20 @@ fn ask_here(
     counts: Counts,
     sounders: &[Row],
     channels: &[Row],
-) -> Asked
+) -> Result<Parents, Refusal>
     requires { AskIn msb file.now w (tables sounders.now channels.now) }
-    ensures { result ≡ ask_where msb file.now counts (course_of w (tables sounders.now channels.now)) }
+    ensures { as_asked result ≡ ask_where msb file.now counts (course_of w (tables sounders.now channels.now)) }
 {
     let at = w.at;
     if !is_ping(frame::kind_at(file, at, msb)) {
-        return Asked::Refused {
-            code: codes::UNFIT,
-            place: at,
-        };
+        return layout::refuse(Code::Unfit, at);
     }
     let channel = named_at(file, at, msb);
     let found = links::find_channel(channels, w.channels, channel);
     let row = channels[found];
     let sounder = DocumentId(row[links::PARENT]);
     let over = links::find_sounder(sounders, w.sounders, sounder);
-    Asked::Parents {
+    Ok(Parents {
         channel,
         channel_place: links::wide(row[links::PLACE]),
         sampling_rate: row[links::RATE],
@@ -615,33 +597,28 @@ fn ask_here(
         sounder,
         sounder_place: links::wide(sounders[over][links::PLACE]),
         counts,
-    }
+    })
 }
 
 // Goes to a place of an accepted file, tuple by tuple, keeping the declarations before it.
-fn ask_accepted(file: &[u8], place: usize, counts: Counts) -> Asked
-    requires { check_file file.now ≡ Answer.Accepted counts }
-    ensures { result ≡ ask_accepted file.now place counts }
+fn ask_accepted(file: &[u8], place: usize, counts: Counts) -> Result<Parents, Refusal>
+    requires { check_file file.now ≡ Accepted counts }
+    ensures { as_asked result ≡ ask_accepted file.now place counts }
 {
     let msb = frame::is_msb(file);
     let mut sounders = [links::BLANK; SOUNDERS];
     let mut channels = [links::BLANK; CHANNELS];
     let mut notes = [0u16; CHANNELS];
     match run(file, msb, place, &mut sounders, &mut channels, &mut notes) {
-        Turned::On(w) => ask_here(file, msb, w, counts, &sounders, &channels),
-        Turned::Done(_) => Asked::Refused {
-            code: codes::UNFIT,
-            place,
-        },
+        ControlFlow::Continue(w) => ask_here(file, msb, w, counts, &sounders, &channels),
+        ControlFlow::Break(_) => layout::refuse(Code::Unfit, place),
     }
 }
 
 // Asks for a ping's channel and sounder: the check's refusals for the whole file, then 9 where no listed ping starts.
-pub fn ask(file: &[u8], place: usize) -> Asked
-    ensures { AskedFor file.now place result }
+pub fn ask(file: &[u8], place: usize) -> Result<Parents, Refusal>
+    ensures { AskedFor file.now place (as_asked result) }
 {
-    match check(file) {
-        Answer::Refused { code, place } => Asked::Refused { code, place },
-        Answer::Accepted(counts) => ask_accepted(file, place, counts),
-    }
+    let counts = check(file)?;
+    ask_accepted(file, place, counts)
 }

@@ -1,6 +1,11 @@
 pub mod Text
+pub mod Code
+pub mod Answer
+pub mod Verdict
+pub mod Views
 pub mod Answers
 pub mod Fields
 pub mod Families
 pub mod Types
+pub mod Class
 pub mod inner

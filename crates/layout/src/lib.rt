@@ -5,11 +5,14 @@
 pub mod codes;
 pub mod types;
 
-ghost use Rattle.std.specs.Prelude.{◌≡◌, ◌<◌, [], get_or};
-ghost use Rattle.layout.specs.Answers.{accepting};
+ghost use Rattle.std.specs.Prelude.{◌≡◌, ◌+◌, ◌^◌, ◌<◌, [], get_or, Ok, Err};
+ghost use Rattle.layout.specs.Answers.{counts};
+ghost use Rattle.layout.specs.Class.{class_number};
 ghost use Rattle.layout.specs.Fields.{known};
 ghost use Rattle.layout.specs.Types.{in_class, listed, lengths_of, says_of, fitting, same_maker};
 ghost use Rattle.layout.specs.inner.Codes.{place_in, rowed, row_codes, measures, maker_number, maker_of};
+
+use codes::Code;
 
 // What an acceptance counts: the tuples of what was handed in, the bytes or samples written, the identifiers compared while linking
 // the tuples of a file.
@@ -20,18 +23,34 @@ pub struct Counts {
     pub compared: usize,
 }
 
-// What intake says: it accepts and counts, or it refuses with the code and the place of the first broken rule.
-#[derive(Clone, Copy)]
-pub enum Answer {
-    Accepted(Counts),
-    Refused { code: u8, place: usize },
+// Why a call refuses: the code of the first broken rule, and its place.
+#[derive(Clone, Copy, Debug, PartialEq, Eq)]
+pub struct Refusal {
+    pub code: Code,
+    pub place: usize,
 }
 
-// What is said of one tuple: it is fine, or the code of its first broken rule, with a place counted from the tuple's first byte.
-#[derive(Clone, Copy)]
-pub enum Verdict {
-    Fine,
-    Fault { code: u8, offset: usize },
+// What intake says: it accepts and counts, or it refuses.
+pub type Answer = Result<Counts, Refusal>;
+
+// What is wrong with one tuple: the code of its first broken rule, with a place counted from the tuple's first byte.
+#[derive(Clone, Copy, Debug, PartialEq, Eq)]
+pub struct Flaw {
+    pub code: Code,
+    pub offset: usize,
+}
+
+// What is said of one tuple.
+pub type Verdict = Result<(), Flaw>;
+
+// The classes of type codes.
+#[derive(Clone, Copy, Debug, PartialEq, Eq)]
+pub enum Class {
+    Position,
+    Sounder,
+    Channel,
+    Ping,
+    Index,
 }
 
 // Names an echosounder tuple.
@@ -47,7 +66,7 @@ pub struct SoftwareChannel(pub u16);
 pub struct Transceiver(pub u16);
 
 // Who made an echosounder: Biosonics, or Simrad, whose is the EK-500.
-#[derive(Clone, Copy)]
+#[derive(Clone, Copy, Debug, PartialEq, Eq)]
 pub enum Maker {
     Biosonics,
     Simrad,
@@ -82,18 +101,7 @@ pub const ROWED: usize = 15;
 
 pub const ROW: usize = 27;
 
-// The classes by their places in the table of bounds.
-pub const POSITION: usize = 0;
-
-pub const SOUNDER: usize = 1;
-
-pub const CHANNEL: usize = 2;
-
-pub const PING: usize = 3;
-
-pub const INDEX: usize = 4;
-
-// The first and the last type code of each class.
+// The first and the last type code of each class, in the order of `Class`.
 const CLASSES: [[u16; 2]; 5] = [
     [20, 29],
     [100, 999],
@@ -167,24 +175,37 @@ const STEP: usize = 5;
 const MORE: usize = 6;
 
 // A fault at a tuple's first byte.
-pub fn fault(code: u8) -> Verdict
-    ensures { result ≡ Verdict.Fault code 0 }
+pub fn fault<T>(code: Code) -> Result<T, Flaw>
+    ensures { result ≡ Err (record { code = code; offset = 0 }) }
 {
-    Verdict::Fault { code, offset: 0 }
+    fault_at(code, 0)
 }
 
 // A fault at a byte counted from a tuple's first.
-pub fn fault_at(code: u8, offset: usize) -> Verdict
-    ensures { result ≡ Verdict.Fault code offset }
+pub fn fault_at<T>(code: Code, offset: usize) -> Result<T, Flaw>
+    ensures { result ≡ Err (record { code = code; offset = offset }) }
 {
-    Verdict::Fault { code, offset }
+    Err(Flaw { code, offset })
+}
+
+impl Flaw {
+    // The refusal for it of the tuple at a place.
+    pub fn at(self, place: usize) -> Refusal
+        requires { place + self.offset < 2 ^ 64 }
+        ensures { result ≡ record { code = self.code; place = place + self.offset } }
+    {
+        Refusal {
+            code: self.code,
+            place: place + self.offset,
+        }
+    }
 }
 
 // An acceptance by a call that checks no file, and so compares nothing.
 pub fn accept(tuples: usize, written: usize) -> Answer
-    ensures { result ≡ accepting tuples written }
+    ensures { result ≡ Ok (counts tuples written) }
 {
-    Answer::Accepted(Counts {
+    Ok(Counts {
         tuples,
         written,
         compared: 0,
@@ -192,10 +213,10 @@ pub fn accept(tuples: usize, written: usize) -> Answer
 }
 
 // A refusal.
-pub fn refuse(code: u8, place: usize) -> Answer
-    ensures { result ≡ Answer.Refused code place }
+pub fn refuse<T>(code: Code, place: usize) -> Result<T, Refusal>
+    ensures { result ≡ Err (record { code = code; place = place }) }
 {
-    Answer::Refused { code, place }
+    Err(Refusal { code, place })
 }
 
 // Whether a number may be read as the signature's identifier.
@@ -208,16 +229,18 @@ pub fn is_known(identifier: u16) -> bool
     identifier == PRINTED_IDENTIFIER
 }
 
-// Whether a type code is of a class.
-pub fn in_class(class: usize, code: u16) -> bool
-    requires { class < 5 }
-    ensures { result ≡ in_class class code }
+// Whether a type code is of a class: the table by a constant place for each, as in `row`.
+pub fn in_class(class: Class, code: u16) -> bool
+    ensures { result ≡ in_class (class_number class) code }
 {
-    let bounds = CLASSES[class];
-    if code < bounds[0] {
-        return false;
-    }
-    code <= bounds[1]
+    let bounds = match class {
+        Class::Position => CLASSES[0],
+        Class::Sounder => CLASSES[1],
+        Class::Channel => CLASSES[2],
+        Class::Ping => CLASSES[3],
+        Class::Index => CLASSES[4],
+    };
+    (bounds[0] <= code) & (code <= bounds[1])
 }
 
 // The listing of a type code: its place among the listed types, LISTED where it is none of theirs.
@@ -350,7 +373,7 @@ pub fn maker_of(number: u32) -> Maker
 pub fn is_maker(number: u32, maker: Maker) -> bool
     ensures { result ≡ same_maker (maker_of number) maker }
 {
-    number_of(maker_of(number)) == number_of(maker)
+    maker_of(number) == maker
 }
 
 // Whether a tuple of a type code may be so long: any length will do for a type that isn't listed.

@@ -13,7 +13,7 @@ use Rattle.layout.specs.declared.Maker.{Maker}
 use Rattle.layout.specs.declared.Says.{Says}
 use Rattle.layout.specs.declared.Says.TheVariants as says
 use Rattle.layout.specs.Types.{says_of}
-use Rattle.layout.specs.declared.Verdict.TheVariants.{Fine}
+use Rattle.layout.specs.Verdict.{Fine}
 use Rattle.layout.specs.Answers.{judged}
 use Rattle.layout.proofs.Verdicts.{passes}
 use Rattle.frame.specs.Frames.{tup_at}

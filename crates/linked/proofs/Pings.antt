@@ -8,7 +8,7 @@ use Prim.Native.Nat.{ℕ, ◌≤◌}
 use native.Mathlib.Omega.{arith}
 use lib.Dec.{eqb}
 use lib.ListN.{length, drop}
-use Rattle.layout.specs.declared.Verdict.TheVariants.{Fine}
+use Rattle.layout.specs.Verdict.{Fine}
 use Rattle.layout.specs.Types.{Shape, indexed, row, uncompressed, compressed, unlisted, has_samples, is_ping, shape_of}
 use Rattle.layout.proofs.Families.{OfFamily, ping-shape}
 use Rattle.layout.proofs.Verdicts.{both_right, passes}

@@ -3,8 +3,8 @@ use Rattle.std.specs.Prelude.{◌≡◌, ℕ, List}
 use Rattle.layout.specs.declared.DocumentId.{DocumentId}
 use Rattle.layout.specs.declared.SoftwareChannel.{SoftwareChannel}
 use Rattle.content.specs.Items.{number_at}
-use Rattle.intake.specs.declared.Asked.{Asked}
-use Rattle.intake.specs.declared.Asked.TheVariants.{Parents, Refused}
+use Rattle.intake.specs.Asked.{Asked}
+use Rattle.intake.specs.Asked.{Parents, Refused}
 use Rattle.intake.specs.Asking.{ask_at}
 use Rattle.linked.specs.Linked.{Linked, Sought, sought, refused, sought_at}
 

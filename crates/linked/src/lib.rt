@@ -10,6 +10,7 @@ ghost use Rattle.quantities.specs.Quantities.{quantity_of};
 ghost use Rattle.linked.specs.Linked.{linked_of};
 ghost use Rattle.linked.specs.inner.Here.{new_here, Past, FoundAt};
 
+use frame::passing;
 use layout::Says;
 use links::{CHANNELS, Row};
 use quantities::{Quantity, quantity_by};
@@ -22,13 +23,6 @@ pub struct Spot {
     pub whole: usize,
     pub code: u16,
     pub quantity: Quantity,
-}
-
-// The one at a place, or that none stands there.
-#[derive(Clone, Copy)]
-pub enum Found {
-    Ping(Spot),
-    Nowhere,
 }
 
 // What the samples of the ping at a place are, by the rows of the channels declared before it, of which so many are used.
@@ -95,12 +89,10 @@ pub fn count_pings(file: &[u8]) -> usize
 {
     let msb = frame::is_msb(file);
     let mut n: usize = 0;
-    let mut at = frame::MARKED;
-    while at < file.len() {
-        if intake::is_ping(frame::kind_at(file, at, msb)) {
+    for tuple in passing::behind_mark(file, msb) {
+        if intake::is_ping(tuple.code) {
             n += 1;
         }
-        at += frame::length_at(file, at, msb);
     }
     n
 }
@@ -111,37 +103,40 @@ fn find_with(
     place: usize,
     rows: &mut [Row; CHANNELS],
     notes: &mut [u16; CHANNELS],
-) -> Found
+) -> Option<Spot>
     requires accepts { Accepts file.now }
     requires rows_len { length rows.old ≡ most_channels }
     ensures { FoundAt file.now place result }
 {
     let msb = frame::is_msb(file);
     let mut used: usize = 0;
-    let mut at = frame::MARKED;
-    while at < file.len() {
-        let whole = frame::length_at(file, at, msb);
-        let code = frame::kind_at(file, at, msb);
-        if at == place {
-            if intake::is_ping(code) {
-                let quantity = quantity_at(file, at, msb, used, rows, notes);
-                return Found::Ping(Spot {
-                    at,
-                    msb,
-                    whole,
-                    code,
-                    quantity,
-                });
-            }
+    for tuple in passing::behind_mark(file, msb) {
+        if tuple.at == place && intake::is_ping(tuple.code) {
+            let quantity = quantity_at(file, tuple.at, msb, used, rows, notes);
+            return Some(Spot {
+                at: tuple.at,
+                msb,
+                whole: tuple.whole,
+                code: tuple.code,
+                quantity,
+            });
         }
-        used = keep(file, at, msb, whole, code, used, rows, notes);
-        at += whole;
+        used = keep(
+            file,
+            tuple.at,
+            msb,
+            tuple.whole,
+            tuple.code,
+            used,
+            rows,
+            notes,
+        );
     }
-    Found::Nowhere
+    None
 }
 
 // The listed ping at a place of an accepted file, with what its channel's samples are.
-pub fn find(file: &[u8], place: usize) -> Found
+pub fn find(file: &[u8], place: usize) -> Option<Spot>
     requires { Accepts file.now }
     ensures { FoundAt file.now place result }
 {

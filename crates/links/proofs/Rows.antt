@@ -11,13 +11,13 @@ use lib.ListN.{length, get_or, take, set, length-map, get_or-map}
 use lib.Seq.{take-suc-set, length-take-le, get_or-take}
 use Rattle.rules.proofs.Bools.{or_true}
 use Rattle.layout.specs.Types.{same_maker}
-use Rattle.layout.specs.declared.Verdict.{Verdict}
-use Rattle.layout.specs.declared.Verdict.TheVariants.{Fine, Fault}
+use Rattle.layout.specs.Verdict.{Verdict}
+use Rattle.layout.specs.Verdict.{Fine, Fault}
 use Rattle.links.specs.declared.Sounder.{Sounder}
 use Rattle.links.specs.declared.Channel.{Channel}
 use Rattle.links.specs.Links
 use Rattle.links.specs.Links.{Link, has, place_of, compared_in, compares_among, doc_of, id_of, declared_own, Apart}
-use Rattle.links.specs.declared.LinkVerdict.TheVariants.{Faulty, Linked}
+use Rattle.links.specs.inner.LinkVerdict.{Faulty, Linked}
 use Rattle.links.specs.inner.Tables.{key_of, channel_of, channels_in, comparing}
 use Rattle.links.proofs.Parents.{In, first, later, One, has_in}
 

@@ -1,18 +1,18 @@
 -- Made from views/records.txt by views/make.
 -- Navigation, type 30: TR Table 9. Assumes nothing.
-use Rattle.std.specs.Prelude.{◌≡◌, refl, Bool, List, [], ◌∷◌, ℕ, ℤ, pos}
+use Rattle.std.specs.Prelude.{◌≡◌, refl, Bool, List, [], ◌∷◌, ℕ, ℤ, pos, Result, Ok, Err}
 use Rattle.std.proofs.Common.{sym, ◌∙◌}
-use Rattle.layout.specs.declared.Answer.{Answer}
-use Rattle.layout.specs.declared.Answer.TheVariants.{Accepted}
-use Rattle.layout.specs.declared.Answer.TheVariants as answer
+use Rattle.layout.specs.declared.Refusal.{Refusal}
+use Rattle.layout.specs.Code.{number}
+use Rattle.layout.specs.Answer.{Answer, Accepted}
+use Rattle.layout.specs.Answer as answer
 use Rattle.layout.specs.Answers.{numbers, Tells, accepting}
 use Rattle.tuples.specs.Readers.{only, read_answer, row_of}
 use Rattle.tuples.specs.Writers.{Written, plain_bytes}
 use Rattle.rows.specs.Writers.{row_values}
 use Rattle.rows.specs.Integers.{signed_at, unsigned_at, patterns, row_integers, Typed}
 use Rattle.navigation.specs.declared.Navigation.{Navigation}
-use Rattle.navigation.specs.declared.NavigationRead.{NavigationRead}
-use Rattle.navigation.specs.declared.NavigationRead.TheVariants.{Read, Refused}
+use Rattle.navigation.specs.NavigationRead.{NavigationRead, Read, Refused}
 
 -- the integers of the row under the fields' names
 abbrev pub navigation_of : List ℤ → Navigation
@@ -45,7 +45,12 @@ navigation_inverse r = refl
 abbrev pub NavigationTyped : Navigation → Type 0
 NavigationTyped r = Typed (row_of 30 0) (navigation_integers r)
 
--- ---- reading: 01's answer in each case
+-- ---- reading: what the code gives, in these words
+abbrev pub as_read : Result Navigation Refusal → NavigationRead
+as_read (Ok r) = Read r
+as_read (Err r) = Refused (number r.code) r.place
+
+-- 01's answer in each case
 abbrev pub answer_of : NavigationRead → Answer
 answer_of (Read r) = accepting 1 0
 answer_of (Refused c p) = answer.Refused c p

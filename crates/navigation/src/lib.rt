@@ -1,15 +1,15 @@
 // Made from views/records.txt by views/make.
 // Navigation, type 30: TR Table 9.
-#![tactic(auto)]
+#![tactic(auto, unfolding(layout::specs::Types::listings, layout::specs::Types::among, layout::specs::Types::listing_of))]
 
 ghost use Rattle.std.specs.Prelude.{◌≡◌};
 ghost use Rattle.tuples.specs.Readers.{row_of};
 ghost use Rattle.rows.specs.Integers.{integers_from, patterns};
 ghost use Rattle.rows.specs.Places.{places_of};
-ghost use Rattle.navigation.specs.Navigation.{navigation_of, navigation_integers, NavigationAt, NavigationWritten};
+ghost use Rattle.layout.specs.Views.{as_answer};
+ghost use Rattle.navigation.specs.Navigation.{navigation_of, navigation_integers, NavigationAt, NavigationWritten, as_read};
 
-use layout::{Answer, types};
-use rows::RowRead;
+use layout::{Answer, Refusal, types};
 
 #[derive(Clone, Copy)]
 pub struct Navigation {
@@ -22,11 +22,7 @@ pub struct Navigation {
 }
 
 // What reading gives: the record, or a refusal.
-#[derive(Clone, Copy)]
-pub enum NavigationRead {
-    Read(Navigation),
-    Refused { code: u8, place: usize },
-}
+pub type NavigationRead = Result<Navigation, Refusal>;
 
 impl Navigation {
     pub const CODE: u16 = types::NAVIGATION;
@@ -121,18 +117,16 @@ impl Navigation {
 
     // Reads the tuple at a place of a file.
     pub fn read(file: &[u8], place: usize) -> NavigationRead
-        ensures { NavigationAt file.now place result }
+        ensures { NavigationAt file.now place (as_read result) }
     {
         let mut numbers = [0u32; 6];
-        match rows::read_row(file, place, Navigation::CODE, &mut numbers) {
-            RowRead::Refused { code, place } => NavigationRead::Refused { code, place },
-            RowRead::Read { text: _ } => NavigationRead::Read(Navigation::of(numbers)),
-        }
+        rows::read_row(file, place, Navigation::CODE, &mut numbers)?;
+        Ok(Navigation::of(numbers))
     }
 
     // Writes the tuple; 19 alone refuses it.
     pub fn write(self, msb: bool, out: &mut [u8]) -> Answer
-        ensures { NavigationWritten msb self out.old result out.new }
+        ensures { NavigationWritten msb self out.old (as_answer result) out.new }
     {
         rows::write_row(Navigation::CODE, &self.numbers(), &[], msb, out)
     }

@@ -1,10 +1,9 @@
 -- The identifier is no content: files that differ in it alone have equal contents, and so, by demand 3, one normal form. Assumes nothing.
-use mathlib.Core.Path.{◌≡◌, refl, sym, ap, ◌∙◌}
+use mathlib.Core.Path.{◌≡◌, sym, ap, ◌∙◌}
 use mathlib.Core.Bool.{Bool}
-use mathlib.Core.List.{List, [], ◌∷◌, ◌++◌}
+use mathlib.Core.List.{List, [], ◌∷◌}
 use mathlib.Core.Option.{some}
 use Prim.Native.Nat.{ℕ}
-use lib.ListN.{drop}
 use lib.Seq.{drop_at}
 use Rattle.order.specs.Order.{bytes_of}
 use Rattle.order.proofs.Laws.{length_bytes_of}
@@ -12,11 +11,10 @@ use Rattle.layout.specs.Fields.{Field, u, s}
 use Rattle.layout.specs.Types.{listings, among, listing_of}
 use Rattle.turning.specs.Rows.{values_of}
 use Rattle.frame.specs.Frames.{Tup, frames}
-use Rattle.frame.specs.Files.{is_msb}
-use Rattle.frame.specs.Tuples.{tuples_of, AllFramed}
+use Rattle.frame.specs.Tuples.{AllFramed}
 use Rattle.frame.proofs.Files.{msb-mark}
 use Rattle.frame.proofs.Tuples.{tuples_of_lem}
-use Rattle.content.specs.Items.{Item, plain, item_of}
+use Rattle.content.specs.Items.{plain, item_of}
 use Rattle.normal.specs.Contents.{add, items, content_of}
 use Rattle.normal.specs.Spellings.{signature, spelled}
 use Rattle.normal.specs.Demand.{Call}

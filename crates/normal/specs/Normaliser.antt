@@ -3,8 +3,8 @@ use Rattle.std.specs.Prelude.{◌≡◌, ℕ, ◌+◌, Bool, true, false, ◌&&�
 use Rattle.std.proofs.Common.{sym, ◌∙◌}
 use Rattle.rules.specs.Rules.{Rule, ◌⇒◌, first_of}
 use Rattle.layout.specs.declared.Counts.{Counts}
-use Rattle.layout.specs.declared.Answer.{Answer}
-use Rattle.layout.specs.declared.Answer.TheVariants.{Accepted, Refused}
+use Rattle.layout.specs.Answer.{Answer}
+use Rattle.layout.specs.Answer.{Accepted, Refused}
 use Rattle.layout.specs.Answers.{numbers, Tells, left_by}
 use Rattle.layout.specs.Types.{Shape, indexed, row, uncompressed, compressed, unlisted, shape_of}
 use Rattle.frame.specs.Frames.{Tup, length_of}

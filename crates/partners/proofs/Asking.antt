@@ -10,7 +10,7 @@ use lib.Dec.{eqb}
 use lib.ListN.{length, drop, get_or, length-append}
 use lib.Seq.{drop_at, drop-drop}
 use Rattle.layout.specs.declared.Counts.{Counts}
-use Rattle.layout.specs.declared.Answer.TheVariants.{Accepted}
+use Rattle.layout.specs.Answer.{Accepted}
 use Rattle.layout.specs.declared.SoftwareChannel.{SoftwareChannel}
 use Rattle.frame.specs.Frames.{Tup, length_of, frame, frames, tup_at}
 use Rattle.frame.specs.Files.{mark, is_msb}
@@ -21,8 +21,8 @@ use Rattle.links.specs.Links.{Link, Digest, nothing, Links, place_of, doc_of, id
 use Rattle.links.specs.Links as links
 use Rattle.links.proofs.Linked.{Linked, note-nothing, linked-here, linked-next, linked-some}
 use Rattle.content.specs.Items.{Item, plain, ping, raw, item_of, number_at, digest}
-use Rattle.intake.specs.declared.Asked.{Asked}
-use Rattle.intake.specs.declared.Asked.TheVariants.{Parents, Refused}
+use Rattle.intake.specs.Asked.{Asked}
+use Rattle.intake.specs.Asked.{Parents, Refused}
 use Rattle.intake.specs.Check.{Course, begin, past, onward, after, turn, sounder_place, channel_place, check_file}
 use Rattle.intake.specs.Asking.{no_channel, course_to, parents_in, ask_item, ask_course, ask_accepted, ask_checked, ask_at}
 use Rattle.intake.proofs.Accepted.{AllSound, digests, whole-turn, divided}

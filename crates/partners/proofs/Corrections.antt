@@ -11,8 +11,8 @@ use Rattle.frame.specs.Frames.{Tup, length_of}
 use Rattle.frame.specs.Files.{is_msb}
 use Rattle.frame.specs.Tuples.{tuples_of}
 use Rattle.content.specs.Items.{item_of}
-use Rattle.corrections.specs.declared.Spot.{Spot}
-use Rattle.corrections.specs.declared.Spot.TheVariants.{At, Nowhere}
+use Rattle.corrections.specs.Spot.{Spot}
+use Rattle.corrections.specs.Spot.{At, Nowhere}
 use Rattle.corrections.specs.Corrections.{wanted, first_that, ping_in, chosen, found_by, found_of, part_of}
 use Rattle.partners.specs.Private.{Part, own, put, own_of, all_of, put_in, AllPrivate, parts_of, Mixed, moved, PlacedAt, here, later}
 use Rattle.partners.specs.Answers.{found_moved, Both}

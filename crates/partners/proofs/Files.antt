@@ -9,7 +9,7 @@ use lib.Seq.{drop_at}
 use Rattle.order.specs.Order.{Bytes}
 use Rattle.order.proofs.Laws.{bytes_append}
 use Rattle.layout.specs.declared.Counts.{Counts}
-use Rattle.layout.specs.declared.Answer.TheVariants.{Accepted}
+use Rattle.layout.specs.Answer.{Accepted}
 use Rattle.layout.specs.Answers.{counting}
 use Rattle.frame.specs.Frames.{Tup, frame, frames}
 use Rattle.frame.specs.Files.{limit, mark, is_msb}

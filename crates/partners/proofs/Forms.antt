@@ -10,7 +10,7 @@ use lib.Dec.{ltb}
 use lib.ListN.{length, length-append}
 use Rattle.rules.specs.Rules.First.{here}
 use Rattle.rules.proofs.Laws.{first_eq}
-use Rattle.layout.specs.declared.Answer.TheVariants.{Accepted, Refused}
+use Rattle.layout.specs.Answer.{Accepted, Refused}
 use Rattle.layout.specs.Types.{shape_of}
 use Rattle.frame.specs.Frames.{Tup, length_of, frame, frames}
 use Rattle.frame.specs.Files.{mark, is_msb}

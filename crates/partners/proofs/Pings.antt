@@ -11,8 +11,8 @@ use lib.Dec.{eqb, ltb}
 use lib.ListN.{length, length-map}
 use Rattle.rules.specs.Rules.{◌⇒◌, first_of}
 use Rattle.layout.specs.declared.Counts.{Counts}
-use Rattle.layout.specs.declared.Answer.{Answer}
-use Rattle.layout.specs.declared.Answer.TheVariants.{Accepted, Refused}
+use Rattle.layout.specs.Answer.{Answer}
+use Rattle.layout.specs.Answer.{Accepted, Refused}
 use Rattle.layout.specs.Families.{Family}
 use Rattle.frame.specs.Frames.{Tup, length_of}
 use Rattle.links.specs.Links.{Digest, Links, start, note}
@@ -25,8 +25,8 @@ use Rattle.quantities.specs.Quantities.{quantity_of, has_angles}
 use Rattle.linear.specs.Linear.{first_outside, total}
 use Rattle.linked.specs.Linked.{Linked, linked_here, linked_from, linked_of, standing, Sought, sought_by, sought_in, sought_at}
 use Rattle.linked.proofs.Places.{stands_here, stands-later}
-use Rattle.energy.specs.declared.Echo.{Echo}
-use Rattle.energy.specs.declared.Echo.TheVariants as echo
+use Rattle.energy.specs.Echo.{Echo}
+use Rattle.energy.specs.Echo as echo
 use Rattle.energy.specs.Energy.{is_sv, values_in, echo_by, echo_sought, energy_at, sum_in, code_in, places_of, energies_of, codes_of}
 use Rattle.energy.specs.Energy.{room_rules, behind_check, energies_answer}
 use Rattle.readings.specs.Readings.{answer_sought, readings_answer, window_sought, window_at}

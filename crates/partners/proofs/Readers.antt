@@ -10,8 +10,8 @@ use lib.Dec.{ltb}
 use lib.ListN.{length, take, drop, length-append}
 use Rattle.order.specs.Order.{Bytes}
 use Rattle.rules.specs.Rules.{◌⇒◌, first_of}
-use Rattle.layout.specs.declared.Answer.{Answer}
-use Rattle.layout.specs.declared.Answer.TheVariants.{Accepted, Refused}
+use Rattle.layout.specs.Answer.{Answer}
+use Rattle.layout.specs.Answer.{Accepted, Refused}
 use Rattle.layout.specs.Answers.{accepting}
 use Rattle.frame.specs.Frames.{Tup, length_of, frame, frames}
 use Rattle.frame.specs.Files.{mark, is_msb}

@@ -7,7 +7,7 @@ use lib.Dec.{eqb}
 use lib.ListN.{length}
 use Rattle.order.specs.Order.{Bytes}
 use Rattle.layout.specs.declared.Counts.{Counts}
-use Rattle.layout.specs.declared.Answer.TheVariants.{Accepted}
+use Rattle.layout.specs.Answer.{Accepted}
 use Rattle.frame.specs.Frames.{Tup, frames}
 use Rattle.frame.specs.Files.{mark, is_msb}
 use Rattle.frame.specs.Tuples.{tuples_of, AllFramed}
@@ -17,7 +17,7 @@ use Rattle.content.proofs.Places.{by_code}
 use Rattle.intake.specs.Check.{check_file}
 use Rattle.intake.proofs.Accepted.{digests, all-framed, divided}
 use Rattle.index.proofs.Laws.{no_first}
-use Rattle.salvage.specs.declared.Outcome.{Outcome}
+use Rattle.salvage.specs.Outcome.{Outcome}
 use Rattle.salvage.specs.Salvage.{Salvaged}
 use Rattle.salvage.proofs.Calls.{salvages}
 use Rattle.partners.specs.Private.{Part, own, put, own_of, all_of, put_in, AllPrivate, between, Mixed}

@@ -7,14 +7,14 @@ use lib.ListN.{length, take, drop}
 use lib.Seq.{take_at, drop_at, drop-drop}
 use Rattle.order.specs.Order.{Bytes}
 use Rattle.layout.specs.declared.Counts.{Counts}
-use Rattle.layout.specs.declared.Answer.TheVariants.{Accepted, Refused}
-use Rattle.layout.specs.declared.Verdict.TheVariants.{Fine}
+use Rattle.layout.specs.Answer.{Accepted, Refused}
+use Rattle.layout.specs.Verdict.{Fine}
 use Rattle.layout.specs.Answers.{accepting}
 use Rattle.layout.proofs.Verdicts.{both-fine, judged_append}
 use Rattle.frame.specs.Frames.{Tup, length_of, frame, frames, tup_at}
 use Rattle.frame.specs.Files.{mark, is_msb}
 use Rattle.frame.specs.Tuples.{tuples_of}
-use Rattle.frame.specs.declared.Step.TheVariants.{Tuple}
+use Rattle.frame.specs.Step.{Tuple}
 use Rattle.frame.specs.Steps.{step_forward, step_backward}
 use Rattle.frame.proofs.Frames.{length-frame, tup_frame}
 use Rattle.frame.proofs.Files.{length-mark}

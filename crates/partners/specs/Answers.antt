@@ -2,18 +2,18 @@
 -- many tuples more. Assumes nothing.
 use Rattle.std.specs.Prelude.{◌≡◌, ℕ, ◌+◌, cond, List, eqb, length}
 use Rattle.layout.specs.declared.Counts.{Counts}
-use Rattle.layout.specs.declared.Answer.{Answer}
-use Rattle.layout.specs.declared.Answer.TheVariants.{Accepted, Refused}
+use Rattle.layout.specs.Answer.{Answer}
+use Rattle.layout.specs.Answer.{Accepted, Refused}
 use Rattle.layout.specs.Answers.{counting}
 use Rattle.intake.specs.Check.{check_file}
-use Rattle.intake.specs.declared.Asked.{Asked}
-use Rattle.intake.specs.declared.Asked.TheVariants as asked
+use Rattle.intake.specs.Asked.{Asked}
+use Rattle.intake.specs.Asked as asked
 use Rattle.linked.specs.Linked.{Linked}
-use Rattle.energy.specs.declared.Echo.{Echo}
-use Rattle.energy.specs.declared.Echo.TheVariants as echo
+use Rattle.energy.specs.Echo.{Echo}
+use Rattle.energy.specs.Echo as echo
 use Rattle.settings.specs.Settings.{Row}
-use Rattle.corrections.specs.declared.Found.{Found}
-use Rattle.corrections.specs.declared.Found.TheVariants as found
+use Rattle.corrections.specs.Found.{Found}
+use Rattle.corrections.specs.Found as found
 use Rattle.partners.specs.Private.{put_in, Mixed}
 
 -- so many tuples more; what is written and the identifiers compared stay

@@ -2,12 +2,12 @@
 use Rattle.std.specs.Prelude.{◌≡◌, ◌⊎◌, ℕ, ◌+◌, ◌≤◌, ◌<◌, Bool, true, ◌||◌, List, [], ◌∷◌, ◌++◌, map, length, take, drop}
 use Rattle.order.specs.Order.{Bytes}
 use Rattle.layout.specs.declared.Counts.{Counts}
-use Rattle.layout.specs.declared.Answer.TheVariants.{Accepted, Refused}
+use Rattle.layout.specs.Answer.{Accepted, Refused}
 use Rattle.layout.specs.declared.SoftwareChannel.{SoftwareChannel}
 use Rattle.frame.specs.Frames.{Tup, length_of, frames}
 use Rattle.frame.specs.Files.{limit, mark, is_msb}
 use Rattle.frame.specs.Tuples.{tuples_of, AllFramed}
-use Rattle.frame.specs.declared.Step.TheVariants.{Tuple}
+use Rattle.frame.specs.Step.{Tuple}
 use Rattle.frame.specs.Steps.{step_forward, step_backward}
 use Rattle.intake.specs.Check.{check_file}
 use Rattle.intake.specs.Asking.{ask_at}
@@ -20,7 +20,7 @@ use Rattle.energy.specs.Energy.{energy_at, places_of, energies_of, codes_of, ene
 use Rattle.readings.specs.Readings.{readings_answer, window_at}
 use Rattle.settings.specs.Settings.{settings_of, settings_answer}
 use Rattle.corrections.specs.Corrections.{found_of, part_of}
-use Rattle.salvage.specs.declared.Outcome.{Outcome}
+use Rattle.salvage.specs.Outcome.{Outcome}
 use Rattle.salvage.specs.Salvage.{Salvaged}
 use Rattle.salvage.specs.Whole.{saved_all}
 use Rattle.normal.specs.Contents.{content_of, normal_tuples}

@@ -11,7 +11,7 @@ use lib.ListN.{length, take, drop, length-append, length-drop}
 use lib.Seq.{length-take-le, take_all, drop-drop}
 use Rattle.order.specs.Order.{num_of, bytes_of}
 use Rattle.order.proofs.Laws.{length_bytes_of}
-use Rattle.layout.specs.declared.Verdict.TheVariants.{Fine}
+use Rattle.layout.specs.Verdict.{Fine}
 use Rattle.layout.specs.Answers.{both, judged}
 use Rattle.layout.specs.Fields.{Field, width_of, size}
 use Rattle.layout.specs.Families.{Family, type_u, type_c, value_bytes, sample_bytes, is_bad}

@@ -16,8 +16,8 @@ use Rattle.rules.proofs.Laws.{clear, first_eq}
 use Rattle.rules.proofs.Bools.{both_true}
 use Rattle.order.specs.Order.{pattern_of}
 use Rattle.layout.specs.declared.Counts.{Counts}
-use Rattle.layout.specs.declared.Answer.{Answer}
-use Rattle.layout.specs.declared.Answer.TheVariants.{Accepted, Refused}
+use Rattle.layout.specs.Answer.{Answer}
+use Rattle.layout.specs.Answer.{Accepted, Refused}
 use Rattle.layout.specs.Answers.{accepting, is_accepted}
 use Rattle.layout.specs.Families.{Family, wide, narrow, encoded, wide_angles, narrow_angles, type_u, sample_bytes}
 use Rattle.layout.specs.Types.{ping_row}

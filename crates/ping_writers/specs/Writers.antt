@@ -3,8 +3,8 @@ use Rattle.std.specs.Prelude.{ℕ, min, Bool, not, ◌&&◌, List, [], ◌∷◌
 use Rattle.std.proofs.Math.Option.{Option, none}
 use Rattle.order.specs.Order.{pattern_of}
 use Rattle.rules.specs.Rules.{Rule, ◌⇒◌}
-use Rattle.layout.specs.declared.Answer.{Answer}
-use Rattle.layout.specs.declared.Answer.TheVariants.{Refused}
+use Rattle.layout.specs.Answer.{Answer}
+use Rattle.layout.specs.Answer.{Refused}
 use Rattle.layout.specs.Families.{Family}
 use Rattle.frame.specs.Frames.{Tup, frame}
 use Rattle.samples.specs.Words.{Sample}

@@ -1,5 +1,6 @@
 // What is asked before a ping is written, and how many bytes it takes.
-ghost use Rattle.std.specs.Prelude.{◌≡◌, false, not, ◌&&◌, ◌^◌, ◌≤◌, min, eqb, length};
+ghost use Rattle.layout.specs.Views.{as_answer};
+ghost use Rattle.std.specs.Prelude.{◌≡◌, false, not, ◌&&◌, ◌^◌, ◌≤◌, eqb, length};
 ghost use Rattle.samples.specs.inner.Lists.{numbered};
 ghost use Rattle.samples.specs.Runs.{quiet};
 ghost use Rattle.samples.specs.Judging.{first_drop, too_short};
@@ -8,18 +9,12 @@ ghost use Rattle.pings.specs.Headers.{handed_length};
 ghost use Rattle.ping_writers.specs.inner.Judged.{plain_answer, width_by, radix_by, packed_size, packed_answer};
 
 use frame::TAIL;
-use layout::{Answer, codes};
+use layout::Answer;
+use layout::codes::Code;
 use pings::PingLength;
 
 // The field behind samples or words stands at a multiple of this.
 const ALIGNED: usize = 4;
-
-// The smaller of two counts.
-pub fn smaller(a: usize, b: usize) -> usize
-    ensures { result ≡ min a b }
-{
-    if a <= b { a } else { b }
-}
 
 // Whether three counts are the same.
 pub fn same(a: usize, b: usize, c: usize) -> bool
@@ -32,25 +27,25 @@ pub fn same(a: usize, b: usize, c: usize) -> bool
 // doesn't rise and a sample has so many bytes.
 pub fn judge_plain(equal: bool, n: usize, first: usize, sample: usize, room: usize) -> Answer
     requires { sample ≤ 8 }
-    ensures { result ≡ plain_answer equal n first sample room }
+    ensures { as_answer result ≡ plain_answer equal n first sample room }
 {
     if !equal {
-        return layout::refuse(codes::NOT_RISING, n);
+        return layout::refuse(Code::NotRising, n);
     }
     if samples::MOST < n {
-        return layout::refuse(codes::OVERFULL, 0);
+        return layout::refuse(Code::Overfull, 0);
     }
     if n == 0 {
-        return layout::refuse(codes::NO_SAMPLES, 0);
+        return layout::refuse(Code::NoSamples, 0);
     }
     if first < n {
-        return layout::refuse(codes::NOT_RISING, first);
+        return layout::refuse(Code::NotRising, first);
     }
     // never over what a tuple holds: 32,764 samples of eight bytes just fill one
     let bytes = n * sample;
     let whole = samples::SAMPLES + bytes + bytes % ALIGNED + TAIL;
     if room < whole {
-        return layout::refuse(codes::NO_ROOM, 0);
+        return layout::refuse(Code::NoRoom, 0);
     }
     layout::accept(1, whole)
 }
@@ -60,8 +55,8 @@ fn is_empty(n: usize, length: PingLength) -> bool
     ensures { result ≡ (eqb n 0 && not (has_length (handed_length length))) }
 {
     match length {
-        PingLength::Absent => n == 0,
-        PingLength::Samples(_) => false,
+        None => n == 0,
+        Some(_) => false,
     }
 }
 
@@ -70,8 +65,8 @@ fn is_short(numbers: &[u32], length: PingLength) -> bool
     ensures { result ≡ too_short (numbered numbers.now) (handed_length length) }
 {
     match length {
-        PingLength::Absent => false,
-        PingLength::Samples(all) => (all as usize) < spelling::write::behind(numbers) + 1,
+        None => false,
+        Some(all) => (all as usize) < spelling::write::behind(numbers) + 1,
     }
 }
 
@@ -82,8 +77,8 @@ pub fn quiet_behind(numbers: &[u32], length: PingLength) -> usize
     ensures upper_bound { result ≤ 2 ^ 32 }
 {
     match length {
-        PingLength::Absent => 0,
-        PingLength::Samples(all) => all as usize - spelling::write::behind(numbers),
+        None => 0,
+        Some(all) => all as usize - spelling::write::behind(numbers),
     }
 }
 
@@ -111,34 +106,34 @@ pub fn judge_packed(
     wide: bool,
     room: usize,
 ) -> Answer
-    ensures { result ≡ packed_answer (width_by wide) (radix_by wide) numbers.now values wordless (handed_length length) room }
+    ensures { as_answer result ≡ packed_answer (width_by wide) (radix_by wide) numbers.now values wordless (handed_length length) room }
 {
     let n = numbers.len();
     if n != values {
-        return layout::refuse(codes::NOT_RISING, smaller(n, values));
+        return layout::refuse(Code::NotRising, n.min(values));
     }
     if samples::MOST < values {
-        return layout::refuse(codes::OVERFULL, 0);
+        return layout::refuse(Code::Overfull, 0);
     }
     if is_empty(n, length) {
-        return layout::refuse(codes::NO_SAMPLES, 0);
+        return layout::refuse(Code::NoSamples, 0);
     }
     let first = spelling::write::first_drop(numbers);
     if first < n {
-        return layout::refuse(codes::NOT_RISING, first);
+        return layout::refuse(Code::NotRising, first);
     }
     if wordless < n {
-        return layout::refuse(codes::NO_WORD, wordless);
+        return layout::refuse(Code::NoWord, wordless);
     }
     if is_short(numbers, length) {
-        return layout::refuse(codes::SHORT_LENGTH, 0);
+        return layout::refuse(Code::ShortLength, 0);
     }
     let whole = count_bytes(numbers, quiet_behind(numbers, length), wide);
     if frame::MOST < whole {
-        return layout::refuse(codes::OVERFULL, 0);
+        return layout::refuse(Code::Overfull, 0);
     }
     if room < whole {
-        return layout::refuse(codes::NO_ROOM, 0);
+        return layout::refuse(Code::NoRoom, 0);
     }
     layout::accept(1, whole)
 }

@@ -5,6 +5,7 @@
 pub mod judging;
 pub mod parts;
 
+ghost use Rattle.layout.specs.Views.{as_answer};
 ghost use Rattle.layout.specs.Families.{wide, narrow, encoded, wide_angles, narrow_angles};
 ghost use Rattle.pings.specs.Headers.{handed_length};
 ghost use Rattle.ping_writers.specs.Writers.{WrittenU, WrittenC, WrittenA};
@@ -22,20 +23,17 @@ pub fn write_u32(
     msb: bool,
     out: &mut [u8],
 ) -> Answer
-    ensures { WrittenU wide msb header attribute numbers.now values.now out.old result out.new }
+    ensures { WrittenU wide msb header attribute numbers.now values.now out.old (as_answer result) out.new }
 {
     let n = numbers.len();
-    let least = judging::smaller(n, values.len());
+    let least = n.min(values.len());
     let first = spelling::write::first_drop(numbers);
-    let judged = judging::judge_plain(n == values.len(), least, first, samples::PAIR, out.len());
-    let Answer::Accepted(counts) = judged else {
-        return judged;
-    };
+    let counts = judging::judge_plain(n == values.len(), least, first, samples::PAIR, out.len())?;
     let whole = counts.written;
     parts::write_opening(out, msb, whole, types::PING_U, header);
     spelling::write::write_pairs(numbers, values, msb, out, SAMPLES);
     parts::write_closing(out, msb, SAMPLES + samples::PAIR * n, whole, attribute);
-    judged
+    Ok(counts)
 }
 
 // Writes a U-16 ping.
@@ -47,20 +45,17 @@ pub fn write_u16(
     msb: bool,
     out: &mut [u8],
 ) -> Answer
-    ensures { WrittenU narrow msb header attribute numbers.now values.now out.old result out.new }
+    ensures { WrittenU narrow msb header attribute numbers.now values.now out.old (as_answer result) out.new }
 {
     let n = numbers.len();
-    let least = judging::smaller(n, values.len());
+    let least = n.min(values.len());
     let first = spelling16::plain::first_drop(numbers);
-    let judged = judging::judge_plain(n == values.len(), least, first, samples16::PAIR, out.len());
-    let Answer::Accepted(counts) = judged else {
-        return judged;
-    };
+    let counts = judging::judge_plain(n == values.len(), least, first, samples16::PAIR, out.len())?;
     let whole = counts.written;
     parts::write_opening(out, msb, whole, types::PING_U16, header);
     spelling16::plain::write_pairs(numbers, values, msb, out, SAMPLES);
     parts::write_closing(out, msb, SAMPLES + samples16::PAIR * n, whole, attribute);
-    judged
+    Ok(counts)
 }
 
 // Writes a U-32-16-angles ping.
@@ -74,21 +69,18 @@ pub fn write_u32_16_angles(
     out: &mut [u8],
 ) -> Answer
     ensures { WrittenA wide_angles msb header attribute numbers.now alongship.now athwartship.now
-        out.old result out.new }
+        out.old (as_answer result) out.new }
 {
     let n = numbers.len();
     let equal = judging::same(n, alongship.len(), athwartship.len());
-    let least = judging::smaller(n, judging::smaller(alongship.len(), athwartship.len()));
+    let least = n.min(alongship.len().min(athwartship.len()));
     let first = spelling::write::first_drop(numbers);
-    let judged = judging::judge_plain(equal, least, first, samples::PAIR, out.len());
-    let Answer::Accepted(counts) = judged else {
-        return judged;
-    };
+    let counts = judging::judge_plain(equal, least, first, samples::PAIR, out.len())?;
     let whole = counts.written;
     parts::write_opening(out, msb, whole, types::PING_ANGLES, header);
     spelling16::plain::write_wide_angles(numbers, alongship, athwartship, msb, out, SAMPLES);
     parts::write_closing(out, msb, SAMPLES + samples::PAIR * n, whole, attribute);
-    judged
+    Ok(counts)
 }
 
 // Writes a U-16-angles ping.
@@ -102,21 +94,18 @@ pub fn write_u16_angles(
     out: &mut [u8],
 ) -> Answer
     ensures { WrittenA narrow_angles msb header attribute numbers.now alongship.now athwartship.now
-        out.old result out.new }
+        out.old (as_answer result) out.new }
 {
     let n = numbers.len();
     let equal = judging::same(n, alongship.len(), athwartship.len());
-    let least = judging::smaller(n, judging::smaller(alongship.len(), athwartship.len()));
+    let least = n.min(alongship.len().min(athwartship.len()));
     let first = spelling16::plain::first_drop(numbers);
-    let judged = judging::judge_plain(equal, least, first, samples16::TRIPLE, out.len());
-    let Answer::Accepted(counts) = judged else {
-        return judged;
-    };
+    let counts = judging::judge_plain(equal, least, first, samples16::TRIPLE, out.len())?;
     let whole = counts.written;
     parts::write_opening(out, msb, whole, types::PING_U16_ANGLES, header);
     spelling16::plain::write_narrow_angles(numbers, alongship, athwartship, msb, out, SAMPLES);
     parts::write_closing(out, msb, SAMPLES + samples16::TRIPLE * n, whole, attribute);
-    judged
+    Ok(counts)
 }
 
 // Writes a C-32 ping, its samples and its length in the fewest words.
@@ -129,20 +118,17 @@ pub fn write_c32(
     msb: bool,
     out: &mut [u8],
 ) -> Answer
-    ensures { WrittenC wide msb header attribute numbers.now values.now (handed_length length) out.old result
+    ensures { WrittenC wide msb header attribute numbers.now values.now (handed_length length) out.old (as_answer result)
         out.new }
 {
     let wordless = spelling::write::first_wordless(values);
-    let judged = judging::judge_packed(numbers, values.len(), wordless, length, true, out.len());
-    let Answer::Accepted(counts) = judged else {
-        return judged;
-    };
+    let counts = judging::judge_packed(numbers, values.len(), wordless, length, true, out.len())?;
     let whole = counts.written;
     let quiet = judging::quiet_behind(numbers, length);
     parts::write_packed_opening(out, msb, whole, types::PING_C, header, numbers.len());
     spelling::write::write_words(numbers, values, quiet, msb, out, WORDS);
     parts::write_closing(out, msb, whole - frame::TAIL, whole, attribute);
-    judged
+    Ok(counts)
 }
 
 // Writes a C-16 ping, its samples and its length in the fewest words.
@@ -155,20 +141,17 @@ pub fn write_c16(
     msb: bool,
     out: &mut [u8],
 ) -> Answer
-    ensures { WrittenC narrow msb header attribute numbers.now values.now (handed_length length) out.old result
+    ensures { WrittenC narrow msb header attribute numbers.now values.now (handed_length length) out.old (as_answer result)
         out.new }
 {
     let wordless = spelling16::write::first_wordless(values);
-    let judged = judging::judge_packed(numbers, values.len(), wordless, length, false, out.len());
-    let Answer::Accepted(counts) = judged else {
-        return judged;
-    };
+    let counts = judging::judge_packed(numbers, values.len(), wordless, length, false, out.len())?;
     let whole = counts.written;
     let quiet = judging::quiet_behind(numbers, length);
     parts::write_packed_opening(out, msb, whole, types::PING_C16, header, numbers.len());
     let end = spelling16::write::write_words(numbers, values, quiet, msb, out, WORDS);
     parts::write_closing(out, msb, end, whole, attribute);
-    judged
+    Ok(counts)
 }
 
 // Writes a CE-16 ping, its counts and its length in the fewest words.
@@ -181,18 +164,15 @@ pub fn write_ce16(
     msb: bool,
     out: &mut [u8],
 ) -> Answer
-    ensures { WrittenC encoded msb header attribute numbers.now counts.now (handed_length length) out.old result
+    ensures { WrittenC encoded msb header attribute numbers.now counts.now (handed_length length) out.old (as_answer result)
         out.new }
 {
     let codeless = spelling16::write::first_codeless(counts);
-    let judged = judging::judge_packed(numbers, counts.len(), codeless, length, false, out.len());
-    let Answer::Accepted(said) = judged else {
-        return judged;
-    };
+    let said = judging::judge_packed(numbers, counts.len(), codeless, length, false, out.len())?;
     let whole = said.written;
     let quiet = judging::quiet_behind(numbers, length);
     parts::write_packed_opening(out, msb, whole, types::PING_CE16, header, numbers.len());
     let end = spelling16::write::write_codes(numbers, counts, quiet, msb, out, WORDS);
     parts::write_closing(out, msb, end, whole, attribute);
-    judged
+    Ok(said)
 }

@@ -9,7 +9,7 @@ use lib.IntN.{ℤ}
 use lib.ListN.{length, take, drop}
 use Rattle.layout.specs.Answers.{tells}
 use Rattle.order.specs.Order.{num_of, signed_of}
-use Rattle.layout.specs.declared.Answer.{Answer}
+use Rattle.layout.specs.Answer.{Answer}
 use Rattle.layout.specs.Types.{Shape, indexed, row, uncompressed, compressed, unlisted, ping_row, shape_of, has_samples, is_ping}
 use Rattle.frame.specs.Frames.{Tup}
 use Rattle.frame.specs.Files.{is_msb}
@@ -24,9 +24,9 @@ use Rattle.tuples.specs.inner.Opening.{Readable}
 use Rattle.tuples.proofs.Reading.{stands, here}
 use Rattle.pings.specs.declared.PingHeader.{PingHeader}
 use Rattle.pings.specs.declared.PingKind.{PingKind}
-use Rattle.pings.specs.declared.PingLength.{PingLength}
-use Rattle.pings.specs.declared.PingRead.{PingRead}
-use Rattle.pings.specs.declared.PingRead.TheVariants.{Read}
+use Rattle.pings.specs.PingLength.{PingLength}
+use Rattle.pings.specs.PingRead.{PingRead}
+use Rattle.pings.specs.PingRead.{Read}
 use Rattle.pings.specs.Readers.{samples_by}
 use Rattle.pings.specs.Headers.{told_length}
 use Rattle.pings.specs.Fields.{header_of, ping_by, kind_of_ping, ping_fields, answer_of, answered, PingAt}

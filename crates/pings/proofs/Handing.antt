@@ -10,7 +10,7 @@ use lib.IntN.{ℤ}
 use lib.ListN.{length, drop}
 use lib.Seq.{sets, sets-eq}
 use Rattle.rules.proofs.Bools.{or_true}
-use Rattle.layout.specs.declared.Answer.TheVariants.{Refused}
+use Rattle.layout.specs.Answer.{Refused}
 use Rattle.layout.specs.Answers.{accepting}
 use Rattle.samples.specs.Words.{Sample}
 use Rattle.samples.specs.Lists.{numbers_of, values_of, alongship_of, athwartship_of}

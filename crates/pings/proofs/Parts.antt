@@ -24,7 +24,7 @@ use Rattle.samples.proofs.Held.{held_all}
 use Rattle.samples.proofs.Lengths.{length-by}
 use Rattle.content.proofs.Families.{shape_u, shape_c}
 use Rattle.tuples.proofs.Codes.{Listed, codes_of, no_code}
-use Rattle.pings.specs.declared.PingLength.TheVariants.{Absent, Samples}
+use Rattle.std.specs.Prelude.{Some, None}
 use Rattle.pings.specs.Headers.{told_length}
 use Rattle.pings.specs.inner.Handing.{part_words, part_samples, part_length, part_width, SoundPart}
 
@@ -74,10 +74,10 @@ no_length unlisted o part e = refl
 
 -- by its words it has one where the last is a run
 module _ (R : ℕ) {ws held : List ℕ} (e : ws ≡ held) where
-  pub told-run : {n : ℕ} → n ≡ samples_from R 0 ws → ends_from R false ws ≡ true → Samples n ≡ told_length (ping_length R held)
-  told-run c r = ap Samples c ∙ sym (ap told_length (ap (ping_length R) (sym e) ∙ length-by R ws true r))
+  pub told-run : {n : ℕ} → n ≡ samples_from R 0 ws → ends_from R false ws ≡ true → Some n ≡ told_length (ping_length R held)
+  told-run c r = ap Some c ∙ sym (ap told_length (ap (ping_length R) (sym e) ∙ length-by R ws true r))
 
-  pub told-value : ends_from R false ws ≡ false → Absent ≡ told_length (ping_length R held)
+  pub told-value : ends_from R false ws ≡ false → None ≡ told_length (ping_length R held)
   told-value r = sym (ap told_length (ap (ping_length R) (sym e) ∙ length-by R ws false r))
 
 -- ---- words: C-32's have no space behind them, and C-16's and CE-16's are held alike

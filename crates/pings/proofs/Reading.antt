@@ -17,9 +17,9 @@ use Rattle.order.specs.Order.{num_of}
 use Rattle.layout.specs.Families.{Family, value_bytes, radix_of}
 use Rattle.layout.specs.Types.{Shape, indexed, row, uncompressed, compressed, unlisted, shape_of, is_ping}
 use Rattle.layout.proofs.Families.{OfFamily, ping-shape}
-use Rattle.layout.specs.declared.Answer.{Answer}
-use Rattle.layout.specs.declared.Answer.TheVariants.{Refused}
-use Rattle.layout.specs.declared.Verdict.TheVariants.{Fine}
+use Rattle.layout.specs.Answer.{Answer}
+use Rattle.layout.specs.Answer.{Refused}
+use Rattle.layout.specs.Verdict.{Fine}
 use Rattle.layout.specs.Answers.{both, tells, accepting}
 use Rattle.layout.proofs.Verdicts.{both_left, both_right, passes}
 use Rattle.frame.specs.Frames.{Tup}

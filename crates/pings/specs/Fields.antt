@@ -3,9 +3,9 @@ use Rattle.std.specs.Prelude.{◌≡◌, ℕ, List, [], ◌∷◌, ◌++◌, len
 use Rattle.std.proofs.Common.{sym, ◌∙◌}
 use Rattle.std.proofs.Math.Option.{Option, some, none}
 use Rattle.order.specs.Order.{signed_of, pattern_of}
-use Rattle.layout.specs.declared.Answer.{Answer}
-use Rattle.layout.specs.declared.Answer.TheVariants.{Accepted}
-use Rattle.layout.specs.declared.Answer.TheVariants as answer
+use Rattle.layout.specs.Answer.{Answer}
+use Rattle.layout.specs.Answer.{Accepted}
+use Rattle.layout.specs.Answer as answer
 use Rattle.layout.specs.Answers.{Numbers, numbers, Tells, accepting}
 use Rattle.turning.specs.Rows.{Value, numbers_in}
 use Rattle.content.specs.Pings.{Ping}
@@ -14,13 +14,13 @@ use Rattle.layout.specs.Families.{Family, wide, narrow, encoded, wide_angles, na
 use Rattle.layout.specs.Types.{Shape, indexed, row, uncompressed, compressed, unlisted, shape_of, is_ping}
 use Rattle.tuples.specs.Readers.{tuple_there, read_answer, read_item}
 use Rattle.pings.specs.Headers.{head_of, told_length}
-use Rattle.pings.specs.declared.PingLength.{PingLength}
-use Rattle.pings.specs.declared.PingLength.TheVariants.{Absent, Samples}
+use Rattle.pings.specs.PingLength.{PingLength}
+use Rattle.std.specs.Prelude.{Some, None}
 use Rattle.pings.specs.declared.PingHeader.{PingHeader}
 use Rattle.pings.specs.declared.PingKind.{PingKind}
 use Rattle.pings.specs.declared.PingKind.TheVariants.{U32, C32, U32Angles, U16, U16Angles, C16, CE16}
-use Rattle.pings.specs.declared.PingRead.{PingRead}
-use Rattle.pings.specs.declared.PingRead.TheVariants.{Read, Refused}
+use Rattle.pings.specs.PingRead.{PingRead}
+use Rattle.pings.specs.PingRead.{Read, Refused}
 
 -- the values of the header's row under the fields' names
 abbrev pub header_of : List Value → PingHeader
@@ -92,8 +92,8 @@ kind_number C16 = 5
 kind_number CE16 = 6
 
 abbrev pub length_numbers : PingLength → List ℕ
-length_numbers Absent = 0 ∷ 0 ∷ []
-length_numbers (Samples n) = 1 ∷ n ∷ []
+length_numbers None = 0 ∷ 0 ∷ []
+length_numbers (Some n) = 1 ∷ n ∷ []
 
 abbrev pub read_fields : PingRead → List ℕ
 read_fields (Read h a k n l) = numbers_in (head_of h) ++ (pattern_of 4 a ∷ kind_number k ∷ []) ++ (n ∷ length_numbers l)

@@ -4,8 +4,8 @@ use Rattle.std.proofs.Math.Option.{Option, some, none}
 use Rattle.order.specs.Order.{pattern_of}
 use Rattle.turning.specs.Rows.{Value, number}
 use Rattle.pings.specs.declared.PingHeader.{PingHeader}
-use Rattle.pings.specs.declared.PingLength.{PingLength}
-use Rattle.pings.specs.declared.PingLength.TheVariants.{Absent, Samples}
+use Rattle.pings.specs.PingLength.{PingLength}
+use Rattle.std.specs.Prelude.{Some, None}
 
 -- the values of a header's row
 abbrev pub head_of : PingHeader → List Value
@@ -15,9 +15,9 @@ head_of h =
 
 -- the length that is handed over, and a length as it is told
 abbrev pub handed_length : PingLength → Option ℕ
-handed_length Absent = none
-handed_length (Samples n) = some n
+handed_length None = none
+handed_length (Some n) = some n
 
 abbrev pub told_length : Option ℕ → PingLength
-told_length none = Absent
-told_length (some n) = Samples n
+told_length none = None
+told_length (some n) = Some n

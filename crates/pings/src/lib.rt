@@ -10,13 +10,14 @@ pub mod of_u16_angles;
 pub mod of_u32_16_angles;
 pub mod of_words;
 
-ghost use Rattle.std.specs.Prelude.{◌≡◌, true, ◌+◌, ◌-◌, ◌%◌, ◌≤◌, length, take, drop};
+ghost use Rattle.std.specs.Prelude.{◌≡◌, Ok, true, ◌+◌, ◌-◌, ◌%◌, ◌≤◌, length, take, drop};
 ghost use Rattle.std.proofs.lemmas.List.Edits.{sets};
 ghost use Rattle.samples.specs.Words.{all_words};
 ghost use Rattle.samples.specs.Lists.{numbers_of, values_of, alongship_of, athwartship_of};
 ghost use Rattle.samples.specs.Runs.{radix, ping_length};
 ghost use Rattle.samples.specs.inner.Lists.{Room};
 ghost use Rattle.samples.specs.inner.Narrow.{AngleRoom};
+ghost use Rattle.layout.specs.Views.{as_answer};
 ghost use Rattle.layout.specs.Families.{wide, narrow};
 ghost use Rattle.layout.specs.Types.{ping_row, shape_of, is_ping};
 ghost use Rattle.rows.specs.Places.{places_from};
@@ -25,11 +26,12 @@ ghost use Rattle.tuples.specs.Readers.{is_valued, is_angled};
 ghost use Rattle.tuples.specs.inner.Opening.{Readable};
 ghost use Rattle.pings.specs.Headers.{told_length};
 ghost use Rattle.pings.specs.Readers.{SamplesRead, AnglesRead};
+ghost use Rattle.pings.specs.Views.{as_ping};
 ghost use Rattle.pings.specs.Fields.{header_of, kind_of_ping, ping_fields, PingAt};
 ghost use Rattle.pings.specs.inner.Handing.{part_words, part_samples, part_length, part_width, SoundPart, Handed, HandedAngles};
 
-use layout::{Answer, SoftwareChannel, codes, types};
-use tuples::Opened;
+use layout::codes::Code;
+use layout::{Answer, Refusal, SoftwareChannel, types};
 
 // Where words stand in what is behind a header: behind the number of samples.
 pub const FIRST_WORD: usize = samples::WORDS - samples::SAMPLES;
@@ -87,27 +89,20 @@ pub enum PingKind {
 }
 
 // A ping's length, where it ends in a run: how many samples it has, runs counted. Any other ping has none.
+pub type PingLength = Option<u32>;
+
+// What a ping's fields are: its header, attribute, kind, number of values and length.
 #[derive(Clone, Copy)]
-pub enum PingLength {
-    Absent,
-    Samples(u32),
+pub struct Ping {
+    pub header: PingHeader,
+    pub attribute: i32,
+    pub kind: PingKind,
+    pub values: usize,
+    pub length: PingLength,
 }
 
-// What reading a ping's fields gives: its header, attribute, kind, number of values and length; or a refusal.
-#[derive(Clone, Copy)]
-pub enum PingRead {
-    Read {
-        header: PingHeader,
-        attribute: i32,
-        kind: PingKind,
-        values: usize,
-        length: PingLength,
-    },
-    Refused {
-        code: u8,
-        place: usize,
-    },
-}
+// What reading a ping's fields gives: these, or a refusal.
+pub type PingRead = Result<Ping, Refusal>;
 
 // ---- what stands between a ping's header and its attribute, its part
 // How many of its samples have values, or angles: a compressed ping's number of samples says it, of any other ping its bytes.
@@ -174,14 +169,14 @@ fn hand_samples(
     requires sound_part { SoundPart code msb part.now }
     requires code_value { is_valued code ≡ true }
     ensures { Handed (part_width (shape_of code)) (part_samples (shape_of code) msb part.now) numbers.old
-        values.old result numbers.new values.new }
+        values.old (as_answer result) numbers.new values.new }
 {
     let n = count_values(part, msb, code);
     if numbers.len() < n {
-        return layout::refuse(codes::NO_ROOM, 0);
+        return layout::refuse(Code::NoRoom, 0);
     }
     if values.len() < n {
-        return layout::refuse(codes::NO_ROOM, 0);
+        return layout::refuse(Code::NoRoom, 0);
     }
     take_samples(part, msb, code, numbers, values);
     layout::accept(1, n)
@@ -189,16 +184,12 @@ fn hand_samples(
 
 // Reads a listed ping's samples into two lent slices: numbers and signed values, one entry a sample; 9 for a ping with angles.
 pub fn read_samples(file: &[u8], place: usize, numbers: &mut [u32], values: &mut [i32]) -> Answer
-    ensures { SamplesRead file.now place numbers.old values.old result numbers.new
+    ensures { SamplesRead file.now place numbers.old values.old (as_answer result) numbers.new
         values.new }
 {
-    match tuples::open_valued(file, place) {
-        Opened::Refused { code, place } => layout::refuse(code, place),
-        Opened::Tuple { msb, whole, code } => {
-            let part = &file[place + samples::SAMPLES..place + whole - frame::TAIL];
-            hand_samples(part, msb, code, numbers, values)
-        }
-    }
+    let found = tuples::open_valued(file, place)?;
+    let part = &file[place + samples::SAMPLES..place + found.whole - frame::TAIL];
+    hand_samples(part, found.msb, found.code, numbers, values)
 }
 
 // ---- angles
@@ -239,17 +230,17 @@ fn hand_angles(
     requires sound_part { SoundPart code msb part.now }
     requires code_value { is_angled code ≡ true }
     ensures { HandedAngles (part_samples (shape_of code) msb part.now) numbers.old alongship.old
-        athwartship.old result numbers.new alongship.new athwartship.new }
+        athwartship.old (as_answer result) numbers.new alongship.new athwartship.new }
 {
     let n = count_values(part, msb, code);
     if numbers.len() < n {
-        return layout::refuse(codes::NO_ROOM, 0);
+        return layout::refuse(Code::NoRoom, 0);
     }
     if alongship.len() < n {
-        return layout::refuse(codes::NO_ROOM, 0);
+        return layout::refuse(Code::NoRoom, 0);
     }
     if athwartship.len() < n {
-        return layout::refuse(codes::NO_ROOM, 0);
+        return layout::refuse(Code::NoRoom, 0);
     }
     take_angles(part, msb, code, numbers, alongship, athwartship);
     layout::accept(1, n)
@@ -264,16 +255,12 @@ pub fn read_angles(
     alongship: &mut [i16],
     athwartship: &mut [i16],
 ) -> Answer
-    ensures { AnglesRead file.now place numbers.old alongship.old athwartship.old result
+    ensures { AnglesRead file.now place numbers.old alongship.old athwartship.old (as_answer result)
         numbers.new alongship.new athwartship.new }
 {
-    match tuples::open_angled(file, place) {
-        Opened::Refused { code, place } => layout::refuse(code, place),
-        Opened::Tuple { msb, whole, code } => {
-            let part = &file[place + samples::SAMPLES..place + whole - frame::TAIL];
-            hand_angles(part, msb, code, numbers, alongship, athwartship)
-        }
-    }
+    let found = tuples::open_angled(file, place)?;
+    let part = &file[place + samples::SAMPLES..place + found.whole - frame::TAIL];
+    hand_angles(part, found.msb, found.code, numbers, alongship, athwartship)
 }
 
 // ---- fields
@@ -323,9 +310,9 @@ fn length_of(part: &[u8], msb: bool) -> PingLength
 {
     let words = &part[FIRST_WORD..part.len()];
     if samples::ends_in_run(words, msb) {
-        return PingLength::Samples(samples::count_samples(words, msb));
+        return Some(samples::count_samples(words, msb));
     }
-    PingLength::Absent
+    None
 }
 
 // The same of a C-16 or a CE-16 ping.
@@ -336,9 +323,9 @@ fn length_of16(part: &[u8], msb: bool) -> PingLength
     let end = words_end(part, msb);
     let words = &part[FIRST_WORD..end];
     if samples16::ends_in_run(words, msb) {
-        return PingLength::Samples(samples16::count_samples(words, msb));
+        return Some(samples16::count_samples(words, msb));
     }
-    PingLength::Absent
+    None
 }
 
 // The length of a ping by its part: an uncompressed one has none.
@@ -350,18 +337,18 @@ fn length_by(part: &[u8], msb: bool, code: u16) -> PingLength
         types::PING_C => length_of(part, msb),
         types::PING_C16 => length_of16(part, msb),
         types::PING_CE16 => length_of16(part, msb),
-        _ => PingLength::Absent,
+        _ => None,
     }
 }
 
 // The fields of a ping that keeps its own rules.
-fn fields_at(file: &[u8], place: usize, msb: bool, whole: usize, code: u16) -> PingRead
+fn fields_at(file: &[u8], place: usize, msb: bool, whole: usize, code: u16) -> Ping
     requires { Readable is_ping file.now place msb whole code }
-    ensures { result ≡ ping_fields file.now place }
+    ensures { as_ping (Ok result) ≡ ping_fields file.now place }
 {
     let end = place + whole - frame::TAIL;
     let part = &file[place + samples::SAMPLES..end];
-    PingRead::Read {
+    Ping {
         header: header_at(file, place, msb),
         attribute: tuples::signed4_at(file, end, msb),
         kind: kind_of(code),
@@ -372,10 +359,8 @@ fn fields_at(file: &[u8], place: usize, msb: bool, whole: usize, code: u16) -> P
 
 // Reads a listed ping's fields: what the reader of its samples or angles would refuse is refused here too.
 pub fn read_ping(file: &[u8], place: usize) -> PingRead
-    ensures { PingAt file.now place result }
+    ensures { PingAt file.now place (as_ping result) }
 {
-    match tuples::open_ping(file, place) {
-        Opened::Refused { code, place } => PingRead::Refused { code, place },
-        Opened::Tuple { msb, whole, code } => fields_at(file, place, msb, whole, code),
-    }
+    let found = tuples::open_ping(file, place)?;
+    Ok(fields_at(file, place, found.msb, found.whole, found.code))
 }

@@ -1,18 +1,18 @@
 -- Made from views/records.txt by views/make.
 -- Position, type 20: TR Table 7. Its time fraction is signed, here alone. Assumes nothing.
-use Rattle.std.specs.Prelude.{◌≡◌, refl, Bool, List, [], ◌∷◌, ℕ, ℤ, pos}
+use Rattle.std.specs.Prelude.{◌≡◌, refl, Bool, List, [], ◌∷◌, ℕ, ℤ, pos, Result, Ok, Err}
 use Rattle.std.proofs.Common.{sym, ◌∙◌}
-use Rattle.layout.specs.declared.Answer.{Answer}
-use Rattle.layout.specs.declared.Answer.TheVariants.{Accepted}
-use Rattle.layout.specs.declared.Answer.TheVariants as answer
+use Rattle.layout.specs.declared.Refusal.{Refusal}
+use Rattle.layout.specs.Code.{number}
+use Rattle.layout.specs.Answer.{Answer, Accepted}
+use Rattle.layout.specs.Answer as answer
 use Rattle.layout.specs.Answers.{numbers, Tells, accepting}
 use Rattle.tuples.specs.Readers.{only, read_answer, row_of}
 use Rattle.tuples.specs.Writers.{Written, plain_bytes}
 use Rattle.rows.specs.Writers.{row_values}
 use Rattle.rows.specs.Integers.{signed_at, unsigned_at, patterns, row_integers, Typed}
 use Rattle.position.specs.declared.Position.{Position}
-use Rattle.position.specs.declared.PositionRead.{PositionRead}
-use Rattle.position.specs.declared.PositionRead.TheVariants.{Read, Refused}
+use Rattle.position.specs.PositionRead.{PositionRead, Read, Refused}
 
 -- the integers of the row under the fields' names
 abbrev pub position_of : List ℤ → Position
@@ -47,7 +47,12 @@ position_inverse r = refl
 abbrev pub PositionTyped : Position → Type 0
 PositionTyped r = Typed (row_of 20 0) (position_integers r)
 
--- ---- reading: 01's answer in each case
+-- ---- reading: what the code gives, in these words
+abbrev pub as_read : Result Position Refusal → PositionRead
+as_read (Ok r) = Read r
+as_read (Err r) = Refused (number r.code) r.place
+
+-- 01's answer in each case
 abbrev pub answer_of : PositionRead → Answer
 answer_of (Read r) = accepting 1 0
 answer_of (Refused c p) = answer.Refused c p

@@ -1,15 +1,15 @@
 // Made from views/records.txt by views/make.
 // Position, type 20: TR Table 7. Its time fraction is signed, here alone.
-#![tactic(auto)]
+#![tactic(auto, unfolding(layout::specs::Types::listings, layout::specs::Types::among, layout::specs::Types::listing_of))]
 
 ghost use Rattle.std.specs.Prelude.{◌≡◌};
 ghost use Rattle.tuples.specs.Readers.{row_of};
 ghost use Rattle.rows.specs.Integers.{integers_from, patterns};
 ghost use Rattle.rows.specs.Places.{places_of};
-ghost use Rattle.position.specs.Position.{position_of, position_integers, PositionAt, PositionWritten};
+ghost use Rattle.layout.specs.Views.{as_answer};
+ghost use Rattle.position.specs.Position.{position_of, position_integers, PositionAt, PositionWritten, as_read};
 
-use layout::{Answer, types};
-use rows::RowRead;
+use layout::{Answer, Refusal, types};
 
 #[derive(Clone, Copy)]
 pub struct Position {
@@ -23,11 +23,7 @@ pub struct Position {
 }
 
 // What reading gives: the record, or a refusal.
-#[derive(Clone, Copy)]
-pub enum PositionRead {
-    Read(Position),
-    Refused { code: u8, place: usize },
-}
+pub type PositionRead = Result<Position, Refusal>;
 
 impl Position {
     pub const CODE: u16 = types::POSITION;
@@ -130,18 +126,16 @@ impl Position {
 
     // Reads the tuple at a place of a file.
     pub fn read(file: &[u8], place: usize) -> PositionRead
-        ensures { PositionAt file.now place result }
+        ensures { PositionAt file.now place (as_read result) }
     {
         let mut numbers = [0u32; 7];
-        match rows::read_row(file, place, Position::CODE, &mut numbers) {
-            RowRead::Refused { code, place } => PositionRead::Refused { code, place },
-            RowRead::Read { text: _ } => PositionRead::Read(Position::of(numbers)),
-        }
+        rows::read_row(file, place, Position::CODE, &mut numbers)?;
+        Ok(Position::of(numbers))
     }
 
     // Writes the tuple; 19 alone refuses it.
     pub fn write(self, msb: bool, out: &mut [u8]) -> Answer
-        ensures { PositionWritten msb self out.old result out.new }
+        ensures { PositionWritten msb self out.old (as_answer result) out.new }
     {
         rows::write_row(Position::CODE, &self.numbers(), &[], msb, out)
     }

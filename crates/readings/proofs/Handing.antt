@@ -9,9 +9,10 @@ use lib.Ieee.{Float}
 use lib.ListN.{length, take, drop, replicate, length-map, length-replicate}
 use lib.Seq.{length-take-le}
 use Rattle.rules.specs.Rules.{◌⇒◌, first_of}
-use Rattle.layout.specs.declared.Answer.{Answer}
-use Rattle.layout.specs.declared.Answer.TheVariants.{Accepted, Refused}
+use Rattle.layout.specs.Answer.{Answer}
+use Rattle.layout.specs.Answer.{Accepted, Refused}
 use Rattle.layout.specs.declared.Counts.{Counts}
+use Rattle.layout.specs.Views.{as_answer}
 use Rattle.layout.specs.Answers.{numbers, Tells, tells, left_by, is_accepted}
 use Rattle.intake.specs.Check.{check_file, writing}
 use Rattle.quantities.specs.inner.Codes.{family_of}
@@ -25,7 +26,7 @@ use Rattle.readings.specs.Reading.{has_readings, case_in, double_in, no_double}
 use Rattle.readings.specs.Readings.{readings_from, shorter, answer_sought, readings_answer, window_sought, window_at, ReadingsTold}
 use Rattle.readings.specs.Readings.{page_size, page_by, PageTold}
 use Rattle.readings.specs.inner.Laying.{spot_answer, spot_window, HandedOver, shown_all}
-use Rattle.readings.proofs.Windows.{window, shorter-second}
+use Rattle.readings.proofs.Windows.{window, shorter-min}
 use Rattle.readings.proofs.Laying.{shown-again}
 
 -- ---- of a linked ping, by its bytes
@@ -124,12 +125,12 @@ module _ {A : Type 0} (h : Reading → A) where
   page_of (Refused c p) w long = all-silent page_size
 
 pub page_told : (f : List ℕ) (p first : ℕ) {us : List ℕ} {vs : List Float} {r : Page}
-    → ReadingsTold f p first (replicate page_size 0) (replicate page_size no_double) r.answer us vs → r.readings ≡ shown_all us vs
+    → ReadingsTold f p first (replicate page_size 0) (replicate page_size no_double) (as_answer r.answer) us vs → r.readings ≡ shown_all us vs
     → PageTold f p first r
 page_told f p first {us} {vs} {r} t e =
     let many : shorter (length (replicate {A = ℕ} page_size 0)) (length (replicate page_size no_double)) ≡ page_size =
     ap₂ shorter (length-replicate {A = ℕ} page_size 0) (length-replicate page_size no_double)
-    ∙ shorter-second page_size page_size (omega arith) in
+    ∙ sym (shorter-min page_size page_size) ∙ omega arith in
     let answer = readings_answer f p page_size in
     let readings = window_at f p first page_size in
     let long : is_accepted (readings_answer f p page_size) ≡ true → length (window_at f p first page_size) ≡ page_size =
@@ -144,6 +145,6 @@ page_told f p first {us} {vs} {r} t e =
     ∙ ap (λ (m : ℕ). left_by (readings_answer f p m) (map double_in (window_at f p first m)) (replicate page_size no_double)) many
     ∙ page_of double_in answer readings long in
     record {
-      answer = subst (λ (m : ℕ). Tells numbers r.answer (readings_answer f p m)) many t.answer;
+      answer = subst (λ (m : ℕ). Tells numbers (as_answer r.answer) (readings_answer f p m)) many t.answer;
       readings = e ∙ ap₂ shown_all eu ev ∙ shown-again w;
     }

@@ -1,19 +1,19 @@
--- Readings laid one by one over silence are the window's, where sample numbers rise; loops that fill a list entry by entry; and what
--- is handed over. Assumes nothing.
+-- Readings laid one by one over silence are the window's, where sample numbers rise; and what is handed over. Assumes nothing.
 use mathlib.Core.Path.{◌≡◌, refl, sym, ap, ap₂, ◌∙◌}
-use mathlib.Core.Bool.{Bool, true, false, cond}
-use mathlib.Core.List.{List, [], ◌∷◌, ◌++◌, map}
+use mathlib.Core.Bool.{Bool}
+use mathlib.Core.List.{List, [], ◌∷◌, map}
 use mathlib.Core.Option.{Option, some, none}
+use Rattle.std.specs.Prelude as std
+use Rattle.std.specs.Prelude.{Some, None}
 use Prim.Native.Nat.{ℕ, zero, suc, ◌+◌, ◌-◌, ◌≤◌, ◌<◌}
 use native.Mathlib.Nat.{not-suc-le-zero, le_of_suc-le-suc}
-use native.Mathlib.Numerals.{add-one}
 use native.Mathlib.Omega.{arith}
 use borrow.Author.Tests.{eqb-true, eqb-false, le-leb, lt-leb, leb-true, leb-false}
 use lib.Dec.{eqb, leb}
 use lib.Ieee.{Float}
 use lib.IntN.{ℤ}
 use lib.ListN.{length, take, drop, get_or, set, replicate, length-set, length-replicate, length-map, get_or-replicate, get_or-map}
-use lib.Seq.{take-length, take-suc, take-suc-set, get_or-set_same, get_or-set_other, ext_get_or}
+use lib.Seq.{get_or-set_same, get_or-set_other, ext_get_or}
 use Rattle.order.specs.Order.{signed_of}
 use Rattle.layout.specs.Families.{Family}
 use Rattle.layout.specs.Types.{shape_of}
@@ -24,7 +24,7 @@ use Rattle.samples.proofs.Rising.{Rising}
 use Rattle.pings.specs.inner.Handing.{part_samples}
 use Rattle.quantities.specs.declared.Quantity.{Quantity}
 use Rattle.quantities.specs.inner.Codes.{family_of}
-use Rattle.sampling.specs.inner.Walking.{Handed, handed_by, width_of, handed_left, SpanOf, stepped, SteppedTo}
+use Rattle.sampling.specs.inner.Walking.{Handed, handed_by, width_of, handed_left, SpanOf, standing, stepped, SteppedTo}
 use Rattle.sampling.specs.declared.Span.{Span}
 use Rattle.sampling.specs.declared.Stepped.{Stepped}
 use Rattle.sampling.proofs.Walking.{span-handed}
@@ -36,17 +36,6 @@ use Rattle.readings.specs.Readings.{value_at, reading_by, readings_from, shown}
 use Rattle.readings.specs.inner.Laying.{put, laid, shown_by, shown_all}
 use Rattle.readings.proofs.Units.{width-in}
 use Rattle.readings.proofs.Windows.{value-here, value-later, value_before, window, nth}
-
--- ---- a list filled entry by entry: as far as i it is w
-module _ {A : Type 0} (w : List A) (d : A) where
-  pub filled_next : (out : List A) (i : ℕ) (a : A) → i < length out → i < length w → a ≡ get_or w i d → take i out ≡ take i w
-      → take (i + 1) (set out i a) ≡ take (i + 1) w
-  filled_next out i a h k e t =
-      rw (add-one i, take-suc-set out i a h, take-suc w i d k) (λ j. t j ++ (e j ∷ []))
-
-pub filled-all : {A : Type 0} (w out : List A) {n : ℕ} → length w ≡ n → length out ≡ n → take n out ≡ take n w → out ≡ w
-filled-all w out hw ho t =
-    sym (take-length out) ∙ ap (λ (n : ℕ). take n out) ho ∙ t ∙ ap (λ (n : ℕ). take n w) (sym hw) ∙ take-length w
 
 -- ---- one reading
 module _ {A : Type 0} (first : ℕ) (out : List A) (i : ℕ) (a : A) where
@@ -142,24 +131,23 @@ module _ {A : Type 0} (h : Reading → A) (x : Quantity) (f : Family) (s : List 
 
 -- ---- a step over samples: what it lays, and what is left behind it
 module _ {A : Type 0} (g : ℤ → A) (first : ℕ) where
-  pub laid_none : (out : List A) (r : Stepped) → r.sampled ≡ false → laid g first out (stepped r []) ≡ out
+  pub laid_none : (out : List A) (r : Stepped) → r.sample ≡ None → laid g first out (stepped r []) ≡ out
   unfolding laid
-  laid_none out r e = ap (λ (b : Bool). laid g first out (cond b ((r.number, r.value) ∷ []) [])) e
+  laid_none out r e = ap (λ (x : std.Option Handed). laid g first out (standing x [])) e
 
-  pub laid_sample : (out : List A) (r : Stepped) → r.sampled ≡ true
-      → laid g first out (stepped r []) ≡ put first out r.number (g r.value)
+  pub laid_sample : (out : List A) (r : Stepped) {x : Handed} → r.sample ≡ Some x
+      → laid g first out (stepped r []) ≡ put first out x.0 (g x.1)
   unfolding laid
-  laid_sample out r e = ap (λ (b : Bool). laid g first out (cond b ((r.number, r.value) ∷ []) [])) e
+  laid_sample out r e = ap (λ (x : std.Option Handed). laid g first out (standing x [])) e
 
   pub laid-step : (out : List A) (r : Stepped) (left : List Handed)
       → laid g first (laid g first out (stepped r [])) left ≡ laid g first out (stepped r left)
   unfolding laid
-  laid-step out r left = by r.sampled
+  laid-step out r left = by r.sample
     where
-      by : (b : Bool) → laid g first (laid g first out (cond b ((r.number, r.value) ∷ []) [])) left
-          ≡ laid g first out (cond b ((r.number, r.value) ∷ left) left)
-      by true = refl
-      by false = refl
+      by : (x : std.Option Handed) → laid g first (laid g first out (standing x [])) left ≡ laid g first out (standing x left)
+      by (Some x) = refl
+      by None = refl
 
   -- where nothing is left, all is laid
   pub laid-all : {out all : List A} {left : List Handed} → left ≡ [] → laid g first out left ≡ all → out ≡ all

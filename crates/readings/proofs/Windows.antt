@@ -1,13 +1,13 @@
 -- Windows of readings: a reading for each number, and what each is. Assumes nothing.
 use mathlib.Core.Path.{◌≡◌, refl, ap, ◌∙◌}
-use mathlib.Core.Bool.{true, false}
+use mathlib.Core.Bool.{Bool, true, false}
 use mathlib.Core.List.{List, [], ◌∷◌}
 use mathlib.Core.Option.{some, none}
-use Prim.Native.Nat.{ℕ, zero, suc, ◌+◌, ◌≤◌, ◌<◌}
+use Prim.Native.Nat.{ℕ, zero, suc, ◌+◌, ◌<◌, min}
 use native.Mathlib.Nat.{not-suc-le-zero, le_of_suc-le-suc}
 use native.Mathlib.Omega.{arith}
-use borrow.Author.Tests.{ne_eqb, lt-ltb, le-ltb}
-use lib.Dec.{eqb}
+use borrow.Author.Tests.{ne_eqb, ltb-true, ltb-false}
+use lib.Dec.{eqb, ltb}
 use lib.ListN.{length, get_or}
 use Rattle.layout.specs.Families.{Family}
 use Rattle.samples.specs.Words.{Sample}
@@ -45,10 +45,10 @@ module _ (x : Quantity) (f : Family) (s : List Sample) where
   nth first (suc n) (suc i) h = nth (first + 1) n i (le_of_suc-le-suc h) ∙ ap (reading_at x f s) (omega arith)
 
 -- ---- the shorter of two lengths
-pub shorter-first : (a b : ℕ) → a < b → shorter a b ≡ a
+pub shorter-min : (a b : ℕ) → min a b ≡ shorter a b
 unfolding shorter
-shorter-first a b h = rw (lt-ltb a b h, shorter)
-
-pub shorter-second : (a b : ℕ) → b ≤ a → shorter a b ≡ b
-unfolding shorter
-shorter-second a b h = rw (le-ltb a b h, shorter)
+shorter-min a b = by (ltb a b) refl
+  where
+    by : (x : Bool) → ltb a b ≡ x → min a b ≡ elim x as (λ _. ℕ) [ true ↦ a | false ↦ b ]
+    by true e = omega (arith, ltb-true a b e)
+    by false e = omega (arith, ltb-false a b e)

@@ -1,6 +1,7 @@
 // Readings: what a viewer is shown for each sample number of a ping, as a double with its kind.
 #![tactic(auto)]
 
+ghost use Rattle.layout.specs.Views.{as_answer};
 ghost use Rattle.std.specs.Prelude.{◌≡◌, true, [], map, ◌+◌, ◌≤◌, ◌<◌, length, replicate};
 ghost use Rattle.layout.specs.Types.{shape_of, is_ping};
 ghost use Rattle.pings.specs.inner.Handing.{part_samples};
@@ -13,8 +14,9 @@ ghost use Rattle.readings.specs.Reading.{cased, divisor_of, reading_of, has_read
 ghost use Rattle.readings.specs.Readings.{readings_from, shorter, ReadingsTold, PageTold};
 ghost use Rattle.readings.specs.inner.Laying.{put, laid, HandedOver, shown_by, shown_all};
 
-use layout::{Answer, Counts, codes};
-use linked::{Found, Spot};
+use layout::codes::Code;
+use layout::{Answer, Counts};
+use linked::Spot;
 use quantities::Quantity;
 use sampling::Stepped;
 
@@ -123,12 +125,8 @@ fn clear(cases: &mut [u8], doubles: &mut [f64])
     ensures cases_after { cases.new ≡ replicate (length cases.old) 0 }
     ensures doubles_after { doubles.new ≡ replicate (length cases.old) no_double }
 {
-    let mut i: usize = 0;
-    while i < cases.len() {
-        cases[i] = SILENT;
-        doubles[i] = 0.0;
-        i += 1;
-    }
+    cases.fill(SILENT);
+    doubles.fill(0.0);
 }
 
 // Lays a reading at its sample number, in slices whose first entry is that of the first number.
@@ -160,13 +158,13 @@ fn lay_step(
     ensures cases_after { cases.new ≡ laid (λ v. case_in (cased quantity (double_of v divisor))) first cases.old (stepped it []) }
     ensures doubles_after { doubles.new ≡ laid (λ v. double_in (cased quantity (double_of v divisor))) first doubles.old (stepped it []) }
 {
-    if it.sampled {
+    if let Some((number, value)) = it.sample {
         put_reading(
             cases,
             doubles,
             first,
-            wide(it.number),
-            reading_of(quantity, it.value, divisor),
+            wide(number),
+            reading_of(quantity, value, divisor),
         );
     }
 }
@@ -191,12 +189,10 @@ fn lay(
     let width = sampling::width_of(code);
     let divisor = divisor_of(quantity, code);
     let mut number: u32 = 0;
-    let mut at: usize = 0;
-    while width <= held.len() - at {
-        let it = sampling::sample_at(held, at, number, msb, code);
+    for i in 0..held.len() / width {
+        let it = sampling::sample_at(held, i * width, number, msb, code);
         lay_step(it, quantity, divisor, first, cases, doubles);
         number = it.next;
-        at += width;
     }
 }
 
@@ -248,13 +244,6 @@ fn has_readings(quantity: Quantity, code: u16) -> bool
     }
 }
 
-// The smaller of two lengths.
-fn shorter_of(a: usize, b: usize) -> usize
-    ensures { (result ≡ shorter a b) × (result ≤ a) × (result ≤ b) }
-{
-    if a < b { a } else { b }
-}
-
 // Hands over the readings of a linked ping, as many as both slices have entries; 30 at a ping that has none.
 fn hand_over(
     file: &[u8],
@@ -265,17 +254,17 @@ fn hand_over(
     doubles: &mut [f64],
 ) -> Answer
     requires { SpotHere file.now ping }
-    ensures { HandedOver file.now ping counts first cases.old doubles.old result cases.new
+    ensures { HandedOver file.now ping counts first cases.old doubles.old (as_answer result) cases.new
         doubles.new }
 {
     let at = ping.at;
     let quantity = ping.quantity;
     if !has_readings(quantity, ping.code) {
-        return layout::refuse(codes::NO_READING, at);
+        return layout::refuse(Code::NoReading, at);
     }
-    let n = shorter_of(cases.len(), doubles.len());
+    let n = cases.len().min(doubles.len());
     fill(file, ping, first, &mut cases[0..n], &mut doubles[0..n]);
-    Answer::Accepted(Counts {
+    Ok(Counts {
         tuples: counts.tuples,
         written: n,
         compared: counts.compared,
@@ -291,16 +280,14 @@ pub fn readings(
     cases: &mut [u8],
     doubles: &mut [f64],
 ) -> Answer
-    ensures { ReadingsTold file.now place first cases.old doubles.old result cases.new
+    ensures { ReadingsTold file.now place first cases.old doubles.old (as_answer result) cases.new
         doubles.new }
 {
-    match intake::check(file) {
-        Answer::Refused { code, place } => layout::refuse(code, place),
-        Answer::Accepted(counts) => match linked::find(file, place) {
-            Found::Nowhere => layout::refuse(codes::UNFIT, place),
-            Found::Ping(ping) => hand_over(file, ping, counts, first, cases, doubles),
-        },
-    }
+    let counts = intake::check(file)?;
+    let Some(ping) = linked::find(file, place) else {
+        return layout::refuse(Code::Unfit, place);
+    };
+    hand_over(file, ping, counts, first, cases, doubles)
 }
 
 // The reading of a case and a double.
@@ -323,10 +310,8 @@ fn show_all(cases: [u8; PAGE], doubles: [f64; PAGE]) -> [Shown; PAGE]
     let mut page = [Shown {
         reading: Reading::Silent,
     }; PAGE];
-    let mut i: usize = 0;
-    while i < PAGE {
-        page[i] = show(cases[i], doubles[i]);
-        i += 1;
+    for (i, it) in page.iter_mut().enumerate() {
+        *it = show(cases[i], doubles[i]);
     }
     page
 }

@@ -14,8 +14,8 @@ use lib.Seq.{length-take-le, take_all}
 use Rattle.rules.proofs.Bools.{both_true}
 use Rattle.order.specs.Order.{Bytes}
 use Rattle.layout.specs.declared.Counts.{Counts}
-use Rattle.layout.specs.declared.Answer.{Answer}
-use Rattle.layout.specs.declared.Answer.TheVariants.{Accepted}
+use Rattle.layout.specs.Answer.{Answer}
+use Rattle.layout.specs.Answer.{Accepted}
 use Rattle.layout.specs.Answers.{accepting, left_by}
 use Rattle.layout.specs.Fields.{Field, num, txt, gap, ident, s, size, many, bare_size}
 use Rattle.layout.specs.Types.{Shape, indexed, row, uncompressed, compressed, unlisted, fitting, shape_of}
@@ -31,8 +31,8 @@ use Rattle.layout.proofs.Families.{IsRow}
 use Rattle.rows.specs.Readers.{count_of, fields_by, lent_by, row_answer, row_numbers, row_text, characters_at, answered, RowAt}
 use Rattle.rows.specs.Writers.{row_values, row_length, RowWritten}
 use Rattle.rows.specs.Integers.{integer, pattern, integers, patterns, row_integers, InRange, Typed}
-use Rattle.rows.specs.declared.RowRead.{RowRead}
-use Rattle.rows.specs.declared.RowRead.TheVariants.{Read}
+use Rattle.rows.specs.RowRead.{RowRead}
+use Rattle.rows.specs.RowRead.{Read}
 use Rattle.rows.proofs.Shapes.{is-row, no_text, Textual, textual, none_bare, fits_by, fixed-length}
 use Rattle.rows.proofs.Writing.{lengths-row}
 use Rattle.rows.proofs.Reading.{as_only}

@@ -14,8 +14,8 @@ use Rattle.rules.proofs.Bools.{both_true}
 use Rattle.layout.specs.Families.{Family, has_u, has_c, number_bytes, value_count}
 use Rattle.layout.specs.Types.{Shape, uncompressed, compressed, shape_of, has_samples, is_ping}
 use Rattle.layout.specs.declared.Counts.{Counts}
-use Rattle.layout.specs.declared.Answer.{Answer}
-use Rattle.layout.specs.declared.Answer.TheVariants.{Accepted}
+use Rattle.layout.specs.Answer.{Answer}
+use Rattle.layout.specs.Answer.{Accepted}
 use Rattle.layout.specs.Answers.{left_by, accepting}
 use Rattle.frame.specs.Frames.{Tup, length_of, frame}
 use Rattle.turning.specs.Rows.{fit-end, fit-num}
@@ -35,8 +35,8 @@ use Rattle.content.proofs.Families.{shape_u, shape_c}
 use Rattle.content.proofs.Pings.{Held, Plain, Packed, sound_u, item_u, sound_c, item_c, length_data}
 use Rattle.tuples.specs.Readers.{holding, is_valued, is_angled, read_item}
 use Rattle.pings.specs.declared.PingHeader.{PingHeader}
-use Rattle.pings.specs.declared.PingRead.{PingRead}
-use Rattle.pings.specs.declared.PingRead.TheVariants.{Read}
+use Rattle.pings.specs.PingRead.{PingRead}
+use Rattle.pings.specs.PingRead.{Read}
 use Rattle.pings.specs.Headers.{head_of, told_length}
 use Rattle.pings.specs.Readers.{samples_by, samples_at, family_by, values_at, hand_answer, hand_angles, behind_read}
 use Rattle.pings.specs.Readers.{sample_answer, angle_answer, SamplesRead, AnglesRead}

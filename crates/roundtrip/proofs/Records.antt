@@ -9,87 +9,86 @@ use lib.Dec.{lit<}
 use lib.ListN.{take}
 use Rattle.order.specs.Order.{Bytes}
 use Rattle.layout.specs.declared.Counts.{Counts}
-use Rattle.layout.specs.declared.Answer.{Answer}
-use Rattle.layout.specs.declared.Answer.TheVariants.{Accepted}
+use Rattle.layout.specs.Answer.{Answer, Accepted}
 use Rattle.layout.specs.Types.{listings, among, listing_of}
 use Rattle.rows.specs.Readers.{row_text, characters_at}
 use Rattle.roundtrip.specs.Held.{Holds}
 use Rattle.roundtrip.proofs.Handed.{again-row, again-plain}
 use Rattle.signature.specs.declared.Signature.{Signature}
-use Rattle.signature.specs.declared.SignatureRead.{SignatureRead}
-use Rattle.signature.specs.declared.SignatureRead.TheVariants as signature
+use Rattle.signature.specs.SignatureRead.{SignatureRead}
+use Rattle.signature.specs.SignatureRead as signature
 use Rattle.signature.specs.Signature.{signature_of, signature_integers, signature_inverse}
 use Rattle.signature.specs.Signature.{SignatureTyped, SignatureAt, SignatureWritten}
 use Rattle.signature.specs.Signature as signatures
 use Rattle.sounder.specs.declared.Sounder.{Sounder}
-use Rattle.sounder.specs.declared.SounderRead.{SounderRead}
-use Rattle.sounder.specs.declared.SounderRead.TheVariants as sounder
+use Rattle.sounder.specs.SounderRead.{SounderRead}
+use Rattle.sounder.specs.SounderRead as sounder
 use Rattle.sounder.specs.Sounder.{sounder_of, sounder_integers, sounder_inverse}
 use Rattle.sounder.specs.Sounder.{SounderTyped, SounderAt, SounderWritten}
 use Rattle.sounder.specs.Sounder as sounders
 use Rattle.ek500_sounder.specs.declared.Ek500Sounder.{Ek500Sounder}
-use Rattle.ek500_sounder.specs.declared.Ek500SounderRead.{Ek500SounderRead}
-use Rattle.ek500_sounder.specs.declared.Ek500SounderRead.TheVariants as ek500Sounder
+use Rattle.ek500_sounder.specs.Ek500SounderRead.{Ek500SounderRead}
+use Rattle.ek500_sounder.specs.Ek500SounderRead as ek500Sounder
 use Rattle.ek500_sounder.specs.Ek500Sounder.{ek500_sounder_of, ek500_sounder_integers, ek500_sounder_inverse}
 use Rattle.ek500_sounder.specs.Ek500Sounder.{Ek500SounderTyped, Ek500SounderAt, Ek500SounderWritten}
 use Rattle.ek500_sounder.specs.Ek500Sounder as ek500Sounders
 use Rattle.channel.specs.declared.Channel.{Channel}
-use Rattle.channel.specs.declared.ChannelRead.{ChannelRead}
-use Rattle.channel.specs.declared.ChannelRead.TheVariants as channel
+use Rattle.channel.specs.ChannelRead.{ChannelRead}
+use Rattle.channel.specs.ChannelRead as channel
 use Rattle.channel.specs.Channel.{channel_of, channel_integers, channel_inverse}
 use Rattle.channel.specs.Channel.{ChannelTyped, ChannelAt, ChannelWritten}
 use Rattle.channel.specs.Channel as channels
 use Rattle.ek500_channel.specs.declared.Ek500Channel.{Ek500Channel}
-use Rattle.ek500_channel.specs.declared.Ek500ChannelRead.{Ek500ChannelRead}
-use Rattle.ek500_channel.specs.declared.Ek500ChannelRead.TheVariants as ek500Channel
+use Rattle.ek500_channel.specs.Ek500ChannelRead.{Ek500ChannelRead}
+use Rattle.ek500_channel.specs.Ek500ChannelRead as ek500Channel
 use Rattle.ek500_channel.specs.Ek500Channel.{ek500_channel_of, ek500_channel_integers, ek500_channel_inverse}
 use Rattle.ek500_channel.specs.Ek500Channel.{Ek500ChannelTyped, Ek500ChannelAt, Ek500ChannelWritten}
 use Rattle.ek500_channel.specs.Ek500Channel as ek500Channels
 use Rattle.threshold.specs.declared.Threshold.{Threshold}
-use Rattle.threshold.specs.declared.ThresholdRead.{ThresholdRead}
-use Rattle.threshold.specs.declared.ThresholdRead.TheVariants as threshold
+use Rattle.threshold.specs.ThresholdRead.{ThresholdRead}
+use Rattle.threshold.specs.ThresholdRead as threshold
 use Rattle.threshold.specs.Threshold.{threshold_of, threshold_integers, threshold_inverse}
 use Rattle.threshold.specs.Threshold.{ThresholdTyped, ThresholdAt, ThresholdWritten}
 use Rattle.threshold.specs.Threshold as thresholds
 use Rattle.position.specs.declared.Position.{Position}
-use Rattle.position.specs.declared.PositionRead.{PositionRead}
-use Rattle.position.specs.declared.PositionRead.TheVariants as position
+use Rattle.position.specs.PositionRead.{PositionRead}
+use Rattle.position.specs.PositionRead as position
 use Rattle.position.specs.Position.{position_of, position_integers, position_inverse}
 use Rattle.position.specs.Position.{PositionTyped, PositionAt, PositionWritten}
 use Rattle.position.specs.Position as positions
 use Rattle.navigation.specs.declared.Navigation.{Navigation}
-use Rattle.navigation.specs.declared.NavigationRead.{NavigationRead}
-use Rattle.navigation.specs.declared.NavigationRead.TheVariants as navigation
+use Rattle.navigation.specs.NavigationRead.{NavigationRead}
+use Rattle.navigation.specs.NavigationRead as navigation
 use Rattle.navigation.specs.Navigation.{navigation_of, navigation_integers, navigation_inverse}
 use Rattle.navigation.specs.Navigation.{NavigationTyped, NavigationAt, NavigationWritten}
 use Rattle.navigation.specs.Navigation as navigations
 use Rattle.attitude.specs.declared.Attitude.{Attitude}
-use Rattle.attitude.specs.declared.AttitudeRead.{AttitudeRead}
-use Rattle.attitude.specs.declared.AttitudeRead.TheVariants as attitude
+use Rattle.attitude.specs.AttitudeRead.{AttitudeRead}
+use Rattle.attitude.specs.AttitudeRead as attitude
 use Rattle.attitude.specs.Attitude.{attitude_of, attitude_integers, attitude_inverse}
 use Rattle.attitude.specs.Attitude.{AttitudeTyped, AttitudeAt, AttitudeWritten}
 use Rattle.attitude.specs.Attitude as attitudes
 use Rattle.event.specs.declared.Event.{Event}
-use Rattle.event.specs.declared.EventRead.{EventRead}
-use Rattle.event.specs.declared.EventRead.TheVariants as event
+use Rattle.event.specs.EventRead.{EventRead}
+use Rattle.event.specs.EventRead as event
 use Rattle.event.specs.Event.{event_of, event_integers, event_inverse}
 use Rattle.event.specs.Event.{EventTyped, EventAt, EventWritten}
 use Rattle.event.specs.Event as events
 use Rattle.run_start.specs.declared.RunStart.{RunStart}
-use Rattle.run_start.specs.declared.RunStartRead.{RunStartRead}
-use Rattle.run_start.specs.declared.RunStartRead.TheVariants as runStart
+use Rattle.run_start.specs.RunStartRead.{RunStartRead}
+use Rattle.run_start.specs.RunStartRead as runStart
 use Rattle.run_start.specs.RunStart.{run_start_of, run_start_integers, run-start_inverse}
 use Rattle.run_start.specs.RunStart.{RunStartTyped, RunStartAt, RunStartWritten}
 use Rattle.run_start.specs.RunStart as runStarts
 use Rattle.run_end.specs.declared.RunEnd.{RunEnd}
-use Rattle.run_end.specs.declared.RunEndRead.{RunEndRead}
-use Rattle.run_end.specs.declared.RunEndRead.TheVariants as runEnd
+use Rattle.run_end.specs.RunEndRead.{RunEndRead}
+use Rattle.run_end.specs.RunEndRead as runEnd
 use Rattle.run_end.specs.RunEnd.{run_end_of, run_end_integers, run-end_inverse}
 use Rattle.run_end.specs.RunEnd.{RunEndTyped, RunEndAt, RunEndWritten}
 use Rattle.run_end.specs.RunEnd as runEnds
 use Rattle.file_end.specs.declared.FileEnd.{FileEnd}
-use Rattle.file_end.specs.declared.FileEndRead.{FileEndRead}
-use Rattle.file_end.specs.declared.FileEndRead.TheVariants as fileEnd
+use Rattle.file_end.specs.FileEndRead.{FileEndRead}
+use Rattle.file_end.specs.FileEndRead as fileEnd
 use Rattle.file_end.specs.FileEnd.{file_end_of, file_end_integers, file-end_inverse}
 use Rattle.file_end.specs.FileEnd.{FileEndTyped, FileEndAt, FileEndWritten}
 use Rattle.file_end.specs.FileEnd as fileEnds

@@ -7,7 +7,7 @@ use mathlib.Core.List.{List, [], ◌++◌, append-nil}
 use native.Mathlib.Omega.{arith}
 use lib.ListN.{length, drop}
 use lib.Seq.{drop_at, drop-drop}
-use Rattle.layout.specs.declared.Verdict.TheVariants.{Fine}
+use Rattle.layout.specs.Verdict.{Fine}
 use Rattle.layout.proofs.Verdicts.{both-fine, judged_append}
 use Rattle.layout.specs.Answers.{accepting}
 use Rattle.frame.specs.Files.{limit, mark, is_msb}

@@ -10,8 +10,8 @@ use lib.Seq.{take_at}
 use Rattle.rules.specs.Rules.{Rule, ◌⇒◌, AllPass}
 use Rattle.rules.proofs.Laws.{Silent, clear}
 use Rattle.layout.specs.declared.Counts.{Counts}
-use Rattle.layout.specs.declared.Answer.{Answer}
-use Rattle.layout.specs.declared.Answer.TheVariants.{Accepted, Refused}
+use Rattle.layout.specs.Answer.{Answer}
+use Rattle.layout.specs.Answer.{Accepted, Refused}
 use Rattle.layout.specs.Answers.{left_by, accepting, is_accepted}
 use Rattle.tuples.specs.Writers.{Written}
 use Rattle.roundtrip.specs.Held.{Holds}

@@ -1,7 +1,7 @@
 -- Pings that the writers take, by the program's types and by the rules; and a ping that is read back. Over the family. Assumes nothing.
 use Rattle.std.specs.Prelude.{◌≡◌, ℕ, ◌+◌, ◌*◌, ◌^◌, ◌≤◌, false, not, ◌&&◌, List, [], ◌∷◌, ◌++◌, eqb, ℤ, length, drop}
 use Rattle.std.proofs.Math.Option.{Option, none}
-use Rattle.layout.specs.declared.Answer.{Answer}
+use Rattle.layout.specs.Answer.{Answer}
 use Rattle.layout.specs.Answers.{accepting}
 use Rattle.layout.specs.Families.{Family, number_bytes, value_bytes}
 use Rattle.samples.specs.Words.{Below}
@@ -11,8 +11,8 @@ use Rattle.samples.specs.Judging.{most, first_drop, first_wordless, too_short}
 use Rattle.content.specs.Forms.{has_length}
 use Rattle.pings.specs.declared.PingHeader.{PingHeader}
 use Rattle.pings.specs.declared.PingKind.{PingKind}
-use Rattle.pings.specs.declared.PingRead.{PingRead}
-use Rattle.pings.specs.declared.PingRead.TheVariants.{Read}
+use Rattle.pings.specs.PingRead.{PingRead}
+use Rattle.pings.specs.PingRead.{Read}
 use Rattle.pings.specs.Headers.{told_length}
 use Rattle.pings.specs.Readers.{samples_at, SamplesRead, AnglesRead}
 use Rattle.pings.specs.Fields.{PingAt}

@@ -5,8 +5,8 @@ use Rattle.turning.specs.Rows.{Fit}
 use Rattle.tuples.specs.Readers.{row_of}
 use Rattle.rows.specs.Readers.{count_of, row_numbers, row_text, characters_at, RowAt}
 use Rattle.rows.specs.Writers.{row_values, row_length}
-use Rattle.rows.specs.declared.RowRead.{RowRead}
-use Rattle.rows.specs.declared.RowRead.TheVariants.{Read}
+use Rattle.rows.specs.RowRead.{RowRead}
+use Rattle.rows.specs.RowRead.{Read}
 
 -- a type code of the program, numbers that fit the widths of the row, characters that are bytes
 pub record RowSound (k : ℕ) (ns t : List ℕ) : Type 0 where

@@ -13,8 +13,8 @@ use Rattle.rules.proofs.Bools.{both_true}
 use Rattle.order.specs.Order.{num_of, Bytes}
 use Rattle.order.proofs.Laws.{num_of_bound, bytes_take, bytes_drop}
 use Rattle.order.proofs.Stores.{sets_append}
-use Rattle.layout.specs.declared.Answer.{Answer}
-use Rattle.layout.specs.declared.Answer.TheVariants as answer
+use Rattle.layout.specs.Answer.{Answer}
+use Rattle.layout.specs.Answer as answer
 use Rattle.layout.specs.Answers.{tells, accepting, left_by}
 use Rattle.layout.specs.Fields.{Field, num, txt, gap, ident, s, width_of, size, many, bare_size, before_text}
 use Rattle.layout.specs.Types.{Shape, indexed, row, uncompressed, compressed, unlisted, shape_of, fitting, length_from}
@@ -28,7 +28,7 @@ use Rattle.tuples.specs.declared.Part.{Part}
 use Rattle.layout.proofs.Families.{IsRow}
 use Rattle.tuples.proofs.Fields.{fits, in-file, values-there}
 use Rattle.rows.specs.Readers.{count_of, fields_by, lent_by, row_answer, row_numbers, row_text, characters_at, answered, RowAt}
-use Rattle.rows.specs.declared.RowRead.TheVariants.{Read, Refused}
+use Rattle.rows.specs.RowRead.{Read, Refused}
 use Rattle.rows.proofs.Shapes.{is-row, first_text, Textual, textual, text-behind, none_bare, row-many}
 use Rattle.rows.proofs.Shapes.{fixed-length, least-length, long-enough}
 

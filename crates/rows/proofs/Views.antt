@@ -18,9 +18,9 @@ use mir.Syntax.{Width}
 use mir.Val.{hbits, to_z, of_z}
 use mir.Facts.{to_z-of_z}
 use Rattle.order.specs.Order.{pattern_of, Bytes}
-use Rattle.layout.specs.declared.Answer.{Answer}
-use Rattle.layout.specs.declared.Answer.TheVariants.{Accepted}
-use Rattle.layout.specs.declared.Answer.TheVariants as answer
+use Rattle.layout.specs.Answer.{Answer}
+use Rattle.layout.specs.Answer.{Accepted}
+use Rattle.layout.specs.Answer as answer
 use Rattle.layout.specs.Answers.{accepting, left_by}
 use Rattle.layout.specs.Fields.{Field, num, txt, gap, ident, many}
 use Rattle.layout.specs.Types.{fitting, lengths_of}
@@ -34,8 +34,8 @@ use Rattle.tuples.proofs.Reading.{Opens, opens}
 use Rattle.rows.specs.Readers.{count_of, lent_by, row_answer, row_numbers, row_text, characters_at, answered, RowAt}
 use Rattle.rows.specs.Writers.{row_values, row_length, RowWritten}
 use Rattle.rows.specs.Integers.{integer, integers, integers_from, row_integers}
-use Rattle.rows.specs.declared.RowRead.{RowRead}
-use Rattle.rows.specs.declared.RowRead.TheVariants.{Read, Refused}
+use Rattle.rows.specs.RowRead.{RowRead}
+use Rattle.rows.specs.RowRead.{Read, Refused}
 use Rattle.rows.proofs.Reading.{Within, as_only, opened_as, count-there, characters, each_within}
 
 -- ---- a record that was read: the tuple is one of its type that keeps its own rules

@@ -14,8 +14,8 @@ use Rattle.turning.specs.Rows.{Value, number, text, woven, woven_field, behind_f
 use borrow.Author.Tests.{lt-ltb, le-ltb}
 use lib.Dec.{ltb}
 use Rattle.rules.specs.Rules.{Rule, ◌⇒◌}
-use Rattle.layout.specs.declared.Answer.{Answer}
-use Rattle.layout.specs.declared.Answer.TheVariants.{Refused}
+use Rattle.layout.specs.Answer.{Answer}
+use Rattle.layout.specs.Answer.{Refused}
 use Rattle.tuples.specs.Readers.{is_record, row_by}
 use Rattle.tuples.specs.Writers.{Written, plain_bytes}
 use Rattle.tuples.specs.inner.Framing.{handed_values, Handable}

@@ -1,3 +1,5 @@
+pub mod RowRead
+pub mod Views
 pub mod Readers
 pub mod Writers
 pub mod Integers

@@ -1,17 +1,17 @@
 -- What a reader of records answers, and what it leaves in the numbers lent. Assumes nothing.
 use Rattle.std.specs.Prelude.{◌≡◌, Bool, true, false, List, [], ◌∷◌, ℕ, ◌+◌, ltb, length, take, drop}
 use Rattle.std.proofs.Common.{sym, ◌∙◌}
-use Rattle.layout.specs.declared.Answer.{Answer}
-use Rattle.layout.specs.declared.Answer.TheVariants.{Accepted}
-use Rattle.layout.specs.declared.Answer.TheVariants as answer
+use Rattle.layout.specs.Answer.{Answer}
+use Rattle.layout.specs.Answer.{Accepted}
+use Rattle.layout.specs.Answer as answer
 use Rattle.layout.specs.Answers.{Numbers, numbers, Tells, accepting, left_by}
 use Rattle.layout.specs.Fields.{Field, many, before_text}
 use Rattle.layout.specs.Types.{Shape, indexed, row, uncompressed, compressed, unlisted, shape_of}
 use Rattle.turning.specs.Rows.{numbers_in, text_in}
 use Rattle.tuples.specs.Readers.{records_of, read_answer, read_values, row_of}
 use Rattle.tuples.specs.declared.Part.{Part}
-use Rattle.rows.specs.declared.RowRead.{RowRead}
-use Rattle.rows.specs.declared.RowRead.TheVariants.{Read, Refused}
+use Rattle.rows.specs.RowRead.{RowRead}
+use Rattle.rows.specs.RowRead.{Read, Refused}
 
 -- how many numbers a record of a type has, its attribute the last
 abbrev pub count_of : ℕ → ℕ

@@ -1,8 +1,8 @@
 -- What a writer of records answers, and what it leaves in lent memory. Assumes nothing.
 use Rattle.std.specs.Prelude.{Bool, not, List, [], ◌∷◌, ℕ, ◌+◌, ltb, length}
 use Rattle.rules.specs.Rules.{Rule, ◌⇒◌}
-use Rattle.layout.specs.declared.Answer.{Answer}
-use Rattle.layout.specs.declared.Answer.TheVariants.{Refused}
+use Rattle.layout.specs.Answer.{Answer}
+use Rattle.layout.specs.Answer.{Refused}
 use Rattle.layout.specs.Fields.{bare_size}
 use Rattle.layout.specs.Types.{fitting, lengths_of, shape_of}
 use Rattle.turning.specs.Rows.{Value, woven}

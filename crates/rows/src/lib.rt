@@ -4,6 +4,7 @@
 ghost use Rattle.std.specs.Prelude.{◌≡◌, ◌+◌, ◌%◌, ◌^◌, ◌≤◌, ◌<◌, length, drop};
 ghost use Rattle.std.proofs.lemmas.List.Edits.{sets};
 ghost use Rattle.order.specs.Order.{signed_of, pattern_of};
+ghost use Rattle.layout.specs.Views.{as_answer};
 ghost use Rattle.layout.specs.Fields.{size, many};
 ghost use Rattle.layout.specs.inner.Codes.{rowed};
 ghost use Rattle.turning.specs.Rows.{values_of, numbers_in};
@@ -11,20 +12,18 @@ ghost use Rattle.tuples.specs.Readers.{records_of};
 ghost use Rattle.tuples.specs.inner.Opening.{Readable};
 ghost use Rattle.rows.specs.inner.Listed.{listed_fields};
 ghost use Rattle.rows.specs.Readers.{RowAt};
+ghost use Rattle.rows.specs.Views.{as_row};
 ghost use Rattle.rows.specs.Writers.{RowWritten};
 
-use layout::{Answer, FIELDS, codes};
-use tuples::{Opened, Part};
+use layout::codes::Code;
+use layout::{Answer, FIELDS, Refusal};
+use tuples::Part;
 
 // The bytes of a tuple around its fields and characters: data size and type, attribute and backlink.
 const AROUND: usize = frame::DATA + frame::TAIL;
 
 // What reading gives: the numbers are in lent memory, and where the characters stand; or a refusal.
-#[derive(Clone, Copy)]
-pub enum RowRead {
-    Read { text: Part },
-    Refused { code: u8, place: usize },
-}
+pub type RowRead = Result<Part, Refusal>;
 
 // Where a channel's row is parted, and an EK-500 sounder's: so many fields, of so many bytes and with so many numbers, stand before that
 // place. Both makers' channels have as many fields and bytes there.
@@ -138,60 +137,49 @@ fn take_row(
     numbers: &mut [u32],
 ) -> RowRead
     requires { Readable (records_of code) file.now place msb whole code }
-    ensures { RowAt code file.now place numbers.old result numbers.new }
+    ensures { RowAt code file.now place numbers.old (as_row result) numbers.new }
 {
     let listing = layout::listing_of(code);
     let measure = layout::measure(listing);
     let many = measure[layout::NUMBERS];
     if numbers.len() <= many {
-        return RowRead::Refused {
-            code: codes::NO_ROOM,
-            place: 0,
-        };
+        return layout::refuse(Code::NoRoom, 0);
     }
     read_listed(file, place + frame::DATA, msb, listing, numbers);
     numbers[many] = order::read4(file, place + whole - frame::TAIL, msb);
-    RowRead::Read {
-        text: Part {
-            place: place + frame::DATA + measure[layout::BEFORE],
-            length: whole - AROUND - measure[layout::BARE],
-        },
-    }
+    Ok(Part {
+        place: place + frame::DATA + measure[layout::BEFORE],
+        length: whole - AROUND - measure[layout::BARE],
+    })
 }
 
 // Reads the record of a type at a place of a file: its numbers in the row's order, the attribute last, a signed one as its pattern.
 pub fn read_row(file: &[u8], place: usize, code: u16, numbers: &mut [u32]) -> RowRead
-    ensures { RowAt code file.now place numbers.old result numbers.new }
+    ensures { RowAt code file.now place numbers.old (as_row result) numbers.new }
 {
-    match tuples::open_record(file, place, code) {
-        Opened::Refused { code, place } => RowRead::Refused { code, place },
-        Opened::Tuple {
-            msb,
-            whole,
-            code: _,
-        } => take_row(file, place, code, msb, whole, numbers),
-    }
+    let found = tuples::open_record(file, place, code)?;
+    take_row(file, place, code, found.msb, found.whole, numbers)
 }
 
 // Writes the record of a type from the numbers of its row, in its order, the attribute last, and its characters.
 pub fn write_row(code: u16, numbers: &[u32], text: &[u8], msb: bool, out: &mut [u8]) -> Answer
-    ensures { RowWritten code numbers.now text.now msb out.old result out.new }
+    ensures { RowWritten code numbers.now text.now msb out.old (as_answer result) out.new }
 {
     if !tuples::is_record(code) {
-        return layout::refuse(codes::UNFIT, 0);
+        return layout::refuse(Code::Unfit, 0);
     }
     let measure = layout::measure(layout::listing_of(code));
     let many = measure[layout::NUMBERS];
     if numbers.len() <= many {
-        return layout::refuse(codes::UNFIT, 0);
+        return layout::refuse(Code::Unfit, 0);
     }
     let bare = measure[layout::BARE];
     let whole = bare + text.len() + AROUND;
     if !layout::fits(code, whole) {
-        return layout::refuse(codes::UNFIT, 0);
+        return layout::refuse(Code::Unfit, 0);
     }
     if frame::MOST < whole {
-        return layout::refuse(codes::OVERFULL, 0);
+        return layout::refuse(Code::Overfull, 0);
     }
     let attribute = order::signed4(numbers[many]);
     // the characters are the row's own, or stand behind its fields

@@ -1,18 +1,18 @@
 -- Made from views/records.txt by views/make.
 -- RunEnd, type 65517: TR Table 16. Assumes nothing.
-use Rattle.std.specs.Prelude.{◌≡◌, refl, Bool, List, [], ◌∷◌, ℕ, ℤ, pos}
+use Rattle.std.specs.Prelude.{◌≡◌, refl, Bool, List, [], ◌∷◌, ℕ, ℤ, pos, Result, Ok, Err}
 use Rattle.std.proofs.Common.{sym, ◌∙◌}
-use Rattle.layout.specs.declared.Answer.{Answer}
-use Rattle.layout.specs.declared.Answer.TheVariants.{Accepted}
-use Rattle.layout.specs.declared.Answer.TheVariants as answer
+use Rattle.layout.specs.declared.Refusal.{Refusal}
+use Rattle.layout.specs.Code.{number}
+use Rattle.layout.specs.Answer.{Answer, Accepted}
+use Rattle.layout.specs.Answer as answer
 use Rattle.layout.specs.Answers.{numbers, Tells, accepting}
 use Rattle.tuples.specs.Readers.{only, read_answer, row_of}
 use Rattle.tuples.specs.Writers.{Written, plain_bytes}
 use Rattle.rows.specs.Writers.{row_values}
 use Rattle.rows.specs.Integers.{signed_at, unsigned_at, patterns, row_integers, Typed}
 use Rattle.run_end.specs.declared.RunEnd.{RunEnd}
-use Rattle.run_end.specs.declared.RunEndRead.{RunEndRead}
-use Rattle.run_end.specs.declared.RunEndRead.TheVariants.{Read, Refused}
+use Rattle.run_end.specs.RunEndRead.{RunEndRead, Read, Refused}
 
 -- the integers of the row under the fields' names
 abbrev pub run_end_of : List ℤ → RunEnd
@@ -39,7 +39,12 @@ run-end_inverse r = refl
 abbrev pub RunEndTyped : RunEnd → Type 0
 RunEndTyped r = Typed (row_of 65517 0) (run_end_integers r)
 
--- ---- reading: 01's answer in each case
+-- ---- reading: what the code gives, in these words
+abbrev pub as_read : Result RunEnd Refusal → RunEndRead
+as_read (Ok r) = Read r
+as_read (Err r) = Refused (number r.code) r.place
+
+-- 01's answer in each case
 abbrev pub answer_of : RunEndRead → Answer
 answer_of (Read r) = accepting 1 0
 answer_of (Refused c p) = answer.Refused c p

@@ -1,15 +1,15 @@
 // Made from views/records.txt by views/make.
 // RunEnd, type 65517: TR Table 16.
-#![tactic(auto)]
+#![tactic(auto, unfolding(layout::specs::Types::listings, layout::specs::Types::among, layout::specs::Types::listing_of))]
 
 ghost use Rattle.std.specs.Prelude.{◌≡◌};
 ghost use Rattle.tuples.specs.Readers.{row_of};
 ghost use Rattle.rows.specs.Integers.{integers_from, patterns};
 ghost use Rattle.rows.specs.Places.{places_of};
-ghost use Rattle.run_end.specs.RunEnd.{run_end_of, run_end_integers, RunEndAt, RunEndWritten};
+ghost use Rattle.layout.specs.Views.{as_answer};
+ghost use Rattle.run_end.specs.RunEnd.{run_end_of, run_end_integers, RunEndAt, RunEndWritten, as_read};
 
-use layout::{Answer, types};
-use rows::RowRead;
+use layout::{Answer, Refusal, types};
 
 #[derive(Clone, Copy)]
 pub struct RunEnd {
@@ -19,11 +19,7 @@ pub struct RunEnd {
 }
 
 // What reading gives: the record, or a refusal.
-#[derive(Clone, Copy)]
-pub enum RunEndRead {
-    Read(RunEnd),
-    Refused { code: u8, place: usize },
-}
+pub type RunEndRead = Result<RunEnd, Refusal>;
 
 impl RunEnd {
     pub const CODE: u16 = types::RUN_END;
@@ -90,18 +86,16 @@ impl RunEnd {
 
     // Reads the tuple at a place of a file.
     pub fn read(file: &[u8], place: usize) -> RunEndRead
-        ensures { RunEndAt file.now place result }
+        ensures { RunEndAt file.now place (as_read result) }
     {
         let mut numbers = [0u32; 3];
-        match rows::read_row(file, place, RunEnd::CODE, &mut numbers) {
-            RowRead::Refused { code, place } => RunEndRead::Refused { code, place },
-            RowRead::Read { text: _ } => RunEndRead::Read(RunEnd::of(numbers)),
-        }
+        rows::read_row(file, place, RunEnd::CODE, &mut numbers)?;
+        Ok(RunEnd::of(numbers))
     }
 
     // Writes the tuple; 19 alone refuses it.
     pub fn write(self, msb: bool, out: &mut [u8]) -> Answer
-        ensures { RunEndWritten msb self out.old result out.new }
+        ensures { RunEndWritten msb self out.old (as_answer result) out.new }
     {
         rows::write_row(RunEnd::CODE, &self.numbers(), &[], msb, out)
     }

@@ -1,15 +1,15 @@
 // Made from views/records.txt by views/make.
 // RunStart, type 65516: TR Table 15.
-#![tactic(auto)]
+#![tactic(auto, unfolding(layout::specs::Types::listings, layout::specs::Types::among, layout::specs::Types::listing_of))]
 
 ghost use Rattle.std.specs.Prelude.{◌≡◌};
 ghost use Rattle.tuples.specs.Readers.{row_of};
 ghost use Rattle.rows.specs.Integers.{integers_from, patterns};
 ghost use Rattle.rows.specs.Places.{places_of};
-ghost use Rattle.run_start.specs.RunStart.{run_start_of, run_start_integers, RunStartAt, RunStartWritten};
+ghost use Rattle.layout.specs.Views.{as_answer};
+ghost use Rattle.run_start.specs.RunStart.{run_start_of, run_start_integers, RunStartAt, RunStartWritten, as_read};
 
-use layout::{Answer, types};
-use rows::RowRead;
+use layout::{Answer, Refusal, types};
 
 #[derive(Clone, Copy)]
 pub struct RunStart {
@@ -19,11 +19,7 @@ pub struct RunStart {
 }
 
 // What reading gives: the record, or a refusal.
-#[derive(Clone, Copy)]
-pub enum RunStartRead {
-    Read(RunStart),
-    Refused { code: u8, place: usize },
-}
+pub type RunStartRead = Result<RunStart, Refusal>;
 
 impl RunStart {
     pub const CODE: u16 = types::RUN_START;
@@ -90,18 +86,16 @@ impl RunStart {
 
     // Reads the tuple at a place of a file.
     pub fn read(file: &[u8], place: usize) -> RunStartRead
-        ensures { RunStartAt file.now place result }
+        ensures { RunStartAt file.now place (as_read result) }
     {
         let mut numbers = [0u32; 3];
-        match rows::read_row(file, place, RunStart::CODE, &mut numbers) {
-            RowRead::Refused { code, place } => RunStartRead::Refused { code, place },
-            RowRead::Read { text: _ } => RunStartRead::Read(RunStart::of(numbers)),
-        }
+        rows::read_row(file, place, RunStart::CODE, &mut numbers)?;
+        Ok(RunStart::of(numbers))
     }
 
     // Writes the tuple; 19 alone refuses it.
     pub fn write(self, msb: bool, out: &mut [u8]) -> Answer
-        ensures { RunStartWritten msb self out.old result out.new }
+        ensures { RunStartWritten msb self out.old (as_answer result) out.new }
     {
         rows::write_row(RunStart::CODE, &self.numbers(), &[], msb, out)
     }

@@ -11,9 +11,9 @@ use Rattle.order.specs.Order.{Bytes}
 use Rattle.rules.specs.Rules.{saying}
 use Rattle.rules.proofs.Laws.{clear}
 use Rattle.layout.specs.declared.Counts.{Counts}
-use Rattle.layout.specs.declared.Answer.{Answer}
-use Rattle.layout.specs.declared.Answer.TheVariants.{Accepted}
-use Rattle.layout.specs.declared.Answer.TheVariants as answer
+use Rattle.layout.specs.Answer.{Answer}
+use Rattle.layout.specs.Answer.{Accepted}
+use Rattle.layout.specs.Answer as answer
 use Rattle.layout.specs.Answers.{refused_at, left_by, accepting, is_accepted}
 use Rattle.frame.specs.Frames.{Tup}
 use Rattle.frame.specs.Files.{limit, mark, is_msb, marked}
@@ -22,8 +22,8 @@ use Rattle.frame.proofs.Files.{marked_4}
 use Rattle.links.proofs.Linked.{linked-some}
 use Rattle.intake.specs.Check.{check_file}
 use Rattle.intake.proofs.Accepted.{digests, divided}
-use Rattle.salvage.specs.declared.Outcome.{Outcome}
-use Rattle.salvage.specs.declared.Outcome.TheVariants.{Saved}
+use Rattle.salvage.specs.Outcome.{Outcome}
+use Rattle.salvage.specs.Outcome.{Saved}
 use Rattle.salvage.specs.Pieces.{pieces_of, ranges, tuples_kept}
 use Rattle.salvage.specs.Salvage.{output_of, rows_of, report_of, salvage_rules, salvage_answer, outcome_by, Salvaged}
 use Rattle.salvage.specs.Report.{Reported}

@@ -9,8 +9,8 @@ use lib.ListN.{length, take, drop}
 use lib.Seq.{drop-drop, take-add, take_at}
 use Rattle.order.specs.Order.{Bytes}
 use Rattle.order.proofs.Laws.{bytes_drop}
-use Rattle.layout.specs.declared.Verdict.{Verdict}
-use Rattle.layout.specs.declared.Verdict.TheVariants.{Fine, Fault}
+use Rattle.layout.specs.Verdict.{Verdict}
+use Rattle.layout.specs.Verdict.{Fine, Fault}
 use Rattle.layout.proofs.Verdicts.{both-fine, judged_append}
 use Rattle.frame.specs.Frames.{Tup, frame, frames, len_at, tup_at}
 use Rattle.frame.specs.Files.{is_msb}

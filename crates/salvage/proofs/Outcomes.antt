@@ -10,13 +10,13 @@ use lib.Seq.{sets}
 use Rattle.rules.specs.Rules.{First, saying}
 use Rattle.rules.specs.Rules.First.{none, here, pass}
 use Rattle.rules.proofs.Laws.{first_eq}
-use Rattle.layout.specs.declared.Answer.{Answer}
-use Rattle.layout.specs.declared.Answer.TheVariants as answer
+use Rattle.layout.specs.Answer.{Answer}
+use Rattle.layout.specs.Answer as answer
 use Rattle.layout.specs.Answers.{tells, refused_at, counts, accepting}
 use Rattle.layout.proofs.Lent.{left-refused, left-accepted}
 use Rattle.frame.specs.Files.{limit, marked}
 use Rattle.frame.proofs.Files.{marked_4}
-use Rattle.salvage.specs.declared.Outcome.TheVariants.{Saved, Refused}
+use Rattle.salvage.specs.Outcome.{Saved, Refused}
 use Rattle.salvage.specs.declared.Sums.{Sums}
 use Rattle.salvage.specs.Pieces.{pieces_of, ranges, tuples_kept}
 use Rattle.salvage.specs.Salvage.{output_of, report_of, salvage_rules, salvage_answer, outcome_by, Salvaged}

@@ -10,7 +10,7 @@ use lib.ListN.{length, take, drop, length-append, length-drop}
 use lib.Seq.{drop-drop, take_at, drop_at}
 use Rattle.order.specs.Order.{Bytes}
 use Rattle.layout.specs.declared.Counts.{Counts}
-use Rattle.layout.specs.declared.Answer.TheVariants.{Accepted}
+use Rattle.layout.specs.Answer.{Accepted}
 use Rattle.layout.specs.Answers.{counts}
 use Rattle.frame.specs.Frames.{Tup, length_of, frame, frames, len_at}
 use Rattle.frame.specs.Files.{limit, mark, is_msb}
@@ -24,7 +24,7 @@ use Rattle.intake.specs.Check.{check_file}
 use Rattle.intake.proofs.Alone.{sound-alone}
 use Rattle.intake.proofs.Accepted.{AllSound, divided}
 use Rattle.salvage.specs.declared.Piece.{Piece}
-use Rattle.salvage.specs.declared.Outcome.TheVariants.{Saved}
+use Rattle.salvage.specs.Outcome.{Saved}
 use Rattle.salvage.specs.Pieces.{piece_at, pieces_from, pieces_of, grown, ranges, kept_in, bytes_kept, tuples_kept}
 use Rattle.salvage.specs.Salvage.{output_of, rows_of, report_of, outcome_by, salvage_outcome}
 use Rattle.salvage.specs.Whole.{all_kept, saved_all, KeepsAll}

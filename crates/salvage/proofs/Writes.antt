@@ -2,7 +2,7 @@
 use mathlib.Core.Path.{◌≡◌, refl, sym, ap, ap₂, subst, ◌∙◌}
 use mathlib.Core.Bool.{Bool, true, false, beq}
 use mathlib.Core.List.{List, [], ◌∷◌, ◌++◌, append-nil}
-use Prim.Native.Nat.{ℕ, ◌+◌, ◌-◌, ◌*◌, ◌≤◌, ◌<◌}
+use Prim.Native.Nat.{ℕ, ◌+◌, ◌*◌, ◌≤◌, ◌<◌}
 use native.Mathlib.Omega.{arith}
 use lib.ListN.{length, drop, length-append}
 use lib.Seq.{sets, length-sets}
@@ -96,15 +96,6 @@ writing-begin f o p low more e a out table to h r =
 
 module _ {f out₀ table₀ : List ℕ} {to₀ : ℕ} {o : Bool} {p : Piece} {to i : ℕ} {out table : List ℕ}
     (w : Writing f out₀ table₀ to₀ o p to i out table) where
-  pub writing-length : length out ≡ length out₀
-  writing-length =
-      sym (length-sets out to (bytes_kept f w.pieces))
-      ∙ ap length w.same
-      ∙ length-sets out₀ to₀ (bytes_kept f (drop 1 (pieces_of f)))
-
-  pub table-length : length table ≡ length table₀
-  table-length = sym (length-sets table i (rows_of (grown p w.pieces))) ∙ ap length w.told ∙ length-sets table₀ 0 (report_of f)
-
   -- a row is free
   pub writing-row : i + 3 ≤ length table
   writing-row = omega (arith, w.entries, length-rows (grown p w.pieces), grown-some p w.pieces)
@@ -129,9 +120,6 @@ module _ {f out₀ table₀ : List ℕ} {to₀ : ℕ} {o : Bool} {p : Piece} {to
             let same : v ≡ q = sym l.1 ∙ sym a in
             let all = ap (λ (x : Piece). length (kept_in f x ++ bytes_kept f ps)) same in
             omega (arith, r, all, length-append (kept_in f q) (bytes_kept f ps), size-next)
-
-    pub writing-less : (r : Piece) → r ≡ growing p q → length f - r.to < length f - p.to
-    writing-less r c = omega (arith, ap (λ (e : Piece). e.to) c, growing_to p q, writing-lying.some)
 
     pub writing-again : (r : Piece) (to⁺ i⁺ : ℕ) (out⁺ table⁺ : List ℕ) → r ≡ growing p q → to⁺ ≡ to + size_kept q
         → out⁺ ≡ sets out to (kept_in f q) → i⁺ ≡ i + length (rows_of (closed p q)) → table⁺ ≡ sets table i (rows_of (closed p q))

@@ -2,10 +2,10 @@
 use Rattle.std.specs.Prelude.{◌≡◌, List, [], ◌∷◌, ℕ, ◌+◌, ◌*◌, ◌/◌, ◌≤◌, length, take, drop}
 use Rattle.order.specs.Order.{Bytes}
 use Rattle.layout.specs.declared.Counts.{Counts}
-use Rattle.layout.specs.declared.Answer.TheVariants.{Accepted}
+use Rattle.layout.specs.Answer.{Accepted}
 use Rattle.intake.specs.Check.{check_file}
-use Rattle.salvage.specs.declared.Outcome.{Outcome}
-use Rattle.salvage.specs.declared.Outcome.TheVariants.{Saved}
+use Rattle.salvage.specs.Outcome.{Outcome}
+use Rattle.salvage.specs.Outcome.{Saved}
 use Rattle.salvage.specs.Pieces.{pieces_of, tuples_kept}
 use Rattle.salvage.specs.Salvage.{rows_of, Salvaged}
 use Rattle.salvage.specs.Report.{Reported, AllFours}

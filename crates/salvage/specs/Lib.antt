@@ -1,4 +1,6 @@
 pub mod Pieces
+pub mod Outcome
+pub mod Views
 pub mod Salvage
 pub mod Report
 pub mod Whole

@@ -2,8 +2,8 @@
 -- that is kept, and 4 bytes further on where none is. Assumes nothing.
 use Rattle.std.specs.Prelude.{ℕ, zero, suc, ◌+◌, ◌-◌, Bool, true, false, cond, List, [], ◌∷◌, ◌++◌, ltb, length, take, drop}
 use Rattle.std.specs.Bool.{beq}
-use Rattle.layout.specs.declared.Verdict.{Verdict}
-use Rattle.layout.specs.declared.Verdict.TheVariants.{Fine, Fault}
+use Rattle.layout.specs.Verdict.{Verdict}
+use Rattle.layout.specs.Verdict.{Fine, Fault}
 use Rattle.frame.specs.Frames.{len_at}
 use Rattle.frame.specs.Files.{is_msb}
 use Rattle.intake.specs.Alone.{alone}

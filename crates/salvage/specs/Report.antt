@@ -1,7 +1,7 @@
 -- What a report says of a file: its ranges cover the bytes behind the mark once each, in file order and of alternating kinds, and
 -- each kept range divides into framed tuples that keep their own rules, with no byte over. Assumes nothing.
 use Rattle.std.specs.Prelude.{◌≡◌, ℕ, ◌%◌, ◌<◌, Bool, true, not, List, [], ◌∷◌, ◌++◌, length, drop}
-use Rattle.layout.specs.declared.Verdict.TheVariants.{Fine}
+use Rattle.layout.specs.Verdict.{Fine}
 use Rattle.layout.specs.Answers.{judged}
 use Rattle.frame.specs.Frames.{Tup, frames}
 use Rattle.frame.specs.Files.{mark, is_msb}

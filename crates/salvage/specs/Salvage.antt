@@ -2,14 +2,13 @@
 use Rattle.std.specs.Prelude.{◌≡◌, ℕ, cond, List, [], ◌∷◌, ◌++◌, ltb, length}
 use Rattle.std.proofs.Common.{sym, ◌∙◌}
 use Rattle.rules.specs.Rules.{Rule, ◌⇒◌, first_of, saying}
-use Rattle.layout.specs.declared.Answer.{Answer}
-use Rattle.layout.specs.declared.Answer.TheVariants.{Accepted}
-use Rattle.layout.specs.declared.Answer.TheVariants
+use Rattle.layout.specs.Answer.{Answer}
+use Rattle.layout.specs.Answer.{Accepted}
 use Rattle.layout.specs.Answers.{Numbers, acceptance, refusal, Tells, left_by, Breach, ◌byte◌, refused_at, accepting}
 use Rattle.frame.specs.Files.{mark, is_msb, file_rules}
 use Rattle.salvage.specs.declared.Piece.{Piece}
-use Rattle.salvage.specs.declared.Outcome.{Outcome}
-use Rattle.salvage.specs.declared.Outcome.TheVariants.{Saved, Refused}
+use Rattle.salvage.specs.Outcome.{Outcome}
+use Rattle.salvage.specs.Outcome.{Saved, Refused}
 use Rattle.salvage.specs.Pieces.{pieces_of, ranges, tuples_kept, bytes_kept}
 
 -- the output: the mark and the kept tuples
@@ -40,7 +39,7 @@ salvage_answer f entries room =
 -- and with the ranges and the offsets tried
 abbrev pub outcome_by : List ℕ → Answer → Outcome
 outcome_by f (Accepted n) = Saved (length (ranges (pieces_of f))) (length (pieces_of f)) n
-outcome_by f (TheVariants.Refused c p) = Refused c p
+outcome_by f (Answer.Refused c p) = Refused c p
 
 abbrev pub salvage_outcome : List ℕ → ℕ → ℕ → Outcome
 salvage_outcome f entries room = outcome_by f (salvage_answer f entries room)

@@ -3,8 +3,8 @@
 use Rattle.std.specs.Prelude.{◌≡◌, ℕ, zero, suc, ◌≤◌, true, List, [], ◌∷◌, length}
 use Rattle.layout.specs.Answers.{counts}
 use Rattle.salvage.specs.declared.Piece.{Piece}
-use Rattle.salvage.specs.declared.Outcome.{Outcome}
-use Rattle.salvage.specs.declared.Outcome.TheVariants.{Saved}
+use Rattle.salvage.specs.Outcome.{Outcome}
+use Rattle.salvage.specs.Outcome.{Saved}
 use Rattle.salvage.specs.Pieces.{pieces_of, ranges, tuples_kept}
 use Rattle.salvage.specs.Salvage.{output_of, rows_of, salvage_outcome}
 

@@ -9,25 +9,27 @@ ghost use Rattle.frame.specs.Files.{limit, marked, is_msb};
 ghost use Rattle.intake.specs.Alone.{alone};
 ghost use Rattle.weights.specs.inner.Rows.{entries, rows};
 ghost use Rattle.layout.specs.Answers.{is_fine};
+ghost use Rattle.salvage.specs.Views.{as_outcome};
 ghost use Rattle.salvage.specs.Pieces.{piece_at, kept_in};
 ghost use Rattle.salvage.specs.Salvage.{output_of, row_of, rows_of, report_of, Salvaged};
 ghost use Rattle.salvage.specs.inner.Passes.{Ready, Few, Within, Roomy, growing, closed, size_kept, sums_first, sums_past, sums_of};
 
-use layout::{Counts, Verdict, codes};
+mod pieces;
 
-// What salvage says: the ranges of the file, the offsets tried, the tuples kept and the bytes written; or a refusal.
+use layout::codes::Code;
+use layout::{Class, Counts, Refusal, refuse};
+use pieces::behind_mark;
+
+// What is saved of a file: its ranges, the offsets tried, the tuples kept and the bytes written.
 #[derive(Clone, Copy)]
-pub enum Outcome {
-    Saved {
-        ranges: usize,
-        tried: usize,
-        counts: Counts,
-    },
-    Refused {
-        code: u8,
-        place: usize,
-    },
+pub struct Saved {
+    pub ranges: usize,
+    pub tried: usize,
+    pub counts: Counts,
 }
+
+// What salvage says: what it saved, or a refusal.
+pub type Outcome = Result<Saved, Refusal>;
 
 // Bytes of a file that are kept or dropped: those of one offset where a tuple was looked for, or a range of them.
 #[derive(Clone, Copy)]
@@ -64,13 +66,13 @@ fn seeming(file: &[u8], at: usize, msb: bool) -> usize
     requires { at + 16 ≤ length file.now }
     ensures { result ≤ 262144 }
 {
-    if !layout::in_class(layout::PING, frame::kind_at(file, at, msb)) {
+    if !layout::in_class(Class::Ping, frame::kind_at(file, at, msb)) {
         return 0;
     }
-    match frame::judge_frame(file, at, msb) {
-        Verdict::Fine => frame::length_at(file, at, msb),
-        Verdict::Fault { code: _, offset: _ } => 0,
+    if frame::judge_frame(file, at, msb).is_err() {
+        return 0;
     }
+    frame::length_at(file, at, msb)
 }
 
 // Whether it would take long to judge every tuple by reading it: pings of many times the file's bytes seem to start in it, one within
@@ -78,11 +80,11 @@ fn seeming(file: &[u8], at: usize, msb: bool) -> usize
 fn is_dear(file: &[u8], msb: bool) -> bool
     requires { (4 ≤ length file.now) × (length file.now ≤ limit) }
 {
-    let mut bytes: usize = 0;
-    let mut at = frame::MARKED;
-    while frame::LEAST <= file.len() - at {
+    // before it a tuple has room
+    let end = (file.len() + 1).saturating_sub(frame::LEAST);
+    let mut bytes = 0;
+    for at in (frame::MARKED..end).step_by(STRIDE) {
         bytes += seeming(file, at, msb);
-        at += STRIDE;
     }
     OFTEN * file.len() < bytes
 }
@@ -112,10 +114,7 @@ fn is_kept(file: &[u8], at: usize, msb: bool, dear: bool, sums: &[u64]) -> bool
             return weights::judging::keeps_alone(file, at, msb, sums);
         }
     }
-    match intake::judge_alone(file, at, msb) {
-        Verdict::Fine => true,
-        Verdict::Fault { code: _, offset: _ } => false,
-    }
+    intake::judge_alone(file, at, msb).is_ok()
 }
 
 // The piece at an offset: the tuple that is kept there, or the bytes to the next offset.
@@ -161,22 +160,6 @@ fn grow(range: Piece, next: Piece) -> Piece
     next
 }
 
-// One where something is so.
-fn one_if(b: bool) -> usize
-    ensures value { result ≡ cond b 1 0 }
-    ensures upper_bound { result ≤ 1 }
-{
-    if b { 1 } else { 0 }
-}
-
-// One where something isn't so.
-fn one_unless(b: bool) -> usize
-    ensures value { result ≡ cond b 0 1 }
-    ensures upper_bound { result ≤ 1 }
-{
-    if b { 0 } else { 1 }
-}
-
 // The bytes of a piece that are kept.
 fn size_kept(p: Piece) -> usize
     requires { p.from < p.to }
@@ -193,7 +176,7 @@ impl Sums {
         ensures { result ≡ sums_first p }
     {
         Sums {
-            tuples: one_if(p.kept),
+            tuples: p.kept as usize,
             written: frame::MARKED + size_kept(p),
             ranges: 1,
             tried: 1,
@@ -207,9 +190,9 @@ impl Sums {
         ensures { result ≡ sums_past self range next }
     {
         Sums {
-            tuples: self.tuples + one_if(next.kept),
+            tuples: self.tuples + (next.kept as usize),
             written: self.written + size_kept(next),
-            ranges: self.ranges + one_unless(next.kept == range.kept),
+            ranges: self.ranges + ((next.kept != range.kept) as usize),
             tried: self.tried + 1,
         }
     }
@@ -220,7 +203,7 @@ fn put_row(table: &mut [usize], i: usize, range: Piece)
     requires { i + 3 ≤ length table.old }
     ensures { table.new ≡ sets table.old i (row_of range) }
 {
-    table[i] = one_if(range.kept);
+    table[i] = range.kept as usize;
     table[i + FROM] = range.from;
     table[i + TO] = range.to;
 }
@@ -259,20 +242,17 @@ fn measure_file(file: &[u8], dear: bool, sums: &[u64]) -> Sums
     requires ready { Ready dear (is_msb file.now) file.now sums.now }
     ensures { result ≡ sums_of file.now }
 {
-    if file.len() == frame::MARKED {
+    let mut pieces = behind_mark(file, frame::is_msb(file), dear, sums);
+    let Some(mut range) = pieces.next() else {
         return Sums {
             tuples: 0,
             written: frame::MARKED,
             ranges: 0,
             tried: 0,
         };
-    }
-    let msb = frame::is_msb(file);
-    let mut range = piece_at(file, frame::MARKED, msb, dear, sums);
+    };
     let mut measured = Sums::first(range);
-    while range.to < file.len() {
-        let at = range.to;
-        let next = piece_at(file, at, msb, dear, sums);
+    for next in pieces {
         measured = measured.past(range, next);
         range = grow(range, next);
     }
@@ -288,15 +268,13 @@ fn write_all(file: &[u8], out: &mut [u8], table: &mut [usize], dear: bool, sums:
 {
     let msb = frame::is_msb(file);
     order::store4(out, 0, msb, frame::MARK);
-    if file.len() == frame::MARKED {
+    let mut pieces = behind_mark(file, msb, dear, sums);
+    let Some(mut range) = pieces.next() else {
         return;
-    }
-    let mut range = piece_at(file, frame::MARKED, msb, dear, sums);
+    };
     let mut to = put_kept(file, range, out, frame::MARKED);
     let mut i = 0;
-    while range.to < file.len() {
-        let at = range.to;
-        let next = piece_at(file, at, msb, dear, sums);
+    for next in pieces {
         to = put_kept(file, next, out, to);
         i = close(table, i, range, next);
         range = grow(range, next);
@@ -304,25 +282,18 @@ fn write_all(file: &[u8], out: &mut [u8], table: &mut [usize], dear: bool, sums:
     put_row(table, i, range);
 }
 
-// A refusal, of the file as a whole.
-fn refuse(code: u8) -> Outcome
-    ensures { result ≡ Outcome.Refused code 0 }
-{
-    Outcome::Refused { code, place: 0 }
-}
-
 // The salvage of a file with its mark, within the limit: 27, 19; then all is written.
 fn save(file: &[u8], out: &mut [u8], table: &mut [usize], dear: bool, sums: &[u64]) -> Outcome
     requires file_value { (marked file.now ≡ true) × (length file.now ≤ limit) }
     requires ready { Ready dear (is_msb file.now) file.now sums.now }
-    ensures { Salvaged file.now out.old table.old result out.new table.new }
+    ensures { Salvaged file.now out.old table.old (as_outcome result) out.new table.new }
 {
     let measured = measure_file(file, dear, sums);
     if table.len() / ROW < measured.ranges {
-        return refuse(codes::SHORT_TABLE);
+        return refuse(Code::ShortTable, 0);
     }
     if out.len() < measured.written {
-        return refuse(codes::NO_ROOM);
+        return refuse(Code::NoRoom, 0);
     }
     write_all(file, out, table, dear, sums);
     let counts = Counts {
@@ -330,23 +301,23 @@ fn save(file: &[u8], out: &mut [u8], table: &mut [usize], dear: bool, sums: &[u6
         written: measured.written,
         compared: 0,
     };
-    Outcome::Saved {
+    Ok(Saved {
         ranges: measured.ranges,
         tried: measured.tried,
         counts,
-    }
+    })
 }
 
 // Salvages a file: 1, 2, 27, 19; or the mark and the kept tuples in out, and a row for each range in the table. A refusal leaves every
 // element of both.
 pub fn salvage(file: &[u8], out: &mut [u8], table: &mut [usize]) -> Outcome
-    ensures { Salvaged file.now out.old table.old result out.new table.new }
+    ensures { Salvaged file.now out.old table.old (as_outcome result) out.new table.new }
 {
     if frame::LIMIT < file.len() {
-        return refuse(codes::OVER_LIMIT);
+        return refuse(Code::OverLimit, 0);
     }
     if !frame::is_marked(file) {
-        return refuse(codes::NO_MARK);
+        return refuse(Code::NoMark, 0);
     }
     let mut sums = [0; weights::SUMS];
     let dear = sum_up(file, frame::is_msb(file), &mut sums);

@@ -10,6 +10,7 @@ pub mod Written
 pub mod Reach
 pub mod Judging
 pub mod Blocks
+pub mod Chunks
 pub mod Handing
 pub mod Apart
 pub mod Writing

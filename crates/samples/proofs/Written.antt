@@ -11,7 +11,7 @@ use lib.Dec.{eqb, leb, ltb, lit<}
 use lib.ListN.{length, replicate}
 use borrow.Author.Tests.{lt-ltb, le-ltb, ltb-false, eq-eqb, lt-leb, ltb-true, eqb-true, not-false}
 use Rattle.rules.proofs.Bools.{and_false, or_left, or_right}
-use Rattle.layout.specs.declared.Verdict.TheVariants.{Fine}
+use Rattle.layout.specs.Verdict.{Fine}
 use Rattle.layout.specs.Answers.{judged}
 use Rattle.layout.specs.Families.{Family, wide, narrow, encoded, wide_angles, narrow_angles, value_bytes, radix_of, is_bad}
 use Rattle.layout.proofs.Verdicts.{passed}

@@ -2,7 +2,7 @@
 use Rattle.std.specs.Prelude.{ℕ, ◌+◌, ◌*◌, Bool, true, false, not, List, [], ◌∷◌, eqb, leb, ltb, length}
 use Rattle.std.proofs.Math.Option.{Option, some, none}
 use Rattle.rules.specs.Rules.{Rule, ◌⇒◌}
-use Rattle.layout.specs.declared.Verdict.{Verdict}
+use Rattle.layout.specs.Verdict.{Verdict}
 use Rattle.layout.specs.Answers.{judged, Breach, ◌byte◌}
 use Rattle.layout.specs.Families.{Family, value_bytes, sample_bytes, radix_of}
 use Rattle.samples.specs.Words.{Sample, all_words, all_samples}

@@ -2,3 +2,4 @@
 pub mod Lists
 pub mod Narrow
 pub mod Packing
+pub mod Runs

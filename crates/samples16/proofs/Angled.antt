@@ -1,8 +1,10 @@
 -- Samples of two angles: judged by their numbers, and handed over one at a time into three slices. Assumes nothing.
 use mathlib.Core.Path.{◌≡◌, refl, sym, ap, subst, ◌∙◌}
+use mathlib.Core.Logic.{◌⊎◌, ⊎_elim}
 use mathlib.Core.Bool.{Bool}
+use Rattle.std.specs.Simd.{first_chunks}
 use mathlib.Core.List.{List, [], ◌∷◌}
-use Prim.Native.Nat.{ℕ, zero, suc, ◌+◌, ◌*◌, ◌/◌, ◌%◌, ◌≤◌, ◌<◌}
+use Prim.Native.Nat.{ℕ, zero, suc, ◌+◌, ◌-◌, ◌*◌, ◌/◌, ◌%◌, ◌≤◌, ◌<◌}
 use native.Mathlib.Omega.{arith}
 use lib.Dec.{leb, ltb}
 use lib.IntN.{ℤ}
@@ -11,15 +13,17 @@ use lib.Seq.{sets, drop-drop}
 use borrow.Author.Tests.{leb-true}
 use Rattle.order.specs.Order.{num_of, signed_of}
 use Rattle.rules.specs.Rules.{◌⇒◌}
-use Rattle.layout.specs.declared.Verdict.{Verdict}
+use Rattle.layout.specs.Verdict.{Verdict}
 use Rattle.layout.specs.Answers.{judged, ◌byte◌}
-use Rattle.layout.specs.Families.{wide, wide_angles}
+use Rattle.layout.specs.Families.{wide, wide_angles, sample_bytes}
 use Rattle.samples.specs.Words.{Sample, joined, sample_of, samples, all_samples}
 use Rattle.samples.specs.Lists.{numbers_of, alongship_of, athwartship_of}
 use Rattle.samples.specs.inner.Narrow.{AngleRoom}
 use Rattle.samples.specs.Judging.{most, first_drop, first_sample, judged_samples}
 use Rattle.samples.proofs.Words.{word_at, samples-many}
 use Rattle.samples.proofs.Runs.{by_bool}
+use Rattle.samples.proofs.Chunks.{samples_on, samples_first}
+use Rattle.samples16.specs.inner.Sizes.{angles_of}
 use Rattle.samples.proofs.Rising.{drop-later, drop_here}
 
 -- ---- angles behind numbers of four bytes are judged like values
@@ -107,18 +111,35 @@ module _ {s : List Sample} {ns₀ : List ℕ} {xs₀ ys₀ : List ℤ} {ns : Lis
         athwartship = rw (e, b) h.athwartship;
       }
 
-  -- none is left
-  pub angled-end : Angled s [] ns₀ xs₀ ys₀ ns xs ys j
-      → (ns ≡ sets ns₀ 0 (numbers_of s)) × ((xs ≡ sets xs₀ 0 (alongship_of s)) × (ys ≡ sets ys₀ 0 (athwartship_of s)))
-  angled-end h = (h.numbers, (h.alongship, h.athwartship))
+-- ---- samples by their bytes
+module _ (n : ℕ) (h : (n ≡ 8) ⊎ (n ≡ 6)) where
+  sized : sample_bytes (angles_of n) ≡ n
+  sized =
+      let by : ℕ → Type 0 = λ m. sample_bytes (angles_of m) ≡ m in
+      let eight : by 8 = refl in
+      let six : by 6 = refl in
+      ⊎_elim (λ e. subst by (sym e) eight) (λ e. subst by (sym e) six) h
 
-  -- there is an entry for one still to come
-  module _ {r : List Sample} {x : Sample} (h : Angled s (x ∷ r) ns₀ xs₀ ys₀ ns xs ys j) where
-    pub entry-numbers : j < length ns
-    entry-numbers = omega (arith, h.room_numbers, h.long_numbers)
+  pub angled-chunks : (o : Bool) (part : List ℕ) (cs : List (List ℕ)) → cs ≡ first_chunks n (length part / n) part
+      → samples_on (sample_of (angles_of n) o) cs 0 ≡ all_samples (angles_of n) o part
+  angled-chunks o part cs e =
+      samples_first (angles_of n) o part cs (subst (λ (k : ℕ). cs ≡ first_chunks k (length part / k) part) (sym sized) e)
 
-    pub entry-alongship : j < length xs
-    entry-alongship = omega (arith, h.room_alongship, h.long_alongship)
+  -- a sample is its number, of all bytes but the last four, and its angles
+  pub angled-sample : (o : Bool) (c : List ℕ) → sample_of (angles_of n) o c ≡ (num_of o (take (n - 4) c), joined 2 2 o (drop (n - 4) c))
+  angled-sample o c =
+      let by : ℕ → Type 0 = λ m. sample_of (angles_of m) o c ≡ (num_of o (take (m - 4) c), joined 2 2 o (drop (m - 4) c)) in
+      let eight : by 8 = refl in
+      let six : by 6 = refl in
+      ⊎_elim (λ e. subst by (sym e) eight) (λ e. subst by (sym e) six) h
 
-    pub entry-athwartship : j < length ys
-    entry-athwartship = omega (arith, h.room_athwartship, h.long_athwartship)
+  pub angled-values : (o : Bool) (c : List ℕ) (x y : ℕ) → x < 65536 → x ≡ num_of o (take 2 (drop (n - 4) c)) → y ≡ num_of o (take 2 (drop (n - 2) c))
+      → ((sample_of (angles_of n) o c).1 % 65536 ≡ x) × ((sample_of (angles_of n) o c).1 / 65536 ≡ y)
+  angled-values o c x y l ex ey =
+      let fits = ⊎_elim (λ (e : n ≡ 8). let k : n - 4 + 2 ≡ n - 2 = omega arith in k) (λ (e : n ≡ 6). let k : n - 4 + 2 ≡ n - 2 = omega arith in k) h in
+      let a : 0 + (n - 4) ≡ n - 4 = omega arith in
+      let b : 0 + (n - 4 + 2) ≡ n - 2 = omega (arith, fits) in
+      let both = angles-at (n - 4) o c 0 x y l (ex ∙ ap (λ (m : ℕ). num_of o (take 2 (drop m c))) (sym a))
+      (ey ∙ ap (λ (m : ℕ). num_of o (take 2 (drop m c))) (sym b)) in
+      let value = ap (λ (s : Sample). s.1) (angled-sample o c) in
+      (ap (λ (v : ℕ). v % 65536) value ∙ both.0, ap (λ (v : ℕ). v / 65536) value ∙ both.1)

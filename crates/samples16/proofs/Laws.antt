@@ -1,25 +1,28 @@
 -- Laws of words and samples of two bytes, as the code tells them apart. Assumes nothing.
-use mathlib.Core.Path.{◌≡◌, refl, sym, ap, ◌∙◌}
-use mathlib.Core.Bool.{Bool, true, false, not, ◌&&◌, ◌||◌, or_assoc}
-use mathlib.Core.List.{List, [], ◌∷◌, ◌++◌}
+use mathlib.Core.Path.{◌≡◌, refl, sym, ap, subst, ◌∙◌}
+use mathlib.Core.Logic.{◌⊎◌, ⊎_elim}
+use mathlib.Core.Bool.{Bool, true, false, not, ◌&&◌, ◌||◌}
+use mathlib.Core.List.{List, [], ◌∷◌, ◌++◌, map}
 use Prim.Native.Nat.{ℕ, zero, suc, ◌+◌, ◌-◌, ◌*◌, ◌/◌, ◌%◌, ◌^◌, ◌≤◌, ◌<◌}
-use native.Mathlib.Nat.{mod-eq_of_lt, mul-le-mul, pow-le-pow_right, mul-div_cancel_left}
+use native.Mathlib.Nat.{zero-add, suc-add, mod-eq_of_lt, mul-le-mul, pow-le-pow_right, mul-div_cancel_left}
 use native.Mathlib.Omega.{arith}
 use lib.Dec.{eqb, leb, ltb, lit<}
 use lib.IntN.{ℤ, pos, negsuc, ◌-ℤ◌, +ℤ_idl}
 use lib.Signed.{mag}
 use mir.Syntax.{w32}
 use mir.Val.{SFits, bool_byte}
-use lib.ListN.{length, take, drop}
-use lib.Seq.{take-length, length-take-le}
+use lib.ListN.{length, take, drop, get_or}
+use Rattle.std.specs.Simd.{first_chunks}
+use Rattle.std.proofs.lemmas.List.{get_or_default, map-append, take-append-drop}
+use lib.Seq.{take-length, take-nil, length-take-le}
 use borrow.Author.Tests.{eq-eqb, ne_eqb, leb-true, leb-false, lt-ltb, le-ltb, eqb-true}
 use Rattle.order.specs.Order.{num_of, signed_of, pattern_of}
 use Rattle.rules.proofs.Bools.{both_true, or_left, or_right}
 use Rattle.rules.specs.Rules.{◌⇒◌}
-use Rattle.layout.specs.declared.Verdict.{Verdict}
+use Rattle.layout.specs.Verdict.{Verdict}
 use Rattle.layout.specs.Answers.{judged, ◌byte◌}
-use Rattle.layout.specs.Families.{Family, narrow, measures_of, is_bad}
-use Rattle.samples.specs.Words.{sample_of, words, all_words}
+use Rattle.layout.specs.Families.{Family, narrow, measures_of, sample_bytes, is_bad}
+use Rattle.samples.specs.Words.{sample_of, words, all_words, all_samples}
 use Rattle.samples.specs.Lists.{handed_bytes}
 use Rattle.samples.specs.inner.Narrow.{plain_by, words_by}
 use Rattle.samples.specs.Runs.{is_run, decode_from, ends_from, values, first_bad}
@@ -27,9 +30,11 @@ use Rattle.samples.specs.Values.{scaled, magnitude, negated, count_of, meant, re
 use Rattle.samples.specs.Judging.{most, any_bad, count_at, words_at, judged_words}
 use Rattle.samples.proofs.Words.{word_at, words_from, from_all, from_cons}
 use Rattle.samples.proofs.Runs.{by_bool}
+use Rattle.samples.proofs.Chunks.{samples_on, samples_first}
+use Rattle.samples16.specs.inner.Sizes.{plain_of}
 use Rattle.samples.proofs.Held.{held-front, held_all}
 use Rattle.samples.proofs.Judging.{bad_cons, space-counted}
-use Rattle.samples.proofs.Blocks.{words_take, from-parted, values_append, bad_append}
+use Rattle.samples.proofs.Blocks.{words_take}
 use Rattle.samples.proofs.Lengths.{ends_last}
 
 -- a word of two bytes is a run from ff00 on
@@ -44,13 +49,6 @@ run-from w h =
 pub plain_at : (b o : Bool) (part : List ℕ) (p x : ℕ) → x ≡ word_at 2 o part p → x ≡ (sample_of (plain_by b) o (drop p part)).0
 plain_at true o part p x e = e
 plain_at false o part p x e = e
-
--- a place counted in samples or words of k bytes, d of them from here on: this is it, or it stands behind one more
-pub arrived : (k at d all : ℕ) → at + k * d ≡ all → d ≡ 0 → at ≡ all
-arrived k at d all e z = let g : at + k * 0 ≡ all = rw z at e in omega arith
-
-pub passed : (k step at d n all : ℕ) → step ≡ k → at + k * d ≡ all → d ≡ n + 1 → at + step + k * n ≡ all
-passed k step at d n all s e z = let g : at + k * (n + 1) ≡ all = rw z at e in omega (arith, s)
 
 -- a word outside the limits, as the code tests it
 pub outside : (b : Bool) (w last : ℕ) (r : Bool) → r ≡ (leb 0x7f00 w && leb w last) → last ≡ (measures_of (words_by b)).last
@@ -182,30 +180,24 @@ module _ (o : Bool) (part : List ℕ) (count : ℕ) (long : 2 ≤ length part) (
         counted = rw (held, le-ltb (length part) (length part) (omega arith)) (omega arith);
       }
 
--- ---- words block by block: those of a block from p to q, and those from there on
-module _ (o : Bool) (part : List ℕ) (p q : ℕ) (h : p ≤ q) (within : q ≤ length part) (even : p % 2 ≡ 0) (whole : q % 2 ≡ 0) where
-  abbrev block : List ℕ
-  block = all_words 2 o (take (q - p) (drop p part))
+-- ---- words block by block, k of them each
+take-plus : {X : Type 0} (m n : ℕ) (xs : List X) → take (m + n) xs ≡ take m xs ++ take n (drop m xs)
+take-plus zero n xs = rw zero-add
+take-plus (suc m) n [] = rw suc-add (sym (take-nil n))
+take-plus (suc m) n (x ∷ xs) = rw suc-add (ap (λ (l : List _). x ∷ l) (take-plus m n xs))
 
-  from_block : words_from 2 o part p ≡ block ++ words_from 2 o part q
-  from_block =
-      let m = (q - p) / 2 in
-      let e : 2 * m ≡ q - p = omega arith in
-      let z : p + 2 * m ≡ q = omega arith in
-      from-parted 2 (lit< tt) o part p m (omega arith)
-      ∙ ap (λ (n : ℕ). all_words 2 o (take n (drop p part)) ++ words_from 2 o part (p + 2 * m)) e
-      ∙ ap (λ (n : ℕ). block ++ words_from 2 o part n) z
+module _ (o : Bool) (k i : ℕ) (cs : List (List ℕ)) where
+  -- those of the blocks up to the next, and of all blocks and what is left
+  pub one_block : map (num_of o) (take (k * (i + 1)) cs) ≡ map (num_of o) (take (k * i) cs) ++ map (num_of o) (take k (drop (k * i) cs))
+  one_block =
+      let e : k * (i + 1) ≡ k * i + k = omega arith in
+      ap (λ (n : ℕ). map (num_of o) (take n cs)) e
+      ∙ ap (map (num_of o)) (take-plus (k * i) k cs)
+      ∙ map-append (num_of o) (take (k * i) cs) (take k (drop (k * i) cs))
 
-  pub values-block : (n v : ℕ) → v ≡ values 256 block → n + v + values 256 (words_from 2 o part q) ≡ n + values 256 (words_from 2 o part p)
-  values-block n v e =
-      let g = ap (values 256) from_block ∙ values_append 256 block (words_from 2 o part q) in
-      omega (arith, g, e)
-
-  pub bad-block : (f : Family) (b seen : Bool) → seen ≡ any_bad f block
-      → ((b || seen) || any_bad f (words_from 2 o part q)) ≡ (b || any_bad f (words_from 2 o part p))
-  bad-block f b seen e =
-      let g = ap (any_bad f) from_block ∙ bad_append f block (words_from 2 o part q) in
-      rw (e, g, or_assoc)
+  pub all_blocks : map (num_of o) cs ≡ map (num_of o) (take (k * i) cs) ++ map (num_of o) (drop (k * i) cs)
+  all_blocks =
+      ap (map (num_of o)) (sym (take-append-drop (k * i) cs)) ∙ map-append (num_of o) (take (k * i) cs) (drop (k * i) cs)
 
 -- ---- judging words that are held: none is bad where none of all is
 bad-front : (f : Family) (ws : List ℕ) → any_bad f ws ≡ false → any_bad f (front ws) ≡ false
@@ -248,5 +240,25 @@ words-many o end part h = length-words 2 o _ (take end part) ∙ ap (λ (n : ℕ
 -- ---- the samples of words
 pub samples-words : (b : Bool) (ws : List ℕ) → samples_in (words_by b) ws ≡ revalued (meant (words_by b)) (decode_from 256 0 ws)
 unfolding samples_in
-samples-words true ws = refl
-samples-words false ws = refl
+samples-words true us = refl
+samples-words false us = refl
+
+-- ---- samples with numbers of two bytes, by the bytes of a sample
+module _ (n : ℕ) (h : (n ≡ 4) ⊎ (n ≡ 6)) where
+  sized : sample_bytes (plain_of n) ≡ n
+  sized =
+      let by : ℕ → Type 0 = λ m. sample_bytes (plain_of m) ≡ m in
+      let four : by 4 = refl in
+      let six : by 6 = refl in
+      ⊎_elim (λ e. subst by (sym e) four) (λ e. subst by (sym e) six) h
+
+  pub sized_chunks : (o : Bool) (part : List ℕ) (cs : List (List ℕ)) → cs ≡ first_chunks n (length part / n) part
+      → samples_on (sample_of (plain_of n) o) cs 0 ≡ all_samples (plain_of n) o part
+  sized_chunks o part cs e =
+      samples_first (plain_of n) o part cs (subst (λ (k : ℕ). cs ≡ first_chunks k (length part / k) part) (sym sized) e)
+
+  -- a chunk's number is that of its first two bytes
+  pub sized_number : (o : Bool) (cs : List (List ℕ)) (i x : ℕ) (c : List ℕ) → i < length cs → c ≡ get_or cs i c → x ≡ num_of o (take 2 c)
+      → x ≡ (sample_of (plain_of n) o (get_or cs i [])).0
+  sized_number o cs i x c l e t =
+      t ∙ ap (λ (w : List ℕ). num_of o (take 2 w)) (e ∙ get_or_default cs i c [] l) ∙ plain_at (eqb n 6) o (get_or cs i []) 0 _ refl

@@ -4,21 +4,25 @@
 
 pub mod angles;
 
-ghost use Rattle.std.specs.Prelude.{◌≡◌, false, not, ◌&&◌, ◌*◌, ◌+◌, ◌%◌, ◌≤◌, ◌<◌, eqb, leb, ltb, length, take, drop};
+ghost use Rattle.std.specs.Prelude.{◌≡◌, false, ◌&&◌, ◌*◌, ◌+◌, ◌%◌, ◌≤◌, ◌<◌, ◌⊎◌, leb, ltb, length, take, map};
 ghost use mir.Val.{bool_byte};
 ghost use Rattle.std.proofs.lemmas.List.Edits.{sets};
 ghost use Rattle.order.specs.Order.{num_of, signed_of};
+ghost use Rattle.layout.specs.Views.{as_verdict};
 ghost use Rattle.layout.specs.Families.{narrow, narrow_angles, sample_bytes, measures_of};
 ghost use Rattle.samples.specs.Words.{all_words, all_samples};
 ghost use Rattle.samples.specs.Lists.{handed_bytes, numbers_of, values_of};
 ghost use Rattle.samples.specs.inner.Lists.{Room};
 ghost use Rattle.samples.specs.inner.Narrow.{plain_by, words_by};
+ghost use Rattle.samples.specs.inner.Runs.{samples_by};
 ghost use Rattle.samples.specs.Runs.{is_run, run_length, first_bad, samples_from, ends_from, values};
 ghost use Rattle.samples.specs.Values.{magnitude, count_of, meant, samples_in, held_words};
 ghost use Rattle.samples16.specs.inner.Ranks.{rank_of};
+ghost use Rattle.samples16.specs.inner.Sizes.{plain_of};
 ghost use Rattle.samples.specs.Judging.{first_drop, dropping, any_bad, judged_samples, judged_words};
 
-use layout::{Verdict, codes};
+use layout::Verdict;
+use layout::codes::Code;
 use samples::{COUNT, MOST, SAMPLES, WORDS};
 
 // The bytes of a word; of a U-16 ping's sample, and of a U-16-angles ping's.
@@ -28,11 +32,8 @@ pub const PAIR: usize = 4;
 
 pub const TRIPLE: usize = 6;
 
-// The bytes of a block of words that are looked at together.
-const BLOCK: usize = 32_768;
-
-// The bytes of the longest part that samples of two bytes fill in a tuple.
-const LONGEST: usize = 262_112;
+// The words of a block that are looked at together.
+const BLOCK: usize = 16_384;
 
 // How many values a byte has, and how many a number of two bytes.
 const BYTES: u32 = 256;
@@ -89,90 +90,65 @@ fn sample_bytes(angles: bool) -> usize
     if angles { TRIPLE } else { PAIR }
 }
 
-// What is compared in the place of the sample number at a place: it rises as the number does. The number is read with what stands behind
-// it, and no byte is turned: so the compiler loads several at once. In MSB order it is the number's first byte, its second, and its first
-// once more, for that is where the bytes stand that were read lowest first.
-fn rank(part: &[u8], at: usize, msb: bool) -> u32
-    requires { at + 4 ≤ length part.now }
-    ensures { result ≡ rank_of msb (num_of msb (take 2 (drop at part.now))) }
+// What is compared in the place of a sample's number: it rises as the number does. The number is read with what stands behind it, and no
+// byte is turned: so the compiler loads several at once. In MSB order it is the number's first byte, its second, and its first once
+// more, for that is where the bytes stand that were read lowest first.
+fn rank(sample: &[u8], msb: bool) -> u32
+    requires { 4 ≤ length sample.now }
+    ensures { result ≡ rank_of msb (num_of msb (take 2 sample.now)) }
 {
-    let front = order::read4(part, at, false);
+    let front = order::read4(sample, 0, false);
     if msb {
         return front % BYTES * NUMBERS + front % NUMBERS;
     }
     front % NUMBERS
 }
 
-// Whether a number of a U-16 ping's samples isn't above the one before it, by ranks: in a part no longer than a tuple's.
-fn drops_ranked_pairs(part: &[u8], msb: bool) -> bool
-    requires { length part.now ≤ 262112 }
-    ensures { result ≡ dropping (all_samples narrow msb part.now) }
-{
-    if part.len() < PAIR {
-        return false;
-    }
-    let mut last = rank(part, 0, msb);
-    let mut rises: u32 = 0;
-    let mut p: usize = PAIR;
-    // rises are counted, in 32 bits as wide as a rank, and there is no return before the end: so the compiler judges several at once
-    while PAIR <= part.len() - p {
-        let next = rank(part, p, msb);
-        rises += (last < next) as u32;
-        last = next;
-        p += PAIR;
-    }
-    rises as usize != part.len() / PAIR - 1
-}
-
-// The same of a U-16-angles ping's: four samples a turn, which was measured faster than one where they stand six bytes apart, and those
-// behind the last four one by one.
-fn drops_ranked_triples(part: &[u8], msb: bool) -> bool
-    requires { length part.now ≤ 262112 }
-    ensures { result ≡ dropping (all_samples narrow_angles msb part.now) }
-{
-    if part.len() < TRIPLE {
-        return false;
-    }
-    let mut last = rank(part, 0, msb);
-    let mut drops: u32 = 0;
-    let mut p: usize = TRIPLE;
-    while 4 * TRIPLE <= part.len() - p {
-        let first = rank(part, p, msb);
-        let second = rank(part, p + TRIPLE, msb);
-        let third = rank(part, p + 2 * TRIPLE, msb);
-        let fourth = rank(part, p + 3 * TRIPLE, msb);
-        drops += (first <= last) as u32;
-        drops += (second <= first) as u32;
-        drops += (third <= second) as u32;
-        drops += (fourth <= third) as u32;
-        last = fourth;
-        p += 4 * TRIPLE;
-    }
-    if drops != 0 {
-        return true;
-    }
-    let rest = &part[p - TRIPLE..];
-    TRIPLE <= rest.len() - find_drop(rest, msb, true)
-}
-
-// Whether a number of a U-16 ping's samples isn't above the one before it. No tuple has a part longer than the ranks are counted in.
+// Whether a number of a U-16 ping's samples isn't above the one before it, by ranks. There is no return before the end: so the compiler
+// judges several at once.
 fn drops_pairs(part: &[u8], msb: bool) -> bool
     ensures { result ≡ dropping (all_samples narrow msb part.now) }
 {
-    if LONGEST < part.len() {
-        return PAIR <= part.len() - find_drop(part, msb, false);
+    let (pairs, _) = part.as_chunks::<PAIR>();
+    let Some((start, rest)) = pairs.split_first() else {
+        return false;
+    };
+    let mut last = rank(start, msb);
+    let mut bad = false;
+    for pair in rest {
+        let number = rank(pair, msb);
+        bad |= number <= last;
+        last = number;
     }
-    drops_ranked_pairs(part, msb)
+    bad
 }
 
-// The same of a U-16-angles ping's.
+// The same of a U-16-angles ping's: four samples a turn, which was measured faster than one where they stand six bytes apart, and slower
+// by a third where they stand four apart.
 fn drops_triples(part: &[u8], msb: bool) -> bool
     ensures { result ≡ dropping (all_samples narrow_angles msb part.now) }
 {
-    if LONGEST < part.len() {
-        return TRIPLE <= part.len() - find_drop(part, msb, true);
+    let (triples, _) = part.as_chunks::<TRIPLE>();
+    let Some((start, rest)) = triples.split_first() else {
+        return false;
+    };
+    let (fours, few) = rest.as_chunks::<4>();
+    let mut last = rank(start, msb);
+    let mut bad = false;
+    for four in fours {
+        let first = rank(&four[0], msb);
+        let second = rank(&four[1], msb);
+        let third = rank(&four[2], msb);
+        let fourth = rank(&four[3], msb);
+        bad |= (first <= last) | (second <= first) | (third <= second) | (fourth <= third);
+        last = fourth;
     }
-    drops_ranked_triples(part, msb)
+    for triple in few {
+        let next = rank(triple, msb);
+        bad |= next <= last;
+        last = next;
+    }
+    bad
 }
 
 // Whether a sample number isn't above the one before it: of each kind by a loop of its own, whose step the compiler knows.
@@ -185,41 +161,49 @@ fn drops(part: &[u8], msb: bool, angles: bool) -> bool
     drops_pairs(part, msb)
 }
 
-// Where the first number stands that isn't above the one before it; behind the last whole sample where none is.
+// Where the first number stands that isn't above the one before it, of samples of so many bytes; behind the last whole sample where none is.
+fn find_drop_of<const N: usize>(part: &[u8], msb: bool) -> usize
+    requires { (N ≡ 4) ⊎ (N ≡ 6) }
+    ensures value { result ≡ N * first_drop 0 (all_samples (plain_of N) msb part.now) }
+    ensures upper_bound { result ≤ length part.now }
+{
+    let (samples, _) = part.as_chunks::<N>();
+    let mut least: u32 = 0;
+    for (i, sample) in samples.iter().enumerate() {
+        let number = u32::from(order::read2(sample, 0, msb));
+        let drop = number < least;
+        if drop {
+            return N * i;
+        }
+        least = number + 1;
+    }
+    N * samples.len()
+}
+
+// The same of a ping's samples, with angles or without.
 fn find_drop(part: &[u8], msb: bool, angles: bool) -> usize
     ensures value { result ≡ sample_bytes (plain_by angles) * first_drop 0 (all_samples (plain_by angles) msb part.now) }
     ensures upper_bound { result ≤ length part.now }
 {
-    let step = sample_bytes(angles);
-    if part.len() < step {
-        return 0;
+    if angles {
+        return find_drop_of::<TRIPLE>(part, msb);
     }
-    let mut past = order::read2(part, 0, msb);
-    let mut at: usize = step;
-    while step <= part.len() - at {
-        let number = order::read2(part, at, msb);
-        if number <= past {
-            return at;
-        }
-        past = number;
-        at += step;
-    }
-    at
+    find_drop_of::<PAIR>(part, msb)
 }
 
 // What the rules say of the samples of a U-16 or a U-16-angles ping: the part of the file that they fill, with a space behind them where
 // there is one.
 pub fn judge_samples(part: &[u8], msb: bool, angles: bool) -> Verdict
     requires { length part.now ≤ 262112 }
-    ensures { result ≡ judged_samples (plain_by angles) msb part.now }
+    ensures { as_verdict result ≡ judged_samples (plain_by angles) msb part.now }
 {
     if MOST < part.len() / sample_bytes(angles) {
-        return layout::fault(codes::OVERFULL);
+        return layout::fault(Code::Overfull);
     }
     if drops(part, msb, angles) {
-        return layout::fault_at(codes::NOT_RISING, SAMPLES + find_drop(part, msb, angles));
+        return layout::fault_at(Code::NotRising, SAMPLES + find_drop(part, msb, angles));
     }
-    Verdict::Fine
+    Ok(())
 }
 
 // Hands over the samples of a U-16 ping, one at a time: numbers and signed values.
@@ -228,81 +212,72 @@ pub fn read_samples(part: &[u8], msb: bool, numbers: &mut [u32], values: &mut [i
     ensures numbers_after { numbers.new ≡ sets numbers.old 0 (numbers_of (all_samples narrow msb part.now)) }
     ensures values_after { values.new ≡ sets values.old 0 (values_of 2 (all_samples narrow msb part.now)) }
 {
-    let mut entry: usize = 0;
-    let mut p: usize = 0;
-    while PAIR <= part.len() - p {
-        numbers[entry] = order::read2(part, p, msb) as u32;
-        values[entry] = order::signed2(order::read2(part, p + WORD, msb)) as i32;
-        entry += 1;
-        p += PAIR;
+    let (pairs, _) = part.as_chunks::<PAIR>();
+    for (i, pair) in pairs.iter().enumerate() {
+        numbers[i] = u32::from(order::read2(pair, 0, msb));
+        values[i] = i32::from(order::signed2(order::read2(pair, WORD, msb)));
     }
 }
 
 // ---- compressed
-// What is seen of words: how many are values, and how many are outside the limits.
+// The word that two bytes are.
+fn word_in(bytes: &[u8; WORD], msb: bool) -> u16
+    ensures { result ≡ num_of msb bytes.now }
+{
+    order::read2(bytes, 0, msb)
+}
+
+// What is seen of words: how many are values, and whether one is outside the limits.
 #[derive(Clone, Copy)]
 struct Seen {
-    values: u16,
-    bad: u16,
-}
-
-// Looks at the words of a block. Both are counted in 16 bits, as wide as a word, so that the compiler looks at eight at once: hence blocks.
-fn see(part: &[u8], msb: bool, encoded: bool) -> Seen
-    requires { length part.now ≤ 32768 }
-    ensures values_value { result.values ≡ values 256 (all_words 2 msb part.now) }
-    ensures bad_value { not (eqb result.bad 0) ≡ any_bad (words_by encoded) (all_words 2 msb part.now) }
-    ensures values_in_bounds { result.values ≤ length part.now }
-{
-    let most = most_bad(encoded);
-    let mut values: u16 = 0;
-    let mut bad: u16 = 0;
-    let mut p: usize = 0;
-    while WORD <= part.len() - p {
-        let word = order::read2(part, p, msb);
-        values += !is_run(word) as u16;
-        bad += is_bad(word, most) as u16;
-        p += WORD;
-    }
-    Seen { values, bad }
-}
-
-// Where the block at a place ends: with whole words, at most as many as can be counted.
-fn block_end(p: usize, end: usize) -> usize
-    requires p_lt_end { p < end }
-    requires p_value { (p % 2 ≡ 0) × (end % 2 ≡ 0) }
-    ensures { (p < result) × (result ≤ end) × (result ≤ p + 32768) × (result % 2 ≡ 0) }
-{
-    if end - p < BLOCK {
-        return end;
-    }
-    p + BLOCK
-}
-
-// What is seen of all words, block by block.
-#[derive(Clone, Copy)]
-struct Sight {
     values: u32,
     bad: bool,
 }
 
-fn look(part: &[u8], msb: bool, encoded: bool) -> Sight
+// Looks at the words of a block. Values are counted in 16 bits, as wide as a word, so that the compiler looks at eight at once, which was
+// measured three times as fast as in 32: hence blocks.
+fn see(words: &[[u8; WORD]], msb: bool, encoded: bool) -> Seen
+    requires { length words.now ≤ 16384 }
+    ensures values_value { result.values ≡ values 256 (map (num_of msb) words.now) }
+    ensures bad_value { result.bad ≡ any_bad (words_by encoded) (map (num_of msb) words.now) }
+    ensures values_in_bounds { result.values ≤ length words.now }
+{
+    let most = most_bad(encoded);
+    let mut values: u16 = 0;
+    let mut bad = false;
+    for bytes in words {
+        let word = word_in(bytes, msb);
+        values += !is_run(word) as u16;
+        bad |= is_bad(word, most);
+    }
+    Seen {
+        values: u32::from(values),
+        bad,
+    }
+}
+
+// Looks at all words, block by block.
+fn look(part: &[u8], msb: bool, encoded: bool) -> Seen
     requires part_len { length part.now % 2 ≡ 0 }
     requires part_len_bound { length part.now ≤ 262108 }
     ensures values_value { result.values ≡ values 256 (all_words 2 msb part.now) }
     ensures bad_value { result.bad ≡ any_bad (words_by encoded) (all_words 2 msb part.now) }
     ensures values_in_bounds { result.values ≤ length part.now }
 {
+    let (words, _) = part.as_chunks::<WORD>();
+    let (blocks, rest) = words.as_chunks::<BLOCK>();
     let mut values: u32 = 0;
     let mut bad = false;
-    let mut p: usize = 0;
-    while p < part.len() {
-        let end = block_end(p, part.len());
-        let seen = see(&part[p..end], msb, encoded);
-        values += seen.values as u32;
-        bad |= seen.bad != 0;
-        p = end;
+    for block in blocks {
+        let seen = see(block, msb, encoded);
+        values += seen.values;
+        bad |= seen.bad;
     }
-    Sight { values, bad }
+    let last = see(rest, msb, encoded);
+    Seen {
+        values: values + last.values,
+        bad: bad | last.bad,
+    }
 }
 
 // How many bytes of the part that words and a space fill are words, where so many of all are values: the last word is a space where it
@@ -340,14 +315,14 @@ fn find_bad(part: &[u8], msb: bool, encoded: bool) -> usize
     ensures upper_bound { result ≤ length part.now }
 {
     let most = most_bad(encoded);
-    let mut at: usize = 0;
-    while WORD <= part.len() - at {
-        if is_bad(order::read2(part, at, msb), most) {
-            return at;
+    let (words, _) = part.as_chunks::<WORD>();
+    for (i, word) in words.iter().enumerate() {
+        let bad = is_bad(word_in(word, msb), most);
+        if bad {
+            return WORD * i;
         }
-        at += WORD;
     }
-    at
+    WORD * words.len()
 }
 
 // What the rules say of a C-16 or a CE-16 ping's words, of which its number of samples counts the values: the part of the file that they
@@ -356,25 +331,25 @@ pub fn judge_words(part: &[u8], msb: bool, count: u32, encoded: bool) -> Verdict
     requires in_bounds { 2 ≤ length part.now }
     requires part_len { length part.now % 2 ≡ 0 }
     requires part_len_bound { length part.now ≤ 262108 }
-    ensures { result ≡ judged_words (words_by encoded) msb count part.now }
+    ensures { as_verdict result ≡ judged_words (words_by encoded) msb count part.now }
 {
     let seen = look(part, msb, encoded);
     let found = seen.values;
     let end = words_end(part, msb, count, found);
     let values = found - (end < part.len()) as u32;
     if MOST < values as usize {
-        return layout::fault(codes::OVERFULL);
+        return layout::fault(Code::Overfull);
     }
     if seen.bad {
         let at = find_bad(&part[0..end], msb, encoded);
         if at < end {
-            return layout::fault_at(codes::BAD_WORD, WORDS + at);
+            return layout::fault_at(Code::BadWord, WORDS + at);
         }
     }
     if count != values {
-        return layout::fault_at(codes::MISCOUNTED, COUNT);
+        return layout::fault_at(Code::Miscounted, COUNT);
     }
-    Verdict::Fine
+    Ok(())
 }
 
 // Whether the last of some words is a run: a ping of these words has a length.
@@ -386,20 +361,27 @@ pub fn ends_in_run(part: &[u8], msb: bool) -> bool
     is_run(order::read2(part, part.len() - WORD, msb))
 }
 
+// How many samples a word is.
+fn samples_of(word: u16) -> u32
+    ensures { result ≡ samples_by 256 word }
+{
+    if is_run(word) {
+        u32::from(run_length(word))
+    } else {
+        1
+    }
+}
+
 // How many samples words are, runs counted.
 pub fn count_samples(part: &[u8], msb: bool) -> u32
     requires { length part.now ≤ 262108 }
     ensures { result ≡ samples_from 256 0 (all_words 2 msb part.now) }
 {
-    let mut count: u32 = 0;
-    let mut p: usize = 0;
-    // no branch on the kind of word: so the compiler counts several at once
-    while WORD <= part.len() - p {
-        let word = order::read2(part, p, msb);
-        count += (is_run(word) as u32) * ((word % RUN_SAMPLES) as u32) + 1;
-        p += WORD;
-    }
-    count
+    let (words, _) = part.as_chunks::<WORD>();
+    words
+        .iter()
+        .map(|word| samples_of(word_in(word, msb)))
+        .sum()
 }
 
 // The count of a CE-16 word without its sign: three bits of exponent, twelve of mantissa; with an exponent there is a thirteenth, 1.
@@ -444,19 +426,18 @@ pub fn read_words(part: &[u8], msb: bool, encoded: bool, numbers: &mut [u32], va
     ensures values_after { values.new ≡ sets values.old 0
         (values_of (handed_bytes (words_by encoded)) (samples_in (words_by encoded) (all_words 2 msb part.now))) }
 {
+    let (words, _) = part.as_chunks::<WORD>();
     let mut number: u32 = 0;
     let mut entry: usize = 0;
-    let mut p: usize = 0;
-    while WORD <= part.len() - p {
-        let word = order::read2(part, p, msb);
+    for bytes in words {
+        let word = word_in(bytes, msb);
         if is_run(word) {
-            number += run_length(word) as u32;
+            number += u32::from(run_length(word));
         } else {
             numbers[entry] = number;
             values[entry] = value_of(word, encoded);
             entry += 1;
             number += 1;
         }
-        p += WORD;
     }
 }

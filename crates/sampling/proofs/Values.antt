@@ -3,8 +3,10 @@ use mathlib.Core.Path.{◌≡◌, refl, sym, ap, ◌∙◌}
 use mathlib.Core.Bool.{Bool, true, false, not}
 use mathlib.Core.List.{List, [], ◌∷◌}
 use Prim.Native.Nat.{ℕ, ◌+◌, ◌-◌, ◌≤◌, ◌<◌}
-use lib.IntN.{ℤ, pos}
+use lib.IntN.{ℤ}
 use lib.ListN.{length, take, drop, length-map}
+use Rattle.std.specs.Prelude.{Option, Some}
+use Rattle.std.specs.Bool.{then_some}
 use Rattle.order.specs.Order.{signed_of}
 use Rattle.layout.specs.Families.{Family, value_bytes, value_count, number_bytes, sample_bytes, radix_of}
 use Rattle.layout.specs.Types.{Shape, uncompressed, compressed, shape_of}
@@ -16,8 +18,7 @@ use Rattle.samples.proofs.Runs.{by_bool}
 use Rattle.samples.proofs.Written.{some-width}
 use Rattle.pings.specs.inner.Handing.{part_samples}
 use Rattle.sampling.specs.declared.Span.{Span}
-use Rattle.sampling.specs.declared.Valued.{Valued}
-use Rattle.sampling.specs.inner.Walking.{width_of, left_in, handed_left, words_left, values_handed, values_left, valued}
+use Rattle.sampling.specs.inner.Walking.{width_of, left_in, handed_left, words_left, values_handed, values_left, standing}
 use Rattle.sampling.specs.inner.Walking.{SpanOf, WordValued, ValuedTo}
 use Rattle.sampling.proofs.Walking.{words_left_lem, left_end, span-many, run-passed, value-passed, plain-stepped}
 
@@ -41,21 +42,20 @@ module _ (f : Family) where
       let long = run_length (radix_of f) w in
       let v = signed_of (handed_bytes f) (meant f w) in
       by_bool (is_run (radix_of f) w)
-      (λ e. ap values_handed ((run-passed f refl w n e refl (pos 0)).left ws)
+      (λ e. ap values_handed ((run-passed f refl w n e refl).left ws)
       ∙ values-any (n + long) (m + long) ws
-      ∙ sym (ap values_handed ((run-passed f refl w m e refl (pos 0)).left ws)))
+      ∙ sym (ap values_handed ((run-passed f refl w m e refl).left ws)))
       (λ e. ap values_handed ((value-passed f refl w n e refl).left ws)
       ∙ ap (λ (vs : List ℤ). v ∷ vs) (values-any (n + 1) (m + 1) ws)
       ∙ sym (ap values_handed ((value-passed f refl w m e refl).left ws)))
 
   -- a word passed: a run, or a value
   pub word-valued : {R : ℕ} → radix_of f ≡ R → (word : ℕ) {b : Bool} → b ≡ is_run R word
-      → {v : ℤ} → v ≡ signed_of (handed_bytes f) (meant f word) → WordValued f word (record { sampled = not b; value = v })
-  word-valued {R} e word {b} run {v} value = by b run
+      → {v : ℤ} → v ≡ signed_of (handed_bytes f) (meant f word) → {r : Option ℤ} → r ≡ then_some (not b) v → WordValued f word r
+  word-valued {R} e word {b} run {v} value stands = rw stands (by b run)
     where
-      by : (b : Bool) → b ≡ is_run R word → WordValued f word (record { sampled = not b; value = v })
-      by true h =
-          record { left = λ ws. ap values_handed ((run-passed f e word 0 (sym h) refl v).left ws) ∙ values-any _ 0 ws }
+      by : (b : Bool) → b ≡ is_run R word → WordValued f word (then_some (not b) v)
+      by true h = record { left = λ ws. ap values_handed ((run-passed f e word 0 (sym h) refl).left ws) ∙ values-any _ 0 ws }
       by false h =
           record {
             left = λ ws. ap values_handed ((value-passed f e word 0 (sym h) value).left ws)
@@ -67,12 +67,12 @@ module _ {k : ℕ} (f : Family) (o : Bool) (held : List ℕ) (at : ℕ) where
   -- past a sample with a number of its own
   pub plain-valued : shape_of k ≡ uncompressed f → value_count f ≡ 1 → at + sample_bytes f ≤ length held
       → {v : ℤ} → v ≡ signed_of (handed_bytes f) (word_at (value_bytes f) o held (at + number_bytes f))
-      → ValuedTo k o held at (record { sampled = true; value = v })
+      → ValuedTo k o held at (Some v)
   plain-valued e one h ve = record { left = ap values_handed (plain-stepped f o held at 0 e one h refl ve).left }
 
   -- past a word
   pub word-there : shape_of k ≡ compressed f → at + value_bytes f ≤ length held → {word : ℕ} → word ≡ word_at (value_bytes f) o held at
-      → {r : Valued} → WordValued f word r → ValuedTo k o held at r
+      → {r : Option ℤ} → WordValued f word r → ValuedTo k o held at r
   unfolding left_in
   word-there e h {word} we {r} p =
       let w = value_bytes f in
@@ -82,5 +82,5 @@ module _ {k : ℕ} (f : Family) (o : Bool) (held : List ℕ) (at : ℕ) where
         left = rw e
             (ap (λ (ws : List ℕ). values_handed (words_left f 0 ws)) there
             ∙ p.left behind
-            ∙ ap (λ (ws : List ℕ). valued r (values_handed (words_left f 0 ws))) (sym (words_left_lem w o held (at + w))));
+            ∙ ap (λ (ws : List ℕ). standing r (values_handed (words_left f 0 ws))) (sym (words_left_lem w o held (at + w))));
       }

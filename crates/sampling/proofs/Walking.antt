@@ -1,6 +1,6 @@
 -- A ping's samples one at a time: what a loop over them wants. What is left at its first place is all that the ping says, each step takes
 -- what stands at a place off what is left, and where less than that is left, nothing is. Assumes nothing.
-use mathlib.Core.Path.{◌≡◌, refl, sym, ap, ◌∙◌}
+use mathlib.Core.Path.{◌≡◌, refl, sym, ap, subst, ◌∙◌}
 use mathlib.Core.Bool.{Bool, true, false}
 use mathlib.Core.List.{List, [], ◌∷◌}
 use Prim.Native.Nat.{ℕ, ◌+◌, ◌-◌, ◌*◌, ◌/◌, ◌%◌, ◌≤◌, ◌<◌}
@@ -14,6 +14,7 @@ use Rattle.order.specs.Order.{signed_of}
 use Rattle.layout.specs.Families.{Family, wide, narrow, encoded, wide_angles, narrow_angles, value_bytes, value_count, number_bytes, sample_bytes}
 use Rattle.layout.specs.Families.{radix_of}
 use Rattle.layout.specs.Types.{Shape, indexed, row, uncompressed, compressed, unlisted, listings, shape_of}
+use Rattle.std.specs.Prelude.{Some, None}
 use Rattle.layout.proofs.Tables.{NoneOf}
 use Rattle.samples.specs.Words.{Sample, words, all_words, samples, all_samples}
 use Rattle.samples.specs.Lists.{handed_bytes}
@@ -57,13 +58,22 @@ left_end (compressed f) o n held at h =
 left_end unlisted o n held at h = refl
 
 -- ---- where samples stand in a ping's part
--- a ping with values of none of these types has words of two bytes
+-- a ping with values that is of none of these types is of the last
+pub codes-left : (k : ℕ) → is_valued k ≡ true → NoneOf (10040 ∷ 10030 ∷ 10010 ∷ 10000 ∷ []) k → shape_of k ≡ compressed encoded
+unfolding listings
+codes-left k a h = arm_c encoded refl (last_code valued k 10050 (10040 ∷ 10030 ∷ 10010 ∷ 10000 ∷ []) refl h a)
+
+-- and of none of these, it has words of two bytes
 pub narrow-left : (k : ℕ) → is_valued k ≡ true → NoneOf (10030 ∷ 10010 ∷ 10000 ∷ []) k → (b : Bool) × (shape_of k ≡ compressed (words_by b))
 unfolding listings
 narrow-left k a h =
     by_bool (eqb k 10040)
     (λ t. (false, arm_c narrow refl (eqb-true k 10040 t)))
-    (λ t. (true, arm_c encoded refl (last_code valued k 10050 (10040 ∷ 10030 ∷ 10010 ∷ 10000 ∷ []) refl (h, eqb-false k 10040 t) a)))
+    (λ t. (true, codes-left k a (h, eqb-false k 10040 t)))
+
+-- what is read there lies within
+pub room : {p q : Shape} → p ≡ q → (at : ℕ) {n : ℕ} → at + width_of p ≤ n → at + width_of q ≤ n
+room e at {n} h = subst (λ (x : Shape). at + width_of x ≤ n) e h
 
 module _ {k : ℕ} (o : Bool) (part : List ℕ) where
   pub span-plain : (f : Family) → shape_of k ≡ uncompressed f → SpanOf k o part (record { from = 0; end = length part })
@@ -115,10 +125,10 @@ module _ (f : Family) {R : ℕ} (e : radix_of f ≡ R) (word number : ℕ) where
   said : List Sample → List Handed
   said s = handed_by (handed_bytes f) (revalued (meant f) s)
 
-  pub run-passed : is_run R word ≡ true → {n : ℕ} → n ≡ run_length R word → (v : ℤ)
-      → WordPassed f word number (record { sampled = false; number = number; value = v; next = number + n })
+  pub run-passed : is_run R word ≡ true → {n : ℕ} → n ≡ run_length R word
+      → WordPassed f word number (record { sample = None; next = number + n })
   unfolding said
-  run-passed t {n} l v =
+  run-passed t {n} l =
       let run = ap (λ (q : ℕ). is_run q word) e ∙ t in
       let long = l ∙ ap (λ (q : ℕ). run_length q word) (sym e) in
       record {
@@ -128,7 +138,7 @@ module _ (f : Family) {R : ℕ} (e : radix_of f ≡ R) (word number : ℕ) where
       }
 
   pub value-passed : is_run R word ≡ false → {v : ℤ} → v ≡ signed_of (handed_bytes f) (meant f word)
-      → WordPassed f word number (record { sampled = true; number = number; value = v; next = number + 1 })
+      → WordPassed f word number (record { sample = Some (number, v); next = number + 1 })
   unfolding said
   value-passed t {v} h =
       let value = ap (λ (q : ℕ). is_run q word) e ∙ t in
@@ -148,7 +158,7 @@ module _ {k : ℕ} (f : Family) (o : Bool) (held : List ℕ) (at number : ℕ) w
   pub plain-stepped : shape_of k ≡ uncompressed f → value_count f ≡ 1 → at + sample_bytes f ≤ length held
       → {x : ℕ} → x ≡ word_at (number_bytes f) o held at
       → {v : ℤ} → v ≡ signed_of (handed_bytes f) (word_at (value_bytes f) o held (at + number_bytes f))
-      → SteppedTo k o held at number (record { sampled = true; number = x; value = v; next = number })
+      → SteppedTo k o held at number (record { sample = Some (x, v); next = number })
   unfolding left_in
   plain-stepped e one h {x} xe {v} ve =
       let w = sample_bytes f in

@@ -18,21 +18,12 @@ pub struct Span {
     pub end: usize,
 }
 
-// What stands at a place there: a sample with its number and its value, or, where it is none, a run of samples below threshold; and the
-// number of what stands behind it.
+// What stands at a place there: a sample with its number and its value, or none for a run of samples below threshold; and the number of
+// what stands behind it.
 #[derive(Clone, Copy)]
 pub struct Stepped {
-    pub sampled: bool,
-    pub number: u32,
-    pub value: i32,
+    pub sample: Option<(u32, i32)>,
     pub next: u32,
-}
-
-// The same without numbers: a value, or, where it is none, a run.
-#[derive(Clone, Copy)]
-pub struct Valued {
-    pub sampled: bool,
-    pub value: i32,
 }
 
 // Where the samples stand: all of an uncompressed ping's part; of a compressed one's its words, without the space behind them.
@@ -83,16 +74,12 @@ fn wide_word(word: u32, number: u32) -> Stepped
 {
     if samples::is_run(word) {
         return Stepped {
-            sampled: false,
-            number,
-            value: 0,
+            sample: None,
             next: number + samples::run_length(word),
         };
     }
     Stepped {
-        sampled: true,
-        number,
-        value: order::signed4(word),
+        sample: Some((number, order::signed4(word))),
         next: number + 1,
     }
 }
@@ -104,16 +91,12 @@ fn narrow_word(word: u16, number: u32, encoded: bool) -> Stepped
 {
     if samples16::is_run(word) {
         return Stepped {
-            sampled: false,
-            number,
-            value: 0,
+            sample: None,
             next: number + samples16::run_length(word) as u32,
         };
     }
     Stepped {
-        sampled: true,
-        number,
-        value: samples16::value_of(word, encoded),
+        sample: Some((number, samples16::value_of(word, encoded))),
         next: number + 1,
     }
 }
@@ -128,16 +111,18 @@ pub fn sample_at(held: &[u8], at: usize, number: u32, msb: bool, code: u16) -> S
 {
     match code {
         types::PING_U => Stepped {
-            sampled: true,
-            number: order::read4(held, at, msb),
-            value: order::signed4(order::read4(held, at + samples::WORD, msb)),
+            sample: Some((
+                order::read4(held, at, msb),
+                order::signed4(order::read4(held, at + samples::WORD, msb)),
+            )),
             next: number,
         },
         types::PING_C => wide_word(order::read4(held, at, msb), number),
         types::PING_U16 => Stepped {
-            sampled: true,
-            number: order::read2(held, at, msb) as u32,
-            value: order::signed2(order::read2(held, at + samples16::WORD, msb)) as i32,
+            sample: Some((
+                order::read2(held, at, msb) as u32,
+                order::signed2(order::read2(held, at + samples16::WORD, msb)) as i32,
+            )),
             next: number,
         },
         types::PING_C16 => narrow_word(order::read2(held, at, msb), number, false),
@@ -147,41 +132,31 @@ pub fn sample_at(held: &[u8], at: usize, number: u32, msb: bool, code: u16) -> S
 }
 
 // A word of four bytes, whatever its number.
-fn wide_value(word: u32) -> Valued
+fn wide_value(word: u32) -> Option<i32>
     ensures { WordValued wide word result }
 {
-    Valued {
-        sampled: !samples::is_run(word),
-        value: order::signed4(word),
-    }
+    (!samples::is_run(word)).then_some(order::signed4(word))
 }
 
 // One of two bytes.
-fn narrow_value(word: u16, encoded: bool) -> Valued
+fn narrow_value(word: u16, encoded: bool) -> Option<i32>
     ensures { WordValued (words_by encoded) word result }
 {
-    Valued {
-        sampled: !samples16::is_run(word),
-        value: samples16::value_of(word, encoded),
-    }
+    (!samples16::is_run(word)).then_some(samples16::value_of(word, encoded))
 }
 
 // The value that stands at a place of the bytes that hold samples, for those who add values up and ask for no numbers.
-pub fn value_at(held: &[u8], at: usize, msb: bool, code: u16) -> Valued
+pub fn value_at(held: &[u8], at: usize, msb: bool, code: u16) -> Option<i32>
     requires code_value { is_valued code ≡ true }
     requires code_in_bounds { at + width_of (shape_of code) ≤ length held.now }
     ensures { ValuedTo code msb held.now at result }
 {
     match code {
-        types::PING_U => Valued {
-            sampled: true,
-            value: order::signed4(order::read4(held, at + samples::WORD, msb)),
-        },
+        types::PING_U => Some(order::signed4(order::read4(held, at + samples::WORD, msb))),
         types::PING_C => wide_value(order::read4(held, at, msb)),
-        types::PING_U16 => Valued {
-            sampled: true,
-            value: order::signed2(order::read2(held, at + samples16::WORD, msb)) as i32,
-        },
+        types::PING_U16 => Some(
+            order::signed2(order::read2(held, at + samples16::WORD, msb)) as i32,
+        ),
         types::PING_C16 => narrow_value(order::read2(held, at, msb), false),
         // CE-16
         _ => narrow_value(order::read2(held, at, msb), true),

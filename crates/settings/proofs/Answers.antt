@@ -1,20 +1,19 @@
 -- The answers by what is counted, and the slices that they leave. Assumes nothing.
-use mathlib.Core.Path.{◌≡◌, sym, ap, ap₂, ◌∙◌}
+use mathlib.Core.Path.{◌≡◌, refl, sym, ap, ap₂, ◌∙◌}
 use mathlib.Core.Bool.{Bool, true, false, ◌||◌}
 use mathlib.Core.List.{List, map}
-use Prim.Native.Nat.{ℕ, ◌≤◌, ◌<◌}
+use Prim.Native.Nat.{ℕ, ◌≤◌, ◌<◌, min}
 use native.Mathlib.Omega.{arith}
-use borrow.Author.Tests.{lt-ltb, le-ltb}
+use borrow.Author.Tests.{le-ltb, ltb-false}
 use lib.Dec.{ltb}
 use lib.ListN.{length, length-map}
 use lib.Seq.{sets}
 use Rattle.rules.specs.Rules.{First}
 use Rattle.rules.specs.Rules.First.{none, here, pass}
-use Rattle.rules.proofs.Bools.{or_true}
 use Rattle.rules.proofs.Laws.{first_eq}
 use Rattle.layout.specs.declared.Counts.{Counts}
-use Rattle.layout.specs.declared.Answer.{Answer}
-use Rattle.layout.specs.declared.Answer.TheVariants.{Accepted, Refused}
+use Rattle.layout.specs.Answer.{Answer}
+use Rattle.layout.specs.Answer.{Accepted, Refused}
 use Rattle.layout.specs.Answers.{tells}
 use Rattle.layout.proofs.Lent.{left-refused, left-accepted}
 use Rattle.intake.specs.Check.{writing, check_file}
@@ -52,19 +51,15 @@ module _ (f ps ts bs : List ℕ) where
     short : ltb (length ps) rows || (ltb (length ts) rows || ltb (length bs) rows) ≡ true → SettingsTold f ps ts bs (Refused 19 0) ps ts bs
     short e = refusing 19 0 (by-rule (here e))
 
-    pub short-pings : length ps < m → SettingsTold f ps ts bs (Refused 19 0) ps ts bs
-    short-pings h =
-        short (ap (λ (b : Bool). b || (ltb (length ts) rows || ltb (length bs) rows))
-        (lt-ltb (length ps) rows (omega (arith, c))))
-
-    pub short-thresholds : length ts < m → SettingsTold f ps ts bs (Refused 19 0) ps ts bs
-    short-thresholds h =
-        short (or_true (ltb (length ps) rows)
-        (ap (λ (b : Bool). b || ltb (length bs) rows) (lt-ltb (length ts) rows (omega (arith, c)))))
-
-    pub short-attitudes : length bs < m → SettingsTold f ps ts bs (Refused 19 0) ps ts bs
-    short-attitudes h =
-        short (or_true (ltb (length ps) rows) (or_true (ltb (length ts) rows) (lt-ltb (length bs) rows (omega (arith, c)))))
+    pub short-room : {r : ℕ} → r ≡ min (min (length ps) (length ts)) (length bs) → r < m → SettingsTold f ps ts bs (Refused 19 0) ps ts bs
+    short-room {r} e h = short (by (ltb (length ps) rows) (ltb (length ts) rows) (ltb (length bs) rows) refl refl refl)
+      where
+        by : (x y z : Bool) → ltb (length ps) rows ≡ x → ltb (length ts) rows ≡ y → ltb (length bs) rows ≡ z → x || (y || z) ≡ true
+        by true y z p q s = refl
+        by false true z p q s = refl
+        by false false true p q s = refl
+        by false false false p q s =
+            absurd (omega (arith, ltb-false (length ps) rows p, ltb-false (length ts) rows q, ltb-false (length bs) rows s, e, c, h))
 
     module _ (h : m ≤ length ps) (i : m ≤ length ts) (j : m ≤ length bs) where
       pub roomy : Roomy f (length ps) (length ts) (length bs)

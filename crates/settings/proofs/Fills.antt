@@ -1,4 +1,4 @@
--- What the loops carry: the counting of the pings, and the filling of the slices. Assumes nothing.
+-- What the loop carries: the filling of the slices. Assumes nothing.
 use mathlib.Core.Path.{◌≡◌, refl, sym, ap, ap₂, subst, ◌∙◌}
 use mathlib.Core.Bool.{Bool, true, false, cond}
 use mathlib.Core.List.{List, [], ◌∷◌, ◌++◌, map, append-nil, append_assoc}
@@ -6,8 +6,8 @@ use Prim.Native.Nat.{ℕ, ◌+◌, ◌-◌, ◌≤◌, ◌<◌}
 use native.Mathlib.Omega.{arith}
 use lib.ListN.{length, drop, length-append, length-map}
 use lib.Seq.{sets, length-sets}
+use Rattle.std.specs.Prelude.{Option, Some, None}
 use Rattle.order.proofs.Stores.{sets_append}
-use Rattle.layout.specs.Types.{is_ping}
 use Rattle.frame.specs.Frames.{Tup, length_of, len_at, kind_at, tup_at}
 use Rattle.frame.specs.Files.{is_msb}
 use Rattle.frame.specs.Tuples.{tuples_of}
@@ -17,54 +17,18 @@ use Rattle.links.specs.declared.Channel.{Channel}
 use Rattle.links.specs.inner.Tables.{channels_in}
 use Rattle.content.specs.Items.{digest}
 use Rattle.intake.specs.inner.Sound.{SoundHere, Accepts}
-use Rattle.intake.proofs.Loops.{Passing, passing-begin, passing-within, passing-sound, passing-whole, passing-linked, passing-tells}
+use Rattle.intake.proofs.Loops.{Passing, passing-begin, passing-sound, passing-whole, passing-linked, passing-tells}
 use Rattle.intake.proofs.Loops.{passing-again, passing-less, passing-done}
 use Rattle.settings.specs.declared.Held.{Held}
 use Rattle.settings.specs.declared.Told.{Told}
 use Rattle.settings.specs.declared.Role.{Role}
 use Rattle.settings.specs.Settings.{Said, said, Row, role_of, says, says_of_file, rows_here, rows_after, settings_of, pings_of}
 use Rattle.settings.specs.Settings.{thresholds_of, attitudes_of}
-use Rattle.settings.specs.Governing.{pings_among}
 use Rattle.settings.specs.inner.Tables.{line_of, held_by, rows_by, lines_by, Room, Stands, told_by, row_told, rows_told, RowRoom}
 use Rattle.settings.specs.inner.Tables.{Roomy, no_lines}
 use Rattle.settings.proofs.Roles.{LinkOf, role-link}
 use Rattle.settings.proofs.Holds.{Holding, Named, named, named-line, named-room, declared-past, holding-begin, rows-held}
 use Rattle.settings.proofs.Holds.{holding-past}
-use Rattle.settings.proofs.Governing.{rows-many}
-
--- ---- the counting: the pings counted and those to come are all
-pub record Counting (f : List ℕ) (o : Bool) (at n : ℕ) : Type 0 where
-  pub links : Links
-  pub passing : Passing (λ (p : ℕ) (ts : List Tup). n + pings_among ts) (0 + pings_among (tuples_of f)) o f at links
-  pub few : n ≤ at
-
-pub counting-begin : (f : List ℕ) (o : Bool) → Accepts f → o ≡ is_msb f → Counting f o 4 0
-counting-begin f o a e = record { links = start; passing = passing-begin (λ p ts. 0 + pings_among ts) f o a e; few = omega arith }
-
-module _ (f : List ℕ) (o : Bool) (at n : ℕ) (g : Counting f o at n) where
-  pub counting-within : at ≤ length f
-  counting-within = passing-within g.passing
-
-  pub counting-done : length f ≤ at → n ≡ length (settings_of f)
-  unfolding pings_among
-  counting-done h = omega (arith, passing-done g.passing h, rows-many f)
-
-  module _ (h : at < length f) where
-    pub counting-whole : Whole o f at (len_at o (drop at f))
-    counting-whole = passing-whole g.passing h
-
-    pub counting-less : (m : ℕ) → m ≡ len_at o (drop at f) → length f - (at + m) < length f - at
-    counting-less m e = passing-less g.passing h m e
-
-    pub counting-again : (m x : ℕ) → m ≡ len_at o (drop at f) → x ≡ cond (is_ping (kind_at o (drop at f))) 1 0 → x ≤ 1
-        → Counting f o (at + m) (n + x)
-    unfolding pings_among
-    counting-again m x a e z =
-        record {
-          links = _;
-          passing = passing-again g.passing h m a (λ p ts. n + x + pings_among ts) (λ ts. omega (arith, e));
-          few = omega (arith, g.few, z, a, counting-whole.long);
-        }
 
 -- ---- a column of the rows
 column : (key : Row → ℕ) (out₀ out next : List ℕ) (done rows : List Row) (row : ℕ) → out ≡ sets out₀ 0 (map key done) → row ≡ length done
@@ -191,7 +155,7 @@ module _ {f : List ℕ} {a : Slices} {o : Bool} {at : ℕ} {h : Held} {row : ℕ
       filling_room = named-room r h rows is-named
 
       -- what is told of it
-      module _ (told : Told) (u : told ≡ told_by r (line_of r h.channels rows) h ls) where
+      module _ (told : Option Told) (u : told ≡ told_by r (line_of r h.channels rows) h ls) where
         abbrev here : List Row
         here = rows_told at told
 
@@ -208,13 +172,13 @@ module _ {f : List ℕ} {a : Slices} {o : Bool} {at : ℕ} {h : Held} {row : ℕ
         -- a ping's row has room
         pub filling_rows : Roomy f (length a.pings) (length a.thresholds) (length a.attitudes)
             → RowRoom told row (length b.pings) (length b.thresholds) (length b.attitudes)
-        filling_rows m p =
+        filling_rows m x p =
             let l = filling_long in
             passing-tells g.passing z ((row < length b.pings) × (row < length b.thresholds) × (row < length b.attitudes))
-            (λ ts x.
+            (λ ts y.
             let rest = rows_after (g.before ++ (said at (role_of o t) ∷ [])) (says o (at + length_of t) ts) in
-            let all = ap length (sym (step ts) ∙ x) in
-            let one : length here ≡ 1 = ap (λ (y : Bool). length (cond y (row_told at told ∷ []) [])) p in
+            let all = ap length (sym (step ts) ∙ y) in
+            let one : length here ≡ 1 = ap (λ (x : Option Told). length (rows_told at x)) p in
             let n = length-append (g.done ++ here) rest in
             let k = length-append g.done here in (
               omega (arith, all, one, n, k, g.told, m.ping_room, l.0),
@@ -246,10 +210,10 @@ module _ {f : List ℕ} {a : Slices} {o : Bool} {at : ℕ} {h : Held} {row : ℕ
                   ∙ declared-past g.links h rows g.holding.rows_long g.holding.few g.declared at h'.near r
                   (digest o t).link linked is-named y;
               told = omega (arith, q, g.told, length-append g.done here);
-              few = omega (arith, q, g.few, most told.ping, p, filling_whole.long);
+              few = omega (arith, q, g.few, most told, p, filling_whole.long);
               stored = stored_more g.stored g.told w;
             })
           where
-            most : (v : Bool) → length (cond v (row_told at told ∷ []) []) ≤ 1
-            most true = omega arith
-            most false = omega arith
+            most : (v : Option Told) → length (rows_told at v) ≤ 1
+            most (Some t) = omega arith
+            most None = omega arith

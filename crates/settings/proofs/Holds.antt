@@ -5,13 +5,14 @@ use mathlib.Core.Bool.{Bool, true, false, cond, true≢false}
 use mathlib.Core.Logic.{◌⊎◌, inl, inr, ⊎_elim}
 use mathlib.Core.List.{List, [], ◌∷◌, ◌++◌, append-nil}
 use Prim.Native.Nat.{ℕ, zero, suc, ◌+◌, ◌≤◌, ◌<◌}
+use Rattle.std.specs.Prelude.{max}
 use native.Mathlib.Omega.{arith}
 use borrow.Author.Tests.{ltb-true, ltb-false, le-ltb, leb-false, eqb-true, eq-eqb}
 use lib.Dec.{ltb, eqb}
 use lib.ListN.{length, get_or, set, replicate, length-set}
 use lib.Seq.{get_or-set_same, get_or-set_other}
 use Rattle.layout.specs.declared.SoftwareChannel.{SoftwareChannel}
-use Rattle.layout.specs.declared.Verdict.TheVariants.{Fine}
+use Rattle.layout.specs.Verdict.{Fine}
 use Rattle.layout.specs.Answers.{judged}
 use Rattle.layout.proofs.Verdicts.{passes}
 use Rattle.links.specs.declared.Channel.{Channel}
@@ -224,6 +225,14 @@ later-right a b h = by (ltb a b) refl
     by : (x : Bool) → ltb a b ≡ x → cond x b a ≡ b
     by true e = refl
     by false e = let z : b ≤ a = ltb-false a b e in omega (arith, z, h)
+
+-- which is the greater
+pub max_later : (a b : ℕ) → max a b ≡ later a b
+max_later a b = by (ltb a b) refl
+  where
+    by : (x : Bool) → ltb a b ≡ x → max a b ≡ cond x b a
+    by true e = let z : a < b = ltb-true a b e in omega (arith, z)
+    by false e = let z : b ≤ a = ltb-false a b e in omega (arith, z)
 
 -- ---- behind the mark nothing is held
 blank : (n i : ℕ) → let l : List ℕ = get_or (replicate n (0 ∷ 0 ∷ [])) i [] in (threshold_in l ≡ 0) × (attitude_in l ≡ 0)

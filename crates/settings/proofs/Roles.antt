@@ -164,7 +164,7 @@ is_ping_role ForAll = false
 is_ping_role (Declares c) = false
 is_ping_role Other = false
 
-no_ping : (k : ℕ) (l : Link) → is_ping_role (role_by k l) ≡ false
+pub no_ping : (k : ℕ) (l : Link) → is_ping_role (role_by k l) ≡ false
 no_ping k Links.none = by (eqb k 40)
   where
     by : (b : Bool) → is_ping_role (cond b ForAll Other) ≡ false

@@ -1,17 +1,20 @@
 // Settings: for each listed ping of a file, in file order, the threshold and the attitude that govern it.
 #![tactic(auto)]
 
-ghost use Rattle.std.specs.Prelude.{◌≡◌, ◌+◌, ◌≤◌, ◌<◌, ◌^◌, cond, length, drop};
+ghost use Rattle.std.specs.Prelude.{◌≡◌, ◌+◌, ◌≤◌, ◌<◌, ◌^◌, length, drop};
 ghost use Rattle.std.proofs.lemmas.List.Edits.{sets};
+ghost use Rattle.layout.specs.Views.{as_answer};
 ghost use Rattle.frame.specs.Frames.{tup_at};
 ghost use Rattle.links.specs.Links.{id_of, Apart, most_channels};
 ghost use Rattle.links.specs.inner.Tables.{channels_in};
-ghost use Rattle.intake.specs.inner.Sound.{SoundHere, Accepts};
+ghost use Rattle.intake.specs.inner.Sound.{SoundHere};
 ghost use Rattle.settings.specs.Settings.{role_of, settings_of, pings_of, thresholds_of, attitudes_of, SettingsTold};
-ghost use Rattle.settings.specs.inner.Tables.{line_of, held_by, rows_by, lines_by, Room, Stands, later, untold, told_by, rows_told};
+ghost use Rattle.settings.specs.inner.Tables.{line_of, held_by, rows_by, lines_by, Room, Stands, told_by, rows_told};
 ghost use Rattle.settings.specs.inner.Tables.{RowRoom, Roomy, no_lines};
 
-use layout::{Answer, Counts, Says, SoftwareChannel, codes};
+use frame::passing::{self, Located};
+use layout::codes::Code;
+use layout::{Answer, Counts, Says, SoftwareChannel};
 use links::{CHANNELS, Channel, Row};
 
 // A tuple's part: a ping, a threshold or an attitude of a channel; an attitude for all channels; a channel's own tuple; any other.
@@ -33,10 +36,9 @@ struct Held {
     near: usize,
 }
 
-// Whether a tuple is a ping, and what governs it: the places of a threshold and of an attitude, 0 for none.
+// What governs a ping: the places of a threshold and of an attitude, 0 for none.
 #[derive(Clone, Copy)]
 struct Told {
-    ping: bool,
     threshold: usize,
     attitude: usize,
 }
@@ -48,25 +50,25 @@ const THRESHOLD: usize = 0;
 
 const ATTITUDE: usize = 1;
 
-// The part of the tuple at a place.
-fn role_at(file: &[u8], at: usize, msb: bool, whole: usize, code: u16) -> Role
-    requires { SoundHere msb file.now at whole code }
-    ensures { result ≡ role_of msb (tup_at msb (drop at file.now)) }
+// The part of a tuple.
+fn role_at(file: &[u8], tuple: Located, msb: bool) -> Role
+    requires { SoundHere msb file.now tuple.at tuple.whole tuple.code }
+    ensures { result ≡ role_of msb (tup_at msb (drop tuple.at file.now)) }
 {
-    match layout::says_of(code) {
+    match layout::says_of(tuple.code) {
         Says::Nothing => Role::Other,
         Says::Sounder(_) => Role::Other,
-        Says::Channel(maker) => Role::Declares(intake::channel_at(file, at, msb, maker)),
+        Says::Channel(maker) => Role::Declares(intake::channel_at(file, tuple.at, msb, maker)),
         Says::NamesOrAll => {
-            let named = intake::named_at(file, at, msb);
+            let named = intake::named_at(file, tuple.at, msb);
             if named.0 == intake::ALL_CHANNELS {
                 return Role::ForAll;
             }
             Role::Attitude(named)
         }
         Says::Names => {
-            let named = intake::named_at(file, at, msb);
-            if intake::is_ping(code) {
+            let named = intake::named_at(file, tuple.at, msb);
+            if intake::is_ping(tuple.code) {
                 return Role::Ping(named);
             }
             Role::Threshold(named)
@@ -91,43 +93,21 @@ fn line_of(role: Role, h: Held, rows: &[Row], notes: &[u16]) -> usize
     }
 }
 
-// The later of two places.
-fn later_of(a: usize, b: usize) -> usize
-    ensures { result ≡ later a b }
-{
-    if a < b { b } else { a }
-}
-
-// Nothing is told of a tuple that is no ping.
-fn nothing() -> Told
-    ensures { result ≡ untold }
-{
-    Told {
-        ping: false,
-        threshold: 0,
-        attitude: 0,
-    }
-}
-
 // What governs a ping of the channel on a line; of any other tuple nothing is told.
-fn told_of(role: Role, line: usize, h: Held, lines: &[Line; CHANNELS]) -> Told
+#[tactic(auto, using(crate::proofs::Holds::max_later))]
+fn told_of(role: Role, line: usize, h: Held, lines: &[Line; CHANNELS]) -> Option<Told>
     requires { line < most_channels }
     ensures { result ≡ told_by role line h lines.now }
 {
     match role {
         Role::Ping(_) => {
             let last = lines[line];
-            Told {
-                ping: true,
+            Some(Told {
                 threshold: last[THRESHOLD],
-                attitude: later_of(last[ATTITUDE], h.every),
-            }
+                attitude: last[ATTITUDE].max(h.every),
+            })
         }
-        Role::Threshold(_) => nothing(),
-        Role::Attitude(_) => nothing(),
-        Role::ForAll => nothing(),
-        Role::Declares(_) => nothing(),
-        Role::Other => nothing(),
+        _ => None,
     }
 }
 
@@ -138,7 +118,7 @@ fn put_row(
     attitudes: &mut [usize],
     row: usize,
     at: usize,
-    told: Told,
+    told: Option<Told>,
 ) -> usize
     requires row_bound { row < 2 ^ 32 }
     requires row_room { RowRoom told row (length pings.old) (length thresholds.old) (length attitudes.old) }
@@ -147,13 +127,15 @@ fn put_row(
     ensures thresholds_after { thresholds.new ≡ sets thresholds.old row (thresholds_of (rows_told at told)) }
     ensures attitudes_after { attitudes.new ≡ sets attitudes.old row (attitudes_of (rows_told at told)) }
 {
-    if !told.ping {
-        return row;
+    match told {
+        None => row,
+        Some(it) => {
+            pings[row] = at;
+            thresholds[row] = it.threshold;
+            attitudes[row] = it.attitude;
+            row + 1
+        }
     }
-    pings[row] = at;
-    thresholds[row] = told.threshold;
-    attitudes[row] = told.attitude;
-    row + 1
 }
 
 // Keeps what the tuple at a place sets or declares.
@@ -218,29 +200,6 @@ fn keep(
     }
 }
 
-// One where something is so.
-fn one_if(b: bool) -> usize
-    ensures { (result ≡ cond b 1 0) × (result ≤ 1) }
-{
-    if b { 1 } else { 0 }
-}
-
-// Counts the listed pings of an accepted file.
-fn count_pings(file: &[u8]) -> usize
-    requires { Accepts file.now }
-    ensures { result ≡ length (settings_of file.now) }
-{
-    let msb = frame::is_msb(file);
-    let mut n: usize = 0;
-    let mut at = frame::MARKED;
-    while at < file.len() {
-        let whole = frame::length_at(file, at, msb);
-        n += one_if(intake::is_ping(frame::kind_at(file, at, msb)));
-        at += whole;
-    }
-    n
-}
-
 // Fills the three slices for an accepted file, tuple by tuple; the tables are lent for what is kept, the lines blank.
 fn fill_with(
     file: &[u8],
@@ -264,16 +223,12 @@ fn fill_with(
         near: 0,
     };
     let mut row: usize = 0;
-    let mut at = frame::MARKED;
-    while at < file.len() {
-        let whole = frame::length_at(file, at, msb);
-        let code = frame::kind_at(file, at, msb);
-        let role = role_at(file, at, msb, whole, code);
+    for tuple in passing::behind_mark(file, msb) {
+        let role = role_at(file, tuple, msb);
         let line = line_of(role, h, rows, notes);
         let told = told_of(role, line, h, lines);
-        row = put_row(pings, thresholds, attitudes, row, at, told);
-        h = keep(role, at, line, h, rows, notes, lines);
-        at += whole;
+        row = put_row(pings, thresholds, attitudes, row, tuple.at, told);
+        h = keep(role, tuple.at, line, h, rows, notes, lines);
     }
 }
 
@@ -301,28 +256,19 @@ pub fn settings(
     thresholds: &mut [usize],
     attitudes: &mut [usize],
 ) -> Answer
-    ensures { SettingsTold file.now pings.old thresholds.old attitudes.old result
+    ensures { SettingsTold file.now pings.old thresholds.old attitudes.old (as_answer result)
         pings.new thresholds.new attitudes.new }
 {
-    match intake::check(file) {
-        Answer::Refused { code, place } => layout::refuse(code, place),
-        Answer::Accepted(counts) => {
-            let n = count_pings(file);
-            if pings.len() < n {
-                return layout::refuse(codes::NO_ROOM, 0);
-            }
-            if thresholds.len() < n {
-                return layout::refuse(codes::NO_ROOM, 0);
-            }
-            if attitudes.len() < n {
-                return layout::refuse(codes::NO_ROOM, 0);
-            }
-            fill(file, pings, thresholds, attitudes);
-            Answer::Accepted(Counts {
-                tuples: counts.tuples,
-                written: n,
-                compared: counts.compared,
-            })
-        }
+    let counts = intake::check(file)?;
+    let n = linked::count_pings(file);
+    let room = pings.len().min(thresholds.len()).min(attitudes.len());
+    if room < n {
+        return layout::refuse(Code::NoRoom, 0);
     }
+    fill(file, pings, thresholds, attitudes);
+    Ok(Counts {
+        tuples: counts.tuples,
+        written: n,
+        compared: counts.compared,
+    })
 }

@@ -1,19 +1,19 @@
 -- Made from views/records.txt by views/make.
 -- Signature, type 65535: TR Table 18. Its identifier is no field: 44204 and 44201 are read, and 44204 is written. Assumes
 -- nothing.
-use Rattle.std.specs.Prelude.{◌≡◌, refl, Bool, List, [], ◌∷◌, ℕ, ℤ, pos}
+use Rattle.std.specs.Prelude.{◌≡◌, refl, Bool, List, [], ◌∷◌, ℕ, ℤ, pos, Result, Ok, Err}
 use Rattle.std.proofs.Common.{sym, ◌∙◌}
-use Rattle.layout.specs.declared.Answer.{Answer}
-use Rattle.layout.specs.declared.Answer.TheVariants.{Accepted}
-use Rattle.layout.specs.declared.Answer.TheVariants as answer
+use Rattle.layout.specs.declared.Refusal.{Refusal}
+use Rattle.layout.specs.Code.{number}
+use Rattle.layout.specs.Answer.{Answer, Accepted}
+use Rattle.layout.specs.Answer as answer
 use Rattle.layout.specs.Answers.{numbers, Tells, accepting}
 use Rattle.tuples.specs.Readers.{only, read_answer, row_of}
 use Rattle.tuples.specs.Writers.{Written, plain_bytes}
 use Rattle.rows.specs.Writers.{row_values}
 use Rattle.rows.specs.Integers.{signed_at, unsigned_at, patterns, row_integers, Typed}
 use Rattle.signature.specs.declared.Signature.{Signature}
-use Rattle.signature.specs.declared.SignatureRead.{SignatureRead}
-use Rattle.signature.specs.declared.SignatureRead.TheVariants.{Read, Refused}
+use Rattle.signature.specs.SignatureRead.{SignatureRead, Read, Refused}
 
 -- the integers of the row under the fields' names
 abbrev pub signature_of : List ℤ → Signature
@@ -42,7 +42,12 @@ signature_inverse r = refl
 abbrev pub SignatureTyped : Signature → Type 0
 SignatureTyped r = Typed (row_of 65535 0) (signature_integers r)
 
--- ---- reading: 01's answer in each case
+-- ---- reading: what the code gives, in these words
+abbrev pub as_read : Result Signature Refusal → SignatureRead
+as_read (Ok r) = Read r
+as_read (Err r) = Refused (number r.code) r.place
+
+-- 01's answer in each case
 abbrev pub answer_of : SignatureRead → Answer
 answer_of (Read r) = accepting 1 0
 answer_of (Refused c p) = answer.Refused c p

@@ -1,15 +1,15 @@
 // Made from views/records.txt by views/make.
 // Signature, type 65535: TR Table 18. Its identifier is no field: 44204 and 44201 are read, and 44204 is written.
-#![tactic(auto)]
+#![tactic(auto, unfolding(layout::specs::Types::listings, layout::specs::Types::among, layout::specs::Types::listing_of))]
 
 ghost use Rattle.std.specs.Prelude.{◌≡◌};
 ghost use Rattle.tuples.specs.Readers.{row_of};
 ghost use Rattle.rows.specs.Integers.{integers_from, patterns};
 ghost use Rattle.rows.specs.Places.{places_of};
-ghost use Rattle.signature.specs.Signature.{signature_of, signature_integers, SignatureAt, SignatureWritten};
+ghost use Rattle.layout.specs.Views.{as_answer};
+ghost use Rattle.signature.specs.Signature.{signature_of, signature_integers, SignatureAt, SignatureWritten, as_read};
 
-use layout::{Answer, types};
-use rows::RowRead;
+use layout::{Answer, Refusal, types};
 
 #[derive(Clone, Copy)]
 pub struct Signature {
@@ -20,11 +20,7 @@ pub struct Signature {
 }
 
 // What reading gives: the record, or a refusal.
-#[derive(Clone, Copy)]
-pub enum SignatureRead {
-    Read(Signature),
-    Refused { code: u8, place: usize },
-}
+pub type SignatureRead = Result<Signature, Refusal>;
 
 impl Signature {
     pub const CODE: u16 = types::SIGNATURE;
@@ -106,18 +102,16 @@ impl Signature {
 
     // Reads the tuple at a place of a file.
     pub fn read(file: &[u8], place: usize) -> SignatureRead
-        ensures { SignatureAt file.now place result }
+        ensures { SignatureAt file.now place (as_read result) }
     {
         let mut numbers = [0u32; 4];
-        match rows::read_row(file, place, Signature::CODE, &mut numbers) {
-            RowRead::Refused { code, place } => SignatureRead::Refused { code, place },
-            RowRead::Read { text: _ } => SignatureRead::Read(Signature::of(numbers)),
-        }
+        rows::read_row(file, place, Signature::CODE, &mut numbers)?;
+        Ok(Signature::of(numbers))
     }
 
     // Writes the tuple; 19 alone refuses it.
     pub fn write(self, msb: bool, out: &mut [u8]) -> Answer
-        ensures { SignatureWritten msb self out.old result out.new }
+        ensures { SignatureWritten msb self out.old (as_answer result) out.new }
     {
         rows::write_row(Signature::CODE, &self.numbers(), &[], msb, out)
     }

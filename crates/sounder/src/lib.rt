@@ -1,16 +1,16 @@
 // Made from views/records.txt by views/make.
 // Sounder, type 100: TR Table 2. An echosounder, of Biosonics. Its remarks, 30 characters, stand beside it; to write others is
 // refused by 9 at 0.
-#![tactic(auto)]
+#![tactic(auto, unfolding(layout::specs::Types::listings, layout::specs::Types::among, layout::specs::Types::listing_of))]
 
 ghost use Rattle.std.specs.Prelude.{◌≡◌};
 ghost use Rattle.tuples.specs.Readers.{row_of};
 ghost use Rattle.rows.specs.Integers.{integers_from, patterns};
 ghost use Rattle.rows.specs.Places.{places_of};
-ghost use Rattle.sounder.specs.Sounder.{sounder_of, sounder_integers, SounderAt, SounderWritten};
+ghost use Rattle.layout.specs.Views.{as_answer};
+ghost use Rattle.sounder.specs.Sounder.{sounder_of, sounder_integers, SounderAt, SounderWritten, as_read};
 
-use layout::{Answer, DocumentId, types};
-use rows::RowRead;
+use layout::{Answer, DocumentId, Refusal, types};
 use tuples::Part;
 
 #[derive(Clone, Copy)]
@@ -31,11 +31,7 @@ pub struct Sounder {
 }
 
 // What reading gives: the record and the place of its remarks, or a refusal.
-#[derive(Clone, Copy)]
-pub enum SounderRead {
-    Read { record: Sounder, remarks: Part },
-    Refused { code: u8, place: usize },
-}
+pub type SounderRead = Result<(Sounder, Part), Refusal>;
 
 impl Sounder {
     pub const CODE: u16 = types::SOUNDER;
@@ -189,21 +185,16 @@ impl Sounder {
 
     // Reads the tuple at a place of a file.
     pub fn read(file: &[u8], place: usize) -> SounderRead
-        ensures { SounderAt file.now place result }
+        ensures { SounderAt file.now place (as_read result) }
     {
         let mut numbers = [0u32; 13];
-        match rows::read_row(file, place, Sounder::CODE, &mut numbers) {
-            RowRead::Refused { code, place } => SounderRead::Refused { code, place },
-            RowRead::Read { text } => SounderRead::Read {
-                record: Sounder::of(numbers),
-                remarks: text,
-            },
-        }
+        let remarks = rows::read_row(file, place, Sounder::CODE, &mut numbers)?;
+        Ok((Sounder::of(numbers), remarks))
     }
 
     // Writes the tuple; 9 unless there are 30 characters of remarks, then 19.
     pub fn write(self, remarks: &[u8], msb: bool, out: &mut [u8]) -> Answer
-        ensures { SounderWritten msb self remarks.now out.old result out.new }
+        ensures { SounderWritten msb self remarks.now out.old (as_answer result) out.new }
     {
         rows::write_row(Sounder::CODE, &self.numbers(), remarks, msb, out)
     }

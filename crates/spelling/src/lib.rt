@@ -3,4 +3,5 @@
 
 pub mod lsb;
 pub mod packing;
+pub mod words;
 pub mod write;

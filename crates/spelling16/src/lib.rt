@@ -4,4 +4,5 @@
 pub mod lsb;
 pub mod packing;
 pub mod plain;
+mod words;
 pub mod write;

@@ -1,6 +1,6 @@
 // Writing the samples of a C-16 or a CE-16 ping, numbers and values handed over apart, in the fewest words. What the writers ask of them
 // first.
-ghost use Rattle.std.specs.Prelude.{◌≡◌, ◌+◌, ◌*◌, ◌^◌, ◌<◌, ◌≤◌, length};
+ghost use Rattle.std.specs.Prelude.{◌≡◌, ◌+◌, ◌*◌, ◌^◌, ◌≤◌, length};
 ghost use Rattle.std.proofs.lemmas.List.Edits.{sets};
 ghost use Rattle.layout.specs.Families.{narrow, encoded};
 ghost use Rattle.order.specs.Order.{pattern_of};
@@ -8,20 +8,19 @@ ghost use Rattle.samples.specs.Words.{unwords};
 ghost use Rattle.samples.specs.Lists.{paired};
 ghost use Rattle.samples.specs.Values.{code_of, shortened, wordless};
 ghost use Rattle.samples.specs.inner.Lists.{numbered, valued, worded};
-ghost use Rattle.samples.specs.Runs.{gap, encode_from};
+ghost use Rattle.samples.specs.Runs.{encode_from};
 ghost use Rattle.samples.specs.Judging.{first_drop, first_wordless};
 
-use samples16::{RUN_SAMPLES, SHORTEST_RUN, WORD};
+use crate::words::Narrow;
+use spelling::write::Handed;
 
-// The samples of the longest run, and its word.
-const FULL: usize = RUN_SAMPLES as usize;
-
-const FULL_RUN_WORD: u16 = 0xffff;
-
-// A CE-16 word: what thirteen bits can't hold any more, one in the exponent, and the sign; the least pattern of a negative count.
+// A CE-16 word: what thirteen bits can't hold any more, one in the exponent, how often a magnitude is halved at most, and the sign; the
+// least pattern of a negative count.
 const THIRTEEN_BITS: u32 = 8192;
 
 const EXPONENT: u32 = 4096;
+
+const HALVINGS: u32 = 6;
 
 const MINUS: u32 = 32768;
 
@@ -30,19 +29,49 @@ const LEAST_NEGATIVE: u32 = 0x8000_0000;
 // The longest word.
 const MOST_WORD: u32 = 0xffff;
 
+impl Handed for Narrow {
+    ghost kind = { narrow };
+
+    type Value = i16;
+
+    ghost number = { λ z. z };
+
+    fn word(value: i16) -> u32 {
+        u32::from(order::pattern2(value))
+    }
+}
+
+// The values of a CE-16 ping, which are counts.
+struct Counts;
+
+impl Handed for Counts {
+    ghost kind = { encoded };
+
+    type Value = i32;
+
+    ghost number = { λ z. z };
+
+    fn word(count: i32) -> u32 {
+        code_of(order::pattern4(count))
+    }
+}
+
+// Whether a value has no C-16 word.
+fn is_wordless(value: i16) -> bool
+    ensures { result ≡ wordless narrow (pattern_of 2 value) }
+{
+    let word = order::pattern2(value);
+    samples16::is_run(word) | samples16::is_bad(word, samples16::MOST_BAD)
+}
+
 // The place of the first value that has no C-16 word; as many as there are where all have one.
 pub fn first_wordless(values: &[i16]) -> usize
     ensures { result ≡ first_wordless narrow (valued 2 values.now) }
 {
-    let mut i: usize = 0;
-    while i < values.len() {
-        let word = order::pattern2(values[i]);
-        if samples16::is_run(word) | samples16::is_bad(word, samples16::MOST_BAD) {
-            return i;
-        }
-        i += 1;
-    }
-    i
+    values
+        .iter()
+        .position(|value| is_wordless(*value))
+        .unwrap_or(values.len())
 }
 
 // A magnitude's word: it is halved until thirteen bits hold it, at most six times. That of one past the limits may be longer than two
@@ -53,14 +82,12 @@ fn shorten(value: u32) -> u32
 {
     let mut rest = value;
     let mut code: u32 = 0;
-    let mut halvings: u32 = 6;
-    while 0 < halvings {
+    for _ in 0..HALVINGS {
         if rest < THIRTEEN_BITS {
             return code + rest;
         }
-        rest = rest / 2;
+        rest /= 2;
         code += EXPONENT;
-        halvings -= 1;
     }
     code + rest
 }
@@ -94,23 +121,10 @@ fn is_codeless(count: i32) -> bool
 pub fn first_codeless(counts: &[i32]) -> usize
     ensures { result ≡ first_wordless encoded (valued 4 counts.now) }
 {
-    let mut i: usize = 0;
-    while i < counts.len() {
-        if is_codeless(counts[i]) {
-            return i;
-        }
-        i += 1;
-    }
-    i
-}
-
-// How many runs a gap of samples below threshold takes: as many as cover it.
-pub fn runs(quiet: usize) -> usize
-    requires { quiet ≤ 2 ^ 32 }
-    ensures value { result ≡ length (gap 256 quiet) }
-    ensures upper_bound { result ≤ quiet }
-{
-    (quiet + (FULL - 1)) / FULL
+    counts
+        .iter()
+        .position(|count| is_codeless(*count))
+        .unwrap_or(counts.len())
 }
 
 // How many the fewest words of samples with these numbers are, with so many quiet samples behind the last.
@@ -120,38 +134,7 @@ pub fn count_words(numbers: &[u32], quiet: usize) -> usize
     ensures value { result ≡ length (encode_from 256 0 (numbered numbers.now) quiet) }
     ensures upper_bound { result ≤ 2 ^ 33 }
 {
-    let mut count: usize = 0;
-    let mut next: usize = 0;
-    let mut i: usize = 0;
-    while i < numbers.len() {
-        let number = spelling::write::wide(numbers[i]);
-        // the runs of its gap, and the value one word
-        count += runs(number - next) + 1;
-        next = number + 1;
-        i += 1;
-    }
-    count + runs(quiet)
-}
-
-// The words of a gap of samples below threshold, full runs first and the remainder last; the place behind them.
-pub fn write_gap(out: &mut [u8], at: usize, msb: bool, quiet: usize) -> usize
-    requires { at + 2 * length (gap 256 quiet) ≤ length out.old }
-    ensures value { result ≡ at + 2 * length (gap 256 quiet) }
-    ensures out_after { out.new ≡ sets out.old at (unwords 2 msb (gap 256 quiet)) }
-{
-    let mut to = at;
-    let mut left = quiet;
-    while FULL <= left {
-        order::store2(out, to, msb, FULL_RUN_WORD);
-        to += WORD;
-        left -= FULL;
-    }
-    if left == 0 {
-        return to;
-    }
-    // a run's lower half is its length less 1
-    order::store2(out, to, msb, SHORTEST_RUN + (left - 1) as u16);
-    to + WORD
+    spelling::write::count::<Narrow>(numbers, quiet)
 }
 
 // The fewest words of a C-16 ping's samples: each value behind its gap, and so many quiet samples behind the last. The place behind them.
@@ -170,18 +153,7 @@ pub fn write_words(
     ensures out_after { out.new ≡ sets out.old at
         (unwords 2 msb (encode_from 256 0 (worded narrow numbers.now values.now) quiet)) }
 {
-    let mut to = at;
-    let mut next: usize = 0;
-    let mut i: usize = 0;
-    while i < numbers.len() {
-        let number = spelling::write::wide(numbers[i]);
-        let behind = write_gap(out, to, msb, number - next);
-        order::store2(out, behind, msb, order::pattern2(values[i]));
-        to = behind + WORD;
-        next = number + 1;
-        i += 1;
-    }
-    write_gap(out, to, msb, quiet)
+    spelling::write::write::<Narrow, Narrow>(numbers, values, quiet, msb, out, at)
 }
 
 // The same of a CE-16 ping's counts, each of which has a word.
@@ -201,16 +173,5 @@ pub fn write_codes(
     ensures out_after { out.new ≡ sets out.old at
         (unwords 2 msb (encode_from 256 0 (worded encoded numbers.now counts.now) quiet)) }
 {
-    let mut to = at;
-    let mut next: usize = 0;
-    let mut i: usize = 0;
-    while i < numbers.len() {
-        let number = spelling::write::wide(numbers[i]);
-        let behind = write_gap(out, to, msb, number - next);
-        order::store2(out, behind, msb, code_of(order::pattern4(counts[i])) as u16);
-        to = behind + WORD;
-        next = number + 1;
-        i += 1;
-    }
-    write_gap(out, to, msb, quiet)
+    spelling::write::write::<Narrow, Counts>(numbers, counts, quiet, msb, out, at)
 }

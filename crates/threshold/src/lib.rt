@@ -1,15 +1,15 @@
 // Made from views/records.txt by views/make.
 // Threshold, type 10100: TR Table 8.
-#![tactic(auto)]
+#![tactic(auto, unfolding(layout::specs::Types::listings, layout::specs::Types::among, layout::specs::Types::listing_of))]
 
 ghost use Rattle.std.specs.Prelude.{◌≡◌};
 ghost use Rattle.tuples.specs.Readers.{row_of};
 ghost use Rattle.rows.specs.Integers.{integers_from, patterns};
 ghost use Rattle.rows.specs.Places.{places_of};
-ghost use Rattle.threshold.specs.Threshold.{threshold_of, threshold_integers, ThresholdAt, ThresholdWritten};
+ghost use Rattle.layout.specs.Views.{as_answer};
+ghost use Rattle.threshold.specs.Threshold.{threshold_of, threshold_integers, ThresholdAt, ThresholdWritten, as_read};
 
-use layout::{Answer, SoftwareChannel, types};
-use rows::RowRead;
+use layout::{Answer, Refusal, SoftwareChannel, types};
 
 #[derive(Clone, Copy)]
 pub struct Threshold {
@@ -28,11 +28,7 @@ pub struct Threshold {
 }
 
 // What reading gives: the record, or a refusal.
-#[derive(Clone, Copy)]
-pub enum ThresholdRead {
-    Read(Threshold),
-    Refused { code: u8, place: usize },
-}
+pub type ThresholdRead = Result<Threshold, Refusal>;
 
 impl Threshold {
     pub const CODE: u16 = types::THRESHOLD;
@@ -175,18 +171,16 @@ impl Threshold {
 
     // Reads the tuple at a place of a file.
     pub fn read(file: &[u8], place: usize) -> ThresholdRead
-        ensures { ThresholdAt file.now place result }
+        ensures { ThresholdAt file.now place (as_read result) }
     {
         let mut numbers = [0u32; 12];
-        match rows::read_row(file, place, Threshold::CODE, &mut numbers) {
-            RowRead::Refused { code, place } => ThresholdRead::Refused { code, place },
-            RowRead::Read { text: _ } => ThresholdRead::Read(Threshold::of(numbers)),
-        }
+        rows::read_row(file, place, Threshold::CODE, &mut numbers)?;
+        Ok(Threshold::of(numbers))
     }
 
     // Writes the tuple; 19 alone refuses it.
     pub fn write(self, msb: bool, out: &mut [u8]) -> Answer
-        ensures { ThresholdWritten msb self out.old result out.new }
+        ensures { ThresholdWritten msb self out.old (as_answer result) out.new }
     {
         rows::write_row(Threshold::CODE, &self.numbers(), &[], msb, out)
     }

@@ -9,13 +9,13 @@ use lib.Dec.{eqb, leb}
 use lib.ListN.{length, drop}
 use Rattle.rules.specs.Rules.{Rule, ◌⇒◌, first_of, saying, AllPass}
 use Rattle.rules.proofs.Laws.{Silent, clear}
-use Rattle.layout.specs.declared.Answer.TheVariants.{Refused}
+use Rattle.layout.specs.Answer.{Refused}
 use Rattle.layout.proofs.Verdicts.{passed, near_fault}
-use Rattle.layout.specs.declared.Verdict.TheVariants.{Fine, Fault}
+use Rattle.layout.specs.Verdict.{Fine, Fault}
 use Rattle.frame.specs.declared.Walk.{Walk}
-use Rattle.frame.specs.declared.Step.{Step}
-use Rattle.frame.specs.declared.Step.TheVariants.{End}
-use Rattle.frame.specs.declared.Step.TheVariants as step
+use Rattle.frame.specs.Step.{Step}
+use Rattle.frame.specs.Step.{End}
+use Rattle.frame.specs.Step as step
 use Rattle.frame.specs.Frames.{allowed}
 use Rattle.frame.specs.Files.{limit, is_msb}
 use Rattle.frame.specs.Steps.{step_forward}

@@ -14,8 +14,8 @@ use Rattle.rules.specs.Rules.First.{none, here, pass}
 use Rattle.rules.proofs.Laws.{first_eq}
 use Rattle.order.specs.Order.{bytes_of}
 use Rattle.order.proofs.Laws.{length_bytes_of}
-use Rattle.layout.specs.declared.Answer.{Answer}
-use Rattle.layout.specs.declared.Answer.TheVariants.{Refused}
+use Rattle.layout.specs.Answer.{Answer}
+use Rattle.layout.specs.Answer.{Refused}
 use Rattle.layout.specs.Fields.{Field, num, txt, gap, ident, s, size}
 use Rattle.layout.specs.Types.{Shape, indexed, row, uncompressed, compressed, unlisted, shape_of}
 use Rattle.layout.specs.inner.Codes.{place_in, rowed, fields_in, fields_of, row_codes}

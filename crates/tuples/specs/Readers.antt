@@ -2,15 +2,15 @@
 use Rattle.std.specs.Prelude.{ℕ, ◌-◌, Bool, true, false, not, ◌&&◌, List, [], ◌∷◌, ◌++◌, eqb, drop}
 use Rattle.std.proofs.Math.Option.{Option, some, none}
 use Rattle.rules.specs.Rules.{Rule, ◌⇒◌, first_of, saying}
-use Rattle.layout.specs.declared.Answer.{Answer}
-use Rattle.layout.specs.declared.Answer.TheVariants.{Refused}
+use Rattle.layout.specs.Answer.{Answer}
+use Rattle.layout.specs.Answer.{Refused}
 use Rattle.layout.specs.Fields.{Field}
 use Rattle.layout.specs.Families.{value_count}
 use Rattle.layout.specs.Types.{Shape, indexed, row, uncompressed, compressed, unlisted, shape_of}
 use Rattle.layout.specs.Answers.{Breach, ◌byte◌, refused_at, accepting}
-use Rattle.frame.specs.declared.Step.{Step}
-use Rattle.frame.specs.declared.Step.TheVariants.{Tuple, End}
-use Rattle.frame.specs.declared.Step.TheVariants
+use Rattle.frame.specs.Step.{Step}
+use Rattle.frame.specs.Step.{Tuple, End}
+use Rattle.frame.specs.Step
 use Rattle.frame.specs.Frames.{Tup, tup_at}
 use Rattle.frame.specs.Files.{is_msb}
 use Rattle.frame.specs.Steps.{step_forward}
@@ -29,7 +29,7 @@ own_rules asked o t = (not (asked t.kind) ⇒ 9 byte 0) ∷ head_rules o t ++ in
 abbrev pub read_by : (ℕ → Bool) → List ℕ → ℕ → Step → Answer
 read_by asked f p (Tuple at n k w) = first_of (saying (refused_at p) (own_rules asked (is_msb f) (tuple_there f p))) (accepting 1 0)
 read_by asked f p End = Refused 3 p
-read_by asked f p (TheVariants.Refused c q) = Refused c q
+read_by asked f p (Step.Refused c q) = Refused c q
 
 unfoldable pub read_answer : (ℕ → Bool) → List ℕ → ℕ → Answer
 read_answer asked f p = read_by asked f p (step_forward f p)

@@ -2,8 +2,8 @@
 use Rattle.std.specs.Prelude.{◌≡◌, ℕ, Bool, List, [], ◌∷◌, ◌++◌, ltb, length}
 use Rattle.std.proofs.Common.{sym, ◌∙◌}
 use Rattle.rules.specs.Rules.{Rule, ◌⇒◌, first_of}
-use Rattle.layout.specs.declared.Answer.{Answer}
-use Rattle.layout.specs.declared.Answer.TheVariants.{Refused}
+use Rattle.layout.specs.Answer.{Answer}
+use Rattle.layout.specs.Answer.{Refused}
 use Rattle.layout.specs.Answers.{numbers, Tells, left_by, accepting}
 use Rattle.frame.specs.Frames.{Tup, length_of, frame}
 use Rattle.turning.specs.Rows.{Value}

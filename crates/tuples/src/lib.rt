@@ -4,6 +4,7 @@
 ghost use Rattle.std.specs.Prelude.{◌≡◌, Bool, [], ℕ, ◌+◌, ◌-◌, ◌^◌, ◌≤◌, ◌<◌, length, take, drop};
 ghost use Rattle.std.proofs.lemmas.List.Edits.{sets};
 ghost use Rattle.order.specs.Order.{num_of, signed_of, pattern_of};
+ghost use Rattle.layout.specs.Views.{as_answer};
 ghost use Rattle.layout.specs.Types.{shape_of};
 ghost use Rattle.layout.specs.Types.{is_ping};
 ghost use Rattle.tuples.specs.Readers.{is_record, records_of, is_valued, is_angled};
@@ -12,14 +13,16 @@ ghost use Rattle.tuples.specs.inner.Opening.{FoundTuple, FoundAs, OpenedAs};
 ghost use Rattle.tuples.specs.Writers.{Written, plain_bytes};
 ghost use Rattle.tuples.specs.inner.Framing.{handed_values, Handable};
 
-use frame::{DATA, Step, TAIL, Walk};
-use layout::{Answer, Verdict, codes, types};
+use frame::{DATA, TAIL, Walk};
+use layout::codes::Code;
+use layout::{Answer, Refusal, types};
 
-// What a reader finds: a tuple that it asks for and that keeps its own rules, or its refusal.
+// A tuple that a reader finds: the file's byte order, its length and its type.
 #[derive(Clone, Copy)]
-pub enum Opened {
-    Tuple { msb: bool, whole: usize, code: u16 },
-    Refused { code: u8, place: usize },
+pub struct Opened {
+    pub msb: bool,
+    pub whole: usize,
+    pub code: u16,
 }
 
 // Where characters stand in the file that was read.
@@ -30,46 +33,31 @@ pub struct Part {
 }
 
 // Finds the tuple at a place, whatever its type: a forward step's refusals, 3 at the end.
-fn find(file: &[u8], place: usize) -> Opened
+fn find(file: &[u8], place: usize) -> Result<Opened, Refusal>
     ensures { FoundAs file.now place result }
 {
     let walk = Walk { at: place };
-    match walk.forward(file) {
-        Step::Tuple {
-            place: _,
-            length,
-            kind,
-            next: _,
-        } => Opened::Tuple {
+    match walk.forward(file)? {
+        Some(tuple) => Ok(Opened {
             msb: frame::is_msb(file),
-            whole: length,
-            code: kind,
-        },
-        Step::End => Opened::Refused {
-            code: codes::CUT_SHORT,
-            place,
-        },
-        Step::Refused { code, place } => Opened::Refused { code, place },
+            whole: tuple.length,
+            code: tuple.kind,
+        }),
+        None => layout::refuse(Code::CutShort, place),
     }
 }
 
 // Opens the tuple that was found: 9 for a type not asked for, then its own rules.
-fn open_found(file: &[u8], place: usize, msb: bool, whole: usize, code: u16, asked: bool) -> Opened
-    requires { FoundTuple file.now place msb whole code }
-    ensures { (asks : ℕ → Bool) → asks code ≡ asked → OpenedAs asks file.now place result }
+fn open_found(file: &[u8], place: usize, found: Opened, asked: bool) -> Result<Opened, Refusal>
+    requires { FoundTuple file.now place found.msb found.whole found.code }
+    ensures { (asks : ℕ → Bool) → asks found.code ≡ asked → OpenedAs asks file.now place result }
 {
     if !asked {
-        return Opened::Refused {
-            code: codes::UNFIT,
-            place,
-        };
+        return layout::refuse(Code::Unfit, place);
     }
-    match intake::judge_own(file, place, msb, whole, code) {
-        Verdict::Fault { code, offset } => {
-            let at = place + offset;
-            Opened::Refused { code, place: at }
-        }
-        Verdict::Fine => Opened::Tuple { msb, whole, code },
+    match intake::judge_own(file, place, found.msb, found.whole, found.code) {
+        Err(flaw) => Err(flaw.at(place)),
+        Ok(()) => Ok(found),
     }
 }
 
@@ -94,27 +82,19 @@ fn asks_record(asked: u16, code: u16) -> bool
 }
 
 // Opens the tuple at a place for a reader of the records of one type: 9 for every tuple, where the type is no record's.
-pub fn open_record(file: &[u8], place: usize, asked: u16) -> Opened
+pub fn open_record(file: &[u8], place: usize, asked: u16) -> Result<Opened, Refusal>
     ensures { OpenedAs (records_of asked) file.now place result }
 {
-    match find(file, place) {
-        Opened::Refused { code, place } => Opened::Refused { code, place },
-        Opened::Tuple { msb, whole, code } => {
-            open_found(file, place, msb, whole, code, asks_record(asked, code))
-        }
-    }
+    let found = find(file, place)?;
+    open_found(file, place, found, asks_record(asked, found.code))
 }
 
 // Opens the tuple at a place for a reader of listed pings, of any type.
-pub fn open_ping(file: &[u8], place: usize) -> Opened
+pub fn open_ping(file: &[u8], place: usize) -> Result<Opened, Refusal>
     ensures { OpenedAs is_ping file.now place result }
 {
-    match find(file, place) {
-        Opened::Refused { code, place } => Opened::Refused { code, place },
-        Opened::Tuple { msb, whole, code } => {
-            open_found(file, place, msb, whole, code, intake::is_ping(code))
-        }
-    }
+    let found = find(file, place)?;
+    open_found(file, place, found, intake::is_ping(found.code))
 }
 
 // Whether a type is that of a listed ping whose samples have a value each.
@@ -143,27 +123,19 @@ fn is_angled(code: u16) -> bool
 }
 
 // Opens the tuple at a place for a reader of samples.
-pub fn open_valued(file: &[u8], place: usize) -> Opened
+pub fn open_valued(file: &[u8], place: usize) -> Result<Opened, Refusal>
     ensures { OpenedAs is_valued file.now place result }
 {
-    match find(file, place) {
-        Opened::Refused { code, place } => Opened::Refused { code, place },
-        Opened::Tuple { msb, whole, code } => {
-            open_found(file, place, msb, whole, code, is_valued(code))
-        }
-    }
+    let found = find(file, place)?;
+    open_found(file, place, found, is_valued(found.code))
 }
 
 // Opens the tuple at a place for a reader of angles.
-pub fn open_angled(file: &[u8], place: usize) -> Opened
+pub fn open_angled(file: &[u8], place: usize) -> Result<Opened, Refusal>
     ensures { OpenedAs is_angled file.now place result }
 {
-    match find(file, place) {
-        Opened::Refused { code, place } => Opened::Refused { code, place },
-        Opened::Tuple { msb, whole, code } => {
-            open_found(file, place, msb, whole, code, is_angled(code))
-        }
-    }
+    let found = find(file, place)?;
+    open_found(file, place, found, is_angled(found.code))
 }
 
 // A signed number of four bytes.
@@ -220,10 +192,10 @@ pub fn write_tuple(
     requires { Handable (shape_of code) numbers.now remark.now behind.now whole }
     ensures { Written [] (plain_bytes msb code
         (handed_values (shape_of code) numbers.now remark.now behind.now (pattern_of 4 attribute)))
-        out.old result out.new }
+        out.old (as_answer result) out.new }
 {
     if out.len() < whole {
-        return layout::refuse(codes::NO_ROOM, 0);
+        return layout::refuse(Code::NoRoom, 0);
     }
     put_tuple(code, whole, numbers, remark, behind, attribute, msb, out);
     layout::accept(1, whole)

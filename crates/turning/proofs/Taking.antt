@@ -7,27 +7,20 @@ use mathlib.Core.Option.{Option, some, none}
 use Prim.Native.Nat.{ℕ, ◌+◌, ◌<◌, ◌≤◌, zero-le}
 use native.Mathlib.Omega.{arith}
 use lib.Dec.{eqb}
-use lib.ListN.{length, get_or, take, drop, set, length-append}
+use lib.ListN.{length, get_or, drop, length-append}
 use lib.Seq.{sets, length-sets, drop-drop}
-use Rattle.order.specs.Order.{num_of}
 use Rattle.order.proofs.Stores.{sets_append}
 use Rattle.layout.specs.Fields.{Field, num, txt, gap, ident, width_of, size, takes, many}
 use Rattle.layout.specs.inner.Codes.{field_of, fields_from, fields_of}
 use Rattle.turning.specs.Rows.{values_of, numbers_in}
 use Rattle.turning.specs.inner.Codes.{code_width, code_takes, field_numbers, code_numbers}
-use Rattle.turning.proofs.Turned.{two, four, space_by, space-by, left, field-none, size_step, row-end}
+use Rattle.turning.proofs.Turned.{space_by, space-by, left, field-none, size_step, row-end}
 
 -- ---- what each arm of the code reads: the number of its codes, or none
 abbrev pub Took : Option Field → Bool → List ℕ → List ℕ → ℕ → ℕ → ℕ → List ℕ → Type 0
 Took x o bs ns next w n now = (now ≡ sets ns next (code_numbers o x bs)) × (((w ≡ code_width x) × (0 < w)) × (n ≡ code_takes x))
 
 module _ (k next : ℕ) (o : Bool) (bs ns : List ℕ) where
-  pub took2 : (k ≡ 50) ⊎ (k ≡ 115) → (m : ℕ) → m ≡ num_of o (take 2 bs) → Took (field_of k) o bs ns next 2 1 (set ns next m)
-  took2 a m e = rw (two a) (ap (set ns next) e, ((refl, omega arith), refl))
-
-  pub took4 : (k ≡ 52) ⊎ (k ≡ 83) → (m : ℕ) → m ≡ num_of o (take 4 bs) → Took (field_of k) o bs ns next 4 1 (set ns next m)
-  took4 a m e = rw (four a) (ap (set ns next) e, ((refl, omega arith), refl))
-
   pub took_text : k ≡ 99 → Took (field_of k) o bs ns next 30 0 ns
   unfolding field_of
   took_text a = rw a (refl, ((refl, omega arith), refl))

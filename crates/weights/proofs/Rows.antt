@@ -1,11 +1,10 @@
 -- The rows of sums: which has a kind's things that stand at a place. Assumes nothing.
-use mathlib.Core.Path.{◌≡◌, refl, sym, subst, ◌∙◌}
-use Prim.Native.Nat.{ℕ, zero, suc, ◌+◌, ◌*◌, ◌/◌, ◌%◌, ◌≤◌, ◌<◌}
+use mathlib.Core.Path.{◌≡◌, refl, sym}
+use Prim.Native.Nat.{ℕ, zero, suc, ◌+◌, ◌*◌, ◌/◌, ◌%◌, ◌<◌}
 use native.Mathlib.Omega.{arith}
 use lib.Dec.{lit<}
-use Rattle.weights.specs.declared.Kind.{Kind}
 use Rattle.weights.specs.declared.Kind.TheVariants.{C32, C16, CE16, Pairs, Shorts, Triples}
-use Rattle.weights.specs.inner.Rows.{rows, kind_at, base_at, RowOf}
+use Rattle.weights.specs.inner.Rows.{RowOf}
 
 pub row_c32 : (at : ℕ) → at % 4 ≡ 0 → RowOf C32 at 0
 row_c32 at h = record { there = lit< tt; kind = refl; base = sym h }

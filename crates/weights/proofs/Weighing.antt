@@ -16,7 +16,7 @@ use Rattle.samples.specs.inner.Narrow.{words_by}
 use Rattle.samples.proofs.Judging.{counts-one}
 use Rattle.weights.specs.declared.Kind.{Kind}
 use Rattle.weights.specs.declared.Kind.TheVariants.{C32, C16, CE16, Pairs, Shorts, Triples}
-use Rattle.weights.specs.inner.Weights.{weighed, word_weight, by_words, by_drops, weight_by, step_by, weight_at}
+use Rattle.weights.specs.inner.Weights.{weighed, Dropped, word_weight, by_words, by_drops, weight_by, step_by, weight_at}
 
 -- m of them, and n behind these
 pub weighed-parted : (w : List ℕ → ℕ) (s m n : ℕ) (bs : List ℕ)
@@ -89,6 +89,33 @@ pub drop-read : (f : Family) (o : Bool) (file : List ℕ) (p x y : ℕ) → x �
     → y ≡ num_of o (take (number_bytes f) (drop (p + sample_bytes f) file)) → bool_byte (leb y x) ≡ by_drops f o (drop p file)
 unfolding by_drops
 drop-read f o file p x y e g = rw (drop-drop (sample_bytes f) p file, e, g)
+
+-- numbers s bytes apart, as they are told at their places, and compared
+weighed-none : (w : List ℕ → ℕ) (s : ℕ) (bs : List ℕ) → weighed w s zero bs ≡ 0
+unfolding weighed
+weighed-none w s bs = refl
+
+weighed-last : (w : List ℕ → ℕ) (s n : ℕ) (bs : List ℕ) → weighed w s (suc n) bs ≡ weighed w s n bs + w (drop (s * n) bs)
+unfolding weighed
+weighed-last w s zero bs = let z : s * 0 ≡ 0 = omega arith in rw z (omega arith)
+weighed-last w s (suc n) bs =
+    let e : s * suc n ≡ s + s * n = omega arith in
+    let r = weighed-last w s n (drop s bs) in
+    rw (e, ← drop-drop (s * n) s bs) (omega (arith, r))
+
+pub dropped : (f : Family) (o : Bool) (s from : ℕ) (file : List ℕ) (R : ℕ → ℕ → Type 0) → sample_bytes f ≡ s → (n r : ℕ)
+    → ((i x : ℕ) → i ≤ n → R i x → x ≡ num_of o (take (number_bytes f) (drop (from + s * i) file)))
+    → Dropped R n r → r ≡ weighed (by_drops f o) s n (drop from file)
+unfolding Dropped
+dropped f o s from file R e zero r told d = d ∙ sym (weighed-none (by_drops f o) s (drop from file))
+dropped f o s from file R e (suc n) r told (x, y, t, p, q, before, is) =
+    let z : from + s * (n + 1) ≡ from + s * n + sample_bytes f = omega (arith, e) in
+    let here = drop-read f o file (from + s * n) x y (told n x (omega arith) p)
+    (told (n + 1) y (omega arith) q ∙ ap (λ (k : ℕ). num_of o (take (number_bytes f) (drop k file))) z) in
+    let rest = dropped f o s from file R e n t (λ i v l w. told i v (omega arith) w) before in
+    let last = weighed-last (by_drops f o) s n (drop from file) in
+    let at = ap (by_drops f o) (drop-drop (s * n) from file) in
+    omega arith
 
 -- both kinds of two bytes are read and told from runs alike
 pub narrow-read : (b o : Bool) (bs : List ℕ) (x : ℕ) → x ≡ num_of o (take 2 bs) → x ≡ num_of o (take (value_bytes (words_by b)) bs)

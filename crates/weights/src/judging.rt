@@ -12,7 +12,7 @@ ghost use Rattle.layout.specs.Answers.{is_fine};
 ghost use Rattle.weights.specs.inner.Judging.{family_by, Rising, narrow_by};
 
 use crate::{Kind, between, step_of};
-use layout::{Verdict, types};
+use layout::types;
 use samples::{COUNT, MOST, SAMPLES, WORDS};
 
 // The bytes of a ping beside its samples, and beside its words: those before them, its attribute and its backlink.
@@ -176,13 +176,11 @@ pub fn keeps_alone(file: &[u8], at: usize, msb: bool, sums: &[u64]) -> bool
     requires summed { Summed msb file.now sums.now }
     ensures { result ≡ is_fine (alone msb (drop at file.now)) }
 {
-    let Verdict::Fine = frame::judge_frame(file, at, msb) else {
+    if frame::judge_frame(file, at, msb).is_err() {
         return false;
-    };
+    }
     let whole = frame::length_at(file, at, msb);
     let code = frame::kind_at(file, at, msb);
-    match intake::judge_head(file, at, msb, whole, code, code == types::SIGNATURE) {
-        Verdict::Fault { code: _, offset: _ } => false,
-        Verdict::Fine => keeps_inner(file, at, msb, whole, code, sums),
-    }
+    intake::judge_head(file, at, msb, whole, code, code == types::SIGNATURE).is_ok()
+        && keeps_inner(file, at, msb, whole, code, sums)
 }

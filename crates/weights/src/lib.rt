@@ -29,16 +29,17 @@ const ENTRIES: usize = 1025;
 
 pub const SUMS: usize = ROWS * ENTRIES;
 
+// A block's bytes, of which a kind's things fill as many as they fit in whole.
+const BLOCK: usize = 16_384;
+
 // How far apart the things of a kind are, in bytes; how far beyond one that is weighed is looked at.
 fn step_of(kind: Kind) -> usize
     ensures { result ≡ step_by kind }
 {
     match kind {
-        Kind::C32 => 4,
-        Kind::C16 => 2,
-        Kind::CE16 => 2,
+        Kind::C32 | Kind::Shorts => 4,
+        Kind::C16 | Kind::CE16 => 2,
         Kind::Pairs => 8,
-        Kind::Shorts => 4,
         Kind::Triples => 6,
     }
 }
@@ -47,12 +48,8 @@ fn ahead_of(kind: Kind) -> usize
     ensures { result ≡ beyond_by kind }
 {
     match kind {
-        Kind::C32 => 0,
-        Kind::C16 => 0,
-        Kind::CE16 => 0,
-        Kind::Pairs => 8,
-        Kind::Shorts => 4,
-        Kind::Triples => 6,
+        Kind::C32 | Kind::C16 | Kind::CE16 => 0,
+        Kind::Pairs | Kind::Shorts | Kind::Triples => step_of(kind),
     }
 }
 
@@ -60,27 +57,13 @@ fn ahead_of(kind: Kind) -> usize
 fn block_of(kind: Kind) -> usize
     ensures { result ≡ block_by kind }
 {
-    match kind {
-        Kind::C32 => 4096,
-        Kind::C16 => 8192,
-        Kind::CE16 => 8192,
-        Kind::Pairs => 2048,
-        Kind::Shorts => 4096,
-        Kind::Triples => 2730,
-    }
+    BLOCK / step_of(kind)
 }
 
 fn bytes_of(kind: Kind) -> usize
     ensures { result ≡ span_by kind }
 {
-    match kind {
-        Kind::Triples => 16_380,
-        Kind::C32 => 16_384,
-        Kind::C16 => 16_384,
-        Kind::CE16 => 16_384,
-        Kind::Pairs => 16_384,
-        Kind::Shorts => 16_384,
-    }
+    step_of(kind) * block_of(kind)
 }
 
 // The row that has the sums of a kind whose things stand at a place and so many bytes apart.

@@ -1,8 +1,8 @@
 // What the words and the numbers of a block weigh: a loop for each width and step, which the compiler makes of many at once.
 ghost use Rattle.std.specs.Prelude.{◌≡◌, ◌+◌, ◌*◌, ◌≤◌, length, drop};
-ghost use Rattle.layout.specs.Families.{wide, narrow, narrow_angles};
+ghost use Rattle.layout.specs.Families.{wide};
 ghost use Rattle.samples.specs.inner.Narrow.{words_by};
-ghost use Rattle.weights.specs.inner.Weights.{weighed, by_words, by_drops, block_by, There, weight_at};
+ghost use Rattle.weights.specs.inner.Weights.{weighed, by_words, block_by, There, weight_at, Dropped};
 
 use crate::Kind;
 
@@ -17,14 +17,12 @@ fn words4(file: &[u8], msb: bool, from: usize, n: usize) -> u64
 {
     let mut values: u32 = 0;
     let mut bad: u32 = 0;
-    let mut i: usize = 0;
-    while i < n {
+    for i in 0..n {
         let word = order::read4(file, from + 4 * i, msb);
-        values += !samples::is_run(word) as u32;
-        bad += samples::is_bad(word) as u32;
-        i += 1;
+        values += u32::from(!samples::is_run(word));
+        bad += u32::from(samples::is_bad(word));
     }
-    values as u64 + HEAVY * bad as u64
+    u64::from(values) + HEAVY * u64::from(bad)
 }
 
 // n words of a C-16 or a CE-16 ping.
@@ -36,65 +34,25 @@ fn words2(file: &[u8], msb: bool, encoded: bool, from: usize, n: usize) -> u64
     let most = samples16::most_bad(encoded);
     let mut values: u16 = 0;
     let mut bad: u16 = 0;
-    let mut i: usize = 0;
-    while i < n {
+    for i in 0..n {
         let word = order::read2(file, from + 2 * i, msb);
-        values += !samples16::is_run(word) as u16;
-        bad += samples16::is_bad(word, most) as u16;
-        i += 1;
+        values += u16::from(!samples16::is_run(word));
+        bad += u16::from(samples16::is_bad(word, most));
     }
-    values as u64 + HEAVY * bad as u64
+    u64::from(values) + HEAVY * u64::from(bad)
 }
 
-// n samples every eight bytes, their numbers of four; one more is looked at.
-fn drops8(file: &[u8], msb: bool, from: usize, n: usize) -> u64
-    requires n_in_bounds { from + 8 * (n + 1) ≤ length file.now }
+// Of n numbers, those that the next isn't above; one more is looked at.
+fn drops<F: Fn(usize) -> u32>(n: usize, number: F) -> u64
     requires n_bound { n ≤ 8192 }
-    ensures { result ≡ weighed (by_drops wide msb) 8 n (drop from file.now) }
+    requires callable { (i : _) → i ≤ n → F.pre number i }
+    ensures { Dropped (F.post number) n result }
 {
     let mut drops: u32 = 0;
-    let mut i: usize = 0;
-    while i < n {
-        let number = order::read4(file, from + 8 * i, msb);
-        let next = order::read4(file, from + 8 * i + 8, msb);
-        drops += (next <= number) as u32;
-        i += 1;
+    for i in 0..n {
+        drops += u32::from(number(i + 1) <= number(i));
     }
-    drops as u64
-}
-
-// n samples every four bytes, their numbers of two.
-fn drops4(file: &[u8], msb: bool, from: usize, n: usize) -> u64
-    requires n_in_bounds { from + 4 * (n + 1) ≤ length file.now }
-    requires n_bound { n ≤ 8192 }
-    ensures { result ≡ weighed (by_drops narrow msb) 4 n (drop from file.now) }
-{
-    let mut drops: u32 = 0;
-    let mut i: usize = 0;
-    while i < n {
-        let number = order::front2(file, from + 4 * i, msb);
-        let next = order::front2(file, from + 4 * i + 4, msb);
-        drops += (next <= number) as u32;
-        i += 1;
-    }
-    drops as u64
-}
-
-// n samples every six bytes, their numbers of two.
-fn drops6(file: &[u8], msb: bool, from: usize, n: usize) -> u64
-    requires n_in_bounds { from + 6 * (n + 1) ≤ length file.now }
-    requires n_bound { n ≤ 8192 }
-    ensures { result ≡ weighed (by_drops narrow_angles msb) 6 n (drop from file.now) }
-{
-    let mut drops: u32 = 0;
-    let mut i: usize = 0;
-    while i < n {
-        let number = order::read2(file, from + 6 * i, msb);
-        let next = order::read2(file, from + 6 * i + 6, msb);
-        drops += (next <= number) as u32;
-        i += 1;
-    }
-    drops as u64
+    u64::from(drops)
 }
 
 // n of a kind, at most a block.
@@ -108,8 +66,8 @@ pub fn weigh(file: &[u8], msb: bool, kind: Kind, from: usize, n: usize) -> u64
         Kind::C32 => words4(file, msb, from, n),
         Kind::C16 => words2(file, msb, false, from, n),
         Kind::CE16 => words2(file, msb, true, from, n),
-        Kind::Pairs => drops8(file, msb, from, n),
-        Kind::Shorts => drops4(file, msb, from, n),
-        Kind::Triples => drops6(file, msb, from, n),
+        Kind::Pairs => drops(n, |i| order::read4(file, from + 8 * i, msb)),
+        Kind::Shorts => drops(n, |i| u32::from(order::front2(file, from + 4 * i, msb))),
+        Kind::Triples => drops(n, |i| u32::from(order::read2(file, from + 6 * i, msb))),
     }
 }

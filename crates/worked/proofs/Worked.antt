@@ -6,7 +6,7 @@ use mathlib.Core.List.{List, [], ◌∷◌, map}
 use Prim.Native.String.{String}
 use Rattle.layout.specs.Families.{is_bad}
 use Rattle.layout.specs.Types.{classes, in_class, listings, among, listing_of, is_ping}
-use Rattle.layout.specs.declared.Answer.TheVariants.{Accepted}
+use Rattle.layout.specs.Answer.{Accepted}
 use Rattle.layout.specs.Answers.{counting}
 use Rattle.frame.specs.Frames.{allowed, frame, size_at, kind_at, back_at, framing}
 use Rattle.frame.specs.Files.{mark, is_msb, marked}

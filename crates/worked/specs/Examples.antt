@@ -4,8 +4,8 @@ use Prim.Native.String.{String}
 use Rattle.order.specs.Order.{signed_of}
 use Rattle.layout.specs.Text.{ascii}
 use Rattle.layout.specs.Answers.{is_accepted}
-use Rattle.frame.specs.declared.Step.{Step}
-use Rattle.frame.specs.declared.Step.TheVariants.{Tuple, End, Refused}
+use Rattle.frame.specs.Step.{Step}
+use Rattle.frame.specs.Step.{Tuple, End, Refused}
 use Rattle.frame.specs.Steps.{step_forward, step_numbers}
 use Rattle.samples.specs.Runs.{radix, is_run, run_length}
 use Rattle.samples.specs.Values.{count_of}
@@ -13,9 +13,8 @@ use Rattle.samples.specs.Lists.{numbers_of, values_of}
 use Rattle.tuples.specs.Readers.{only, read_answer}
 use Rattle.rows.specs.Integers.{row_integers}
 use Rattle.navigation.specs.Navigation.{navigation_of, answered}
-use Rattle.navigation.specs.declared.NavigationRead.{NavigationRead}
-use Rattle.navigation.specs.declared.NavigationRead.TheVariants.{Read}
-use Rattle.navigation.specs.declared.NavigationRead.TheVariants as navigation
+use Rattle.navigation.specs.NavigationRead.{NavigationRead, Read}
+use Rattle.navigation.specs.NavigationRead as navigation
 use Rattle.pings.specs.Readers.{samples_at, sample_answer}
 use Rattle.hexlines.specs.Lines.{line, bytes_in, Input, input_of}
 use Rattle.hexlines.specs.Programs.{normal_file, normal_tuple}

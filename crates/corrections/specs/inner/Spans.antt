@@ -1,9 +1,9 @@
 -- What the code carries between its steps: a span of a file, and a part that lies in the file that it is from. Assumes nothing.
 use Rattle.std.specs.Prelude.{ℕ, ◌+◌, ◌≤◌, List, length}
-use Rattle.corrections.specs.declared.Found.{Found}
-use Rattle.corrections.specs.declared.Found.TheVariants.{Corrected, Deposited, Refused}
-use Rattle.corrections.specs.declared.Spot.{Spot}
-use Rattle.corrections.specs.declared.Spot.TheVariants.{At, Nowhere}
+use Rattle.corrections.specs.Found.{Found}
+use Rattle.corrections.specs.Found.{Corrected, Deposited, Refused}
+use Rattle.corrections.specs.Spot.{Spot}
+use Rattle.corrections.specs.Spot.{At, Nowhere}
 
 abbrev pub Inside : List ℕ → Spot → Type 0
 Inside f (At a m) = a + m ≤ length f

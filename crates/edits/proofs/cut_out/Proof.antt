@@ -8,6 +8,7 @@ use borrow.Author.Rules.{rules}
 use lib.ListN.{length, drop}
 use Rattle.order.specs.Order.{Bytes}
 use Rattle.order.proofs.Laws.{bytes_of_lem}
+use Rattle.layout.specs.Views.{as_answer}
 use Rattle.frame.specs.Frames.{len_at, length_of, frames}
 use Rattle.index.specs.Index.{before_end}
 use Rattle.edits.specs.inner.Parts.{Rewritten}
@@ -118,7 +119,7 @@ returns c =
     let k = i.before in
     let s = start k in
     let t = it k in
-    subst (λ (g : List ℕ). Rewritten g s.args.counts s.args.out.now r.rewrite.result r.rewrite.new.out)
+    subst (λ (g : List ℕ). Rewritten g s.args.counts s.args.out.now (as_answer r.rewrite.result) r.rewrite.new.out)
     (removed-result s.args.file.now (bytes k) s.args.counts s.requires.0 i.is_msb-msb.result i.is_msb-msb.ensures
     s.requires.1.0.between.passed
     t.tuple t.later t.all s.args.at s.requires.1.0.between.place _ (next-is l) _ (end_is e)

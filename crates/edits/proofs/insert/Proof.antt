@@ -7,6 +7,7 @@ use borrow.Author.Rules.{rules}
 use lib.ListN.{length}
 use Rattle.order.specs.Order.{Bytes}
 use Rattle.order.proofs.Laws.{bytes_of_lem}
+use Rattle.layout.specs.Views.{as_answer}
 use Rattle.frame.specs.Frames.{frames}
 use Rattle.frame.specs.Files.{is_msb}
 use Rattle.frame.specs.Tuples.{tuples_of}
@@ -71,7 +72,7 @@ returns c =
     let e = sought r.before in
     let i = ordered e in
     let s = start i.before in
-    subst (λ (g : List ℕ). Rewritten g s.args.counts s.args.out.now r.rewrite.result r.rewrite.new.out)
+    subst (λ (g : List ℕ). Rewritten g s.args.counts s.args.out.now (as_answer r.rewrite.result) r.rewrite.new.out)
     (inserted_result s.args.file.now (bytes i.before) _ s.requires.0 i.is_msb-msb.result i.is_msb-msb.ensures _ (end_is e) _)
     r.rewrite.ensures
 

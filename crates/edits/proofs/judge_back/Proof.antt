@@ -1,8 +1,10 @@
 -- `edits::judge_back` meets its contract: 7 where the index would stand first, else past it and over the last part. Assumes nothing.
+use mathlib.Core.Path.{ap}
 use native.Mathlib.Omega.{arith}
 use borrow.Author.Rules.{rules}
+use Rattle.layout.specs.Views.{as_answer}
+use Rattle.intake.specs.inner.Views.{as_turned}
 use Rattle.intake.specs.inner.Tallies.{tables}
-use Rattle.intake.proofs.Parts
 use Rattle.edits.proofs.Judging.{back-first, back_done, back_open, part_to}
 use Rattle.edits.proofs.judge_back.Statement.{statement}
 use Rattle.edits.proofs.judge_back.Tie as tie
@@ -17,7 +19,7 @@ passing c = c.before.before.before.before
 returns : tie.Need-returns-then-from-eq0
 returns c =
     let a = (start c.before.before).args in
-    rw c.refuse.ensures
+    rw (ap as_answer c.refuse.ensures)
     (back-first a.msb a.size.whole a.last.now a.size.index a.from (tables a.sounders.now a.channels.now)
     c.if-from-eq0.true)
 
@@ -36,24 +38,24 @@ judge-part-requires c κs =
           (arith, p.at, s.requires.1.0),
     )
 
-returns-2 : tie.Need-returns-in-On
+returns-2 : tie.Need-returns-in-Continue
 returns-2 c =
     let n = c.before in
     let j = n.before in
     let i = passing j in
     let a = (start i.before.before).args in
-    rw c.refuse-in-On.ensures
+    rw (ap as_answer c.refuse-in-Continue.ensures)
     (back_open a.msb a.size.whole a.last.now a.size.index a.from (tables a.sounders.now a.channels.now) _
-    i.pass_index-w.ensures _ _ (part_to a.msb a.size.whole a.last.now _ _ _ _ _ j.judge_part.ensures n.in-On.is))
+    i.pass_index-w.ensures _ _ (part_to a.msb a.size.whole a.last.now _ _ _ _ _ j.judge_part.ensures (ap as_turned n.in-Continue.is)))
 
-returns-3 : tie.Need-returns-in-Done
+returns-3 : tie.Need-returns-in-Break
 returns-3 c =
     let n = c in
     let j = n.before in
     let i = passing j in
     let a = (start i.before.before).args in
     back_done a.msb a.size.whole a.last.now a.size.index a.from (tables a.sounders.now a.channels.now) _
-    i.pass_index-w.ensures _ (part_to a.msb a.size.whole a.last.now _ _ _ _ _ j.judge_part.ensures n.in-Done.is)
+    i.pass_index-w.ensures _ (part_to a.msb a.size.whole a.last.now _ _ _ _ _ j.judge_part.ensures (ap as_turned n.in-Break.is))
 
 pub judge_back_spec : {M : Type 1} → statement M
 judge_back_spec =

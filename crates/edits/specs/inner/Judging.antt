@@ -1,14 +1,14 @@
 -- What judging a part of a result takes and hands back. Assumes nothing.
 use Rattle.std.specs.Prelude.{◌≡◌, ℕ, ◌+◌, Bool, true, false, List, [], ◌++◌, eqb, length}
-use Rattle.layout.specs.declared.Answer.{Answer}
+use Rattle.layout.specs.Answer.{Answer}
 use Rattle.layout.specs.Types
 use Rattle.layout.specs.Types.{in_class}
 use Rattle.frame.specs.Frames.{Tup, length_of, frame, Framed}
 use Rattle.links.specs.Links.{Steady, nothing}
 use Rattle.content.specs.Items.{digest}
 use Rattle.intake.specs.declared.Tally.{Tally}
-use Rattle.intake.specs.declared.Turned.{Turned}
-use Rattle.intake.specs.declared.Turned.TheVariants.{On, Done}
+use Rattle.intake.specs.inner.Turned.{Turned}
+use Rattle.intake.specs.inner.Turned.{On, Done}
 use Rattle.intake.specs.inner.Tallies.{Tables, Sized, course_of, Standing}
 use Rattle.edits.specs.Edits.{rest_in}
 use Rattle.edits.specs.inner.Parts.{kept_of}

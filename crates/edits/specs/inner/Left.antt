@@ -1,8 +1,8 @@
 -- The check of a file of which only its length is known and the bytes that are left: what the parts of a result are judged by, before
 -- they are written one behind the other. Assumes nothing.
 use Rattle.std.specs.Prelude.{ℕ, zero, suc, Bool, List, length, drop}
-use Rattle.layout.specs.declared.Answer.{Answer}
-use Rattle.layout.specs.declared.Answer.TheVariants.{Refused}
+use Rattle.layout.specs.Answer.{Answer}
+use Rattle.layout.specs.Answer.{Refused}
 use Rattle.frame.specs.Frames.{len_at}
 use Rattle.intake.specs.Check.{Course, stop, go, turn_on}
 

@@ -1,7 +1,7 @@
 -- A result in parts: two that stand before the index and one behind it, each cut out of the file or handed in. Assumes nothing.
 use Rattle.std.specs.Prelude.{◌≡◌, ℕ, ◌+◌, ◌≤◌, ◌<◌, Bool, true, false, cond, not, ◌&&◌, List, [], ◌++◌, eqb, length, drop}
 use Rattle.layout.specs.declared.Counts.{Counts}
-use Rattle.layout.specs.declared.Answer.{Answer}
+use Rattle.layout.specs.Answer.{Answer}
 use Rattle.layout.specs.Answers.{is_fine}
 use Rattle.layout.specs.Types
 use Rattle.layout.specs.Types.{in_class}

@@ -2,7 +2,7 @@
 use Rattle.std.specs.Prelude.{◌≡◌, ℕ, ◌+◌, ◌≤◌, ◌<◌, List, ◌++◌, length}
 use Rattle.std.proofs.Math.Option.{Option, some, none}
 use Rattle.layout.specs.declared.Counts.{Counts}
-use Rattle.layout.specs.declared.Answer.TheVariants.{Accepted}
+use Rattle.layout.specs.Answer.{Accepted}
 use Rattle.frame.specs.Frames.{Tup, frames}
 use Rattle.frame.specs.Files.{is_msb}
 use Rattle.frame.specs.Tuples.{tuples_of}

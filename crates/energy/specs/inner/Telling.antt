@@ -1,7 +1,7 @@
 -- What is told of a linked ping by its bytes, and what telling of all pings of a file wants. Assumes nothing.
 use Rattle.std.specs.Prelude.{◌≡◌, ℕ, ◌≤◌, List, length}
 use Rattle.layout.specs.declared.Counts.{Counts}
-use Rattle.layout.specs.declared.Answer.TheVariants.{Accepted}
+use Rattle.layout.specs.Answer.{Accepted}
 use Rattle.layout.specs.Types.{shape_of}
 use Rattle.intake.specs.Check.{check_file}
 use Rattle.pings.specs.inner.Handing.{part_samples}
@@ -9,7 +9,7 @@ use Rattle.quantities.specs.inner.Codes.{family_of}
 use Rattle.linked.specs.declared.Spot.{Spot}
 use Rattle.linked.specs.Linked.{linked_of}
 use Rattle.linked.specs.inner.Here.{part_at}
-use Rattle.energy.specs.declared.Echo.{Echo}
+use Rattle.energy.specs.Echo.{Echo}
 use Rattle.energy.specs.Energy.{echo_by}
 
 -- of a ping, in a file that counts n

@@ -17,16 +17,16 @@ abbrev text : tie.After-decode → List ℕ
 text d = let a = d.args in take a.characters a.text.now
 
 -- a bad line, or the bytes at the front of the space
-finds-bad : (c : tie.In-Bad) → input_of (text c.before.before) ≡ bad c.in-Bad.number
-finds-bad c = read-bad c.decode.ensures _ c.in-Bad.is
+finds-bad : (c : tie.In-Err) → input_of (text c.before.before) ≡ bad c.in-Err.number
+finds-bad c = read-bad c.decode.ensures _ c.in-Err.is
 
-finds-bytes : (c : tie.In-Bytes) →
-    let n = c.in-Bytes.n in
+finds-bytes : (c : tie.In-Ok) →
+    let n = c.in-Ok.n in
     (n ≤ room) × (input_of (text c.before.before) ≡ bytes (take n c.decode.new.bytes))
 finds-bytes c = let d = c.before.before in
-    read-bytes d.decode.ensures _ d.space-file.ensures c.in-Bytes.is
+    read-bytes d.decode.ensures _ d.space-file.ensures c.in-Ok.is
 
-fits : (c : tie.In-Bytes) → c.in-Bytes.n ≤ length c.decode.new.bytes
+fits : (c : tie.In-Ok) → c.in-Ok.n ≤ length c.decode.new.bytes
 fits c = let d = c.before.before in
     omega (arith, (finds-bytes c).0, d.decode.auto.bytes, d.space-file.ensures)
 
@@ -39,10 +39,10 @@ array-share-prefix-file c = fits c.before
 slice-aggregate-print : tie.Need-slice_bounds-print-end
 slice-aggregate-print c = sym (length-take-le _ _ (fits c.before.before))
 
-returns : tie.Need-returns-in-Bad
+returns : tie.Need-returns-in-Err
 returns c = prints-file _ _ (finds-bad c.before.before.before.before) c.print_bad.ensures
 
-returns-2 : tie.Need-returns-in-Bytes
+returns-2 : tie.Need-returns-in-Ok
 returns-2 c = let printed = c.before.before in
     prints-file _ _ (finds-bytes printed.before.before.before).1 printed.print.ensures
 

@@ -1,5 +1,5 @@
 -- A flag for each of 65,536 types, eight a byte: the types that are flagged, and a type flagged. Assumes nothing.
-use Rattle.std.specs.Prelude.{◌≡◌, ℕ, ◌+◌, ◌/◌, ◌%◌, ◌^◌, ◌≤◌, ◌<◌, Bool, true, false, cond, List, [], ◌∷◌, ◌++◌, eqb, length, get_or, set}
+use Rattle.std.specs.Prelude.{◌≡◌, ℕ, ◌+◌, ◌-◌, ◌/◌, ◌%◌, ◌^◌, ◌≤◌, ◌<◌, Bool, false, cond, List, [], ◌∷◌, ◌++◌, eqb, length, get_or, set}
 use Rattle.order.specs.Order.{bytes_of}
 use Rattle.layout.specs.Types
 use Rattle.layout.specs.Types.{in_class}
@@ -39,16 +39,15 @@ flag_all fs (t ∷ ts) = flag_all (flag_outside fs t.kind) ts
 unfoldable pub flagged_types : List ℕ → List ℕ
 flagged_types fs = chosen (flagged fs) 65536 0
 
+-- those from a type on
+abbrev pub flagged_from : List ℕ → ℕ → List ℕ
+flagged_from fs k = chosen (flagged fs) (65536 - k) k
+
 -- no type from one on and before another is flagged
 pub record Blank (fs : List ℕ) (from k : ℕ) : Type 0 where
   pub on : from ≤ k
   pub few : k ≤ 65536
   pub none : (j : ℕ) → from ≤ j → j < k → flagged fs j ≡ false
-
--- and this other one is, unless it is past the last: so it is the next
-pub record Next (fs : List ℕ) (from k : ℕ) : Type 0 where
-  pub blank : Blank fs from k
-  pub here : k < 65536 → flagged fs k ≡ true
 
 -- ---- the writing
 -- what stands before the types of an index of n bytes: data size, type, time fraction 0, time 0

@@ -5,6 +5,7 @@ use Prim.Native.Nat.{◌<◌}
 use borrow.Author.Rules.{rules}
 use Rattle.layout.specs.Types.{is_ping}
 use lib.ListN.{length}
+use Rattle.intake.specs.Views.{as_asked}
 use Rattle.intake.specs.inner.Tallies.{Tables, tables, ping_at}
 use Rattle.intake.proofs.Rows.{ask-other, channel-below, sounder-below, ask-ping}
 use Rattle.intake.proofs.ask_here.Statement.{statement}
@@ -54,7 +55,9 @@ ask_here_spec =
     (tie.spec
     (λ c κs. search rules)
     (λ c κs. search rules)
-    (λ c. let s = c.before.before.before.before in ask-other _ _ s.args.w _ (held s) (sym (tested c.before) ∙ search rules))
+    (λ c κs. search rules)
+    (λ c. let s = c.before.before.before.before.before in
+    ap as_asked c.refuse.ensures ∙ ask-other _ _ s.args.w _ (held s) (sym (tested c.before.before) ∙ search rules))
     (λ c κs. search rules)
     (λ c κs. search rules)
     (λ c. let l = below-channel c in search rules)

@@ -8,9 +8,10 @@ use borrow.Author.Rules.{rules}
 use borrow.Author.Tests.{lt-ltb, le-ltb, le-leb, lt-leb}
 use lib.Dec.{leb}
 use lib.ListN.{get_or}
+use Rattle.layout.specs.Views.{as_answer}
 use Rattle.rules.specs.Rules.First.{none, here, pass}
 use Rattle.rules.proofs.Laws.{Passed}
-use Rattle.layout.specs.declared.Answer.TheVariants.{Accepted, Refused}
+use Rattle.layout.specs.Answer.{Accepted, Refused}
 use Rattle.links.specs.Links.{counted}
 use Rattle.links.specs.inner.Tables.{sounder_of, tuple_of}
 use Rattle.links.proofs.Rows.{rows-length, rows_at}
@@ -27,7 +28,7 @@ abbrev Past : ℕ → tie.Start → Type 0
 Past k s = Passed k (end_rules s.args.total (course s)) (Accepted (counts_of (course s)))
 
 returns : tie.Need-returns-then-at-total
-returns c = c.refuse.ensures ∙ ends _ _ (here (lt-ltb _ _ c.if-at-total.true))
+returns c = ap as_answer c.refuse.ensures ∙ ends _ _ (here (lt-ltb _ _ c.if-at-total.true))
 
 past1 : (c : tie.Else-at-total) → Past 1 c.before
 past1 c x p = pass (le-ltb _ _ c.if-at-total.false) p
@@ -35,7 +36,7 @@ past1 c x p = pass (le-ltb _ _ c.if-at-total.false) p
 returns-2 : tie.Need-returns-then-not-complete
 returns-2 c =
     let d = c.before.before in
-    c.refuse-then-not-complete.ensures ∙ ends _ _ (past1 d.before _ (here (ap not (sym d.complete.ensures) ∙ c.if-not-complete.true-raw)))
+    ap as_answer c.refuse-then-not-complete.ensures ∙ ends _ _ (past1 d.before _ (here (ap not (sym d.complete.ensures) ∙ c.if-not-complete.true-raw)))
 
 past2 : (c : tie.Else-not-complete) → Past 2 c.before.before.before
 past2 c x p = past1 c.before.before _ (pass (ap not (sym c.complete.ensures) ∙ c.if-not-complete.false-raw) p)
@@ -55,7 +56,7 @@ returns-3 c =
     let p = c.wide-place.ensures
     ∙ sym (rows_at tuple_of s.args.sounders.now s.args.w.sounders _ [] t.if-wrong-w.true)
     ∙ ap (λ (y : ℕ). get_or (course s).sounders y 0) f.first_wrong-wrong.ensures in
-    c.refuse-then-wrong-w.ensures ∙ ap (Refused 17) p ∙ ends _ _ (past2 f.before _ (here (ap not (tested f ∙ lt-leb _ _ t.if-wrong-w.true))))
+    ap as_answer c.refuse-then-wrong-w.ensures ∙ ap (Refused 17) p ∙ ends _ _ (past2 f.before _ (here (ap not (tested f ∙ lt-leb _ _ t.if-wrong-w.true))))
 
 returns-4 : tie.Need-returns
 returns-4 c =

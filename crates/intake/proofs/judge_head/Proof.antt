@@ -6,6 +6,7 @@ use native.Mathlib.Omega.{arith}
 use borrow.Author.Rules.{rules}
 use borrow.Author.Tests.{not-false}
 use lib.Dec.{eqb}
+use Rattle.layout.specs.Views.{as_verdict}
 use Rattle.rules.specs.Rules.{◌⇒◌}
 use Rattle.layout.specs.Answers.{judged, ◌byte◌}
 use Rattle.layout.specs.Fields.{known}
@@ -22,7 +23,7 @@ start c = c.before.before.before.before
 returns : tie.Need-returns-then-signs-first
 returns c =
     let s = c.before.before.before in
-    rw (c.fault.ensures, head-place s.requires s.args.first, c.if-signs-first.true)
+    rw (ap as_verdict c.fault.ensures, head-place s.requires s.args.first, c.if-signs-first.true)
 
 -- it is where it may be
 placed : (c : tie.Else-signs-first) → let a = c.args in not (beq (eqb a.code 65535) a.first) ≡ false
@@ -36,7 +37,7 @@ returns-2 : tie.Need-returns-then-not-fits
 returns-2 c =
     let d = c.before.before in
     let s = d.before.before.before in
-    rw (c.fault-then-not-fits.ensures, head-place s.requires s.args.first, placed d.before, tested d, c.if-not-fits.true-raw)
+    rw (ap as_verdict c.fault-then-not-fits.ensures, head-place s.requires s.args.first, placed d.before, tested d, c.if-not-fits.true-raw)
 
 -- its length fits: the identifier is left
 fits : (c : tie.Else-not-fits) → let a = (start c).args in Fits a.whole a.code
@@ -63,7 +64,7 @@ returns-4 : tie.Need-returns-then-not-is_known
 returns-4 c =
     let k = c.before.before in
     let r = k.before in
-    rw (c.fault-then-not-is_known.ensures, past2 r.before.before, read r, ← k.is_known.ensures, c.if-not-is_known.true-raw)
+    rw (ap as_verdict c.fault-then-not-is_known.ensures, past2 r.before.before, read r, ← k.is_known.ensures, c.if-not-is_known.true-raw)
 
 returns-5 : tie.Need-returns
 returns-5 c =

@@ -1,9 +1,10 @@
 -- `intake::run_on` meets its contract: what is still to come of the turns is what they come to (`Running`). Assumes nothing.
 use Prim.Native.Nat.{◌+◌, ◌-◌, ◌≤◌}
-use mathlib.Core.Path.{◌≡◌}
+use mathlib.Core.Path.{ap, ◌≡◌}
 use native.Mathlib.Omega.{arith}
 use borrow.Author.Rules.{rules}
 use lib.ListN.{length, drop}
+use Rattle.intake.specs.inner.Views.{as_turned}
 use Rattle.frame.specs.Frames.{len_at}
 use Rattle.intake.specs.inner.Tallies.{tables}
 use Rattle.intake.proofs.Runs.{Running, running_begin, running_there, running_past, running_again, running_done}
@@ -24,10 +25,10 @@ stands c = c.before.before
 abbrev elsewhere : tie.After-turn invariant-loop decreases-loop → tie.In-loop-w invariant-loop decreases-loop
 elsewhere t = t.before.before.before.before
 
-abbrev next : tie.After-struct_known-in-On-2-1 invariant-loop decreases-loop → tie.In-On invariant-loop decreases-loop
+abbrev next : tie.After-struct_known-in-Continue-2-1 invariant-loop decreases-loop → tie.In-Continue invariant-loop decreases-loop
 next c = c.before.before
 
-abbrev turned : tie.In-On invariant-loop decreases-loop → tie.After-turn invariant-loop decreases-loop
+abbrev turned : tie.In-Continue invariant-loop decreases-loop → tie.After-turn invariant-loop decreases-loop
 turned c = c.before
 
 loop-holds : tie.Need-loop-w-init invariant-loop decreases-loop
@@ -42,14 +43,14 @@ turn-requires c κs =
     (g.standing, (g.steady, (omega (arith, g.place, l.requires.1.1.1.0), (g.within, g.sized))))
 
 -- the tuple passed: where the tally stands then, that it has bytes, and that it is within the part
-past : (c : tie.After-struct_known-in-On-2-1 invariant-loop decreases-loop) → let l = stands (elsewhere (turned (next c))) in let a = l.args in
-    ((next c).in-On.next.at ≡ l.loop-w.w.at + len_at a.msb (drop l.loop-w.at a.part.now))
+past : (c : tie.After-struct_known-in-Continue-2-1 invariant-loop decreases-loop) → let l = stands (elsewhere (turned (next c))) in let a = l.args in
+    ((next c).in-Continue.next.at ≡ l.loop-w.w.at + len_at a.msb (drop l.loop-w.at a.part.now))
     × (16 ≤ len_at a.msb (drop l.loop-w.at a.part.now))
     × (l.loop-w.at + len_at a.msb (drop l.loop-w.at a.part.now) ≤ length a.part.now)
 past c =
     let n = next c in
     let t = turned n in
-    running_past (stands (elsewhere t)).loop-w.invariant _ _ t.turn.ensures _ n.in-On.is
+    running_past (stands (elsewhere t)).loop-w.invariant _ _ t.turn.ensures _ (ap as_turned n.in-Continue.is)
 
 loop-again : tie.Need-loop-w-preserved invariant-loop decreases-loop
 loop-again c =
@@ -57,15 +58,15 @@ loop-again c =
     let t = turned n in
     let e = elsewhere t in
     let l = stands e in
-    running_again l.loop-w.invariant _ _ t.turn.ensures e.loop-w-test.true _ n.in-On.is (n.in-On.next.at - l.loop-w.w.at)
+    running_again l.loop-w.invariant _ _ t.turn.ensures e.loop-w-test.true _ (ap as_turned n.in-Continue.is) (n.in-Continue.next.at - l.loop-w.w.at)
     (omega (arith, (past c).0))
 
-returns : tie.Need-returns-in-Done invariant-loop decreases-loop
+returns : tie.Need-returns-in-Break invariant-loop decreases-loop
 returns c =
     let n = c in
     let t = n.before in
     let e = elsewhere t in
-    running_done (stands e).loop-w.invariant _ _ t.turn.ensures e.loop-w-test.true _ n.in-Done.is
+    running_done (stands e).loop-w.invariant _ _ t.turn.ensures e.loop-w-test.true _ (ap as_turned n.in-Break.is)
 
 pub run_on_spec : {M : Type 1} → statement M
 run_on_spec =

@@ -1,12 +1,14 @@
 -- `intake::turn` meets its contract: what was said of the tuple, and what its type says, tell which law of a turn holds. Assumes nothing.
-use mathlib.Core.Path.{◌≡◌, sym, subst, ◌∙◌}
+use mathlib.Core.Path.{ap, ◌≡◌, sym, subst, ◌∙◌}
 use mathlib.Core.List.{List}
 use Prim.Native.Nat.{ℕ, ◌<◌}
 use native.Mathlib.Omega.{arith}
 use borrow.Author.Rules.{rules}
 use borrow.Author.Tests.{not-true, not-false}
 use lib.ListN.{drop}
-use Rattle.layout.specs.declared.Verdict.TheVariants.{Fine, Fault}
+use Rattle.layout.specs.Verdict.{Fine, Fault}
+use Rattle.layout.specs.Code.{number}
+use Rattle.links.specs.inner.Views.{as_linked}
 use Rattle.layout.specs.declared.Says.{Says}
 use Rattle.layout.specs.Types.{says_of}
 use Rattle.frame.specs.Frames.{len_at}
@@ -18,7 +20,7 @@ use Rattle.links.specs.Links.{most_channels}
 use Rattle.links.specs.inner.Tables.{sounder_of, sounder_row, channel_of, channel_row}
 use Rattle.intake.specs.inner.Tallies.{Tables, tables, Here, said, compares_at, TurnedTo}
 use Rattle.intake.specs.declared.Tally.{Tally}
-use Rattle.intake.specs.declared.Turned.TheVariants.{On}
+use Rattle.intake.specs.inner.Turned.{On}
 use Rattle.intake.proofs.Said.{QuietBy, quiet-class, no_end-class, fault_near, fine-parts}
 use Rattle.intake.proofs.Judges.{room, whole, channel-whole, turn-fine, turn_fault}
 use Rattle.intake.proofs.Tallies.{compares-few, fine-fits, holds, room-sounder, room-channel, turns_fault, turns-sounder}
@@ -58,25 +60,25 @@ judge-requires c κs =
     (s.requires.1.1.1.0, (holds s.requires.1.1.1.1 s.requires.0 s.requires.1.0, search rules))
 
 -- no fault is found
-fine : (c : tie.In-Linked) → let s = start c.before in said s.args.msb (left s) s.args.w (held s) ≡ Fine
-fine c = (turn-fine _ _ _ _ c.judge.ensures c.in-Linked.is).0
+fine : (c : tie.In-Ok) → let s = start c.before in said s.args.msb (left s) s.args.w (held s) ≡ Fine
+fine c = (turn-fine _ _ _ _ c.judge.ensures (ap as_linked c.in-Ok.is)).0
 
 -- and so many identifiers are compared
-cost : (c : tie.In-Linked) → let s = start c.before in
-    compares_at s.args.msb (left s) s.args.w (held s) ≡ c.in-Linked.compared
-cost c = (turn-fine _ _ _ _ c.judge.ensures c.in-Linked.is).1
+cost : (c : tie.In-Ok) → let s = start c.before in
+    compares_at s.args.msb (left s) s.args.w (held s) ≡ c.in-Ok.compared
+cost c = (turn-fine _ _ _ _ c.judge.ensures (ap as_linked c.in-Ok.is)).1
 
-faulty : (c : tie.In-Faulty) → let s = start c.before in
-    said s.args.msb (left s) s.args.w (held s) ≡ Fault c.in-Faulty.code c.in-Faulty.offset
-faulty c = turn_fault _ _ _ _ c.judge.ensures c.in-Faulty.is
+faulty : (c : tie.In-Err) → let s = start c.before in
+    said s.args.msb (left s) s.args.w (held s) ≡ Fault (number c.in-Err.flaw.code) c.in-Err.flaw.offset
+faulty c = turn_fault _ _ _ _ c.judge.ensures (ap as_linked c.in-Err.is)
 
-add-refuse : tie.Need-overflow_add-at
-add-refuse c =
+add-refuse : tie.Need-at-requires
+add-refuse c κs =
     let z = fault_near _ _ _ _ _ _ _ (faulty c) in
     let s = start c.before in
     omega (arith, s.requires.1.1.0)
 
-there : (c : tie.In-Linked) → let s = start c.before in
+there : (c : tie.In-Ok) → let s = start c.before in
     Whole s.args.msb s.args.part.now s.args.from (len_at s.args.msb (left s))
 there c = framing-whole _ _ _ (fine-parts _ _ _ _ _ (fine c)).framed
 
@@ -208,10 +210,10 @@ returns c =
     (cost k.before.before) t.if-code.true)
 
 -- ---- a fault, and any other tuple
-returns-3 : tie.Need-returns-in-Faulty
+returns-3 : tie.Need-returns-in-Err
 returns-3 c =
     let s = start c.before.before in
-    rw c.refuse.ensures (turns_fault _ _ s.requires.1.1.1.1 s.requires.0 s.requires.1.0 _ _ _ (faulty c.before))
+    rw c.at.ensures (turns_fault _ _ s.requires.1.1.1.1 s.requires.0 s.requires.1.0 _ _ _ (faulty c.before))
 
 -- what is of another class than what declares
 returns-2 : tie.Need-returns-then-not-may_declare
@@ -254,7 +256,6 @@ turn_spec =
     judge-requires
     (λ c. search rules)
     add-refuse
-    (λ c κs. search rules)
     (λ c. search rules)
     length-at-requires
     kind-at-requires

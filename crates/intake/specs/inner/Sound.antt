@@ -1,8 +1,8 @@
 -- A sound tuple at a place of a file: framed, and fine by its own rules; a file that the check accepts. Assumes nothing.
 use Rattle.std.specs.Prelude.{◌≡◌, ℕ, ◌≤◌, Bool, List, length, drop}
 use Rattle.layout.specs.declared.Counts.{Counts}
-use Rattle.layout.specs.declared.Answer.TheVariants.{Accepted}
-use Rattle.layout.specs.declared.Verdict.TheVariants.{Fine}
+use Rattle.layout.specs.Answer.{Accepted}
+use Rattle.layout.specs.Verdict.{Fine}
 use Rattle.frame.specs.Frames.{len_at, kind_at, tup_at}
 use Rattle.intake.specs.Check.{check_file}
 use Rattle.intake.specs.inner.Tallies.{Here, own_verdict}

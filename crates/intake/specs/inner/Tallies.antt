@@ -8,24 +8,24 @@ use Rattle.rules.specs.Rules.{◌⇒◌}
 use Rattle.layout.specs.declared.Maker.{Maker}
 use Rattle.layout.specs.declared.SoftwareChannel.{SoftwareChannel}
 use Rattle.layout.specs.declared.Counts.{Counts}
-use Rattle.layout.specs.declared.Answer.{Answer}
-use Rattle.layout.specs.declared.Verdict.{Verdict}
-use Rattle.layout.specs.declared.Verdict.TheVariants.{Fine}
+use Rattle.layout.specs.Answer.{Answer}
+use Rattle.layout.specs.Verdict.{Verdict}
+use Rattle.layout.specs.Verdict.{Fine}
 use Rattle.layout.specs.Answers.{both, judged, ◌byte◌}
 use Rattle.layout.specs.Types.{lengths_of, fitting, in_class}
 use Rattle.layout.specs.Types
 use Rattle.frame.specs.Frames.{Tup, len_at, kind_at, tup_at, framing}
-use Rattle.links.specs.declared.LinkVerdict.{LinkVerdict}
+use Rattle.links.specs.inner.LinkVerdict.{LinkVerdict}
 use Rattle.links.specs.declared.Sounder.{Sounder}
 use Rattle.links.specs.declared.Channel.{Channel}
 use Rattle.links.specs.Links.{id_of, most_sounders, most_channels, sign_rules, rules_among, compares_among, Apart, Steady}
 use Rattle.links.specs.inner.Tables.{sounders_in, channels_in, tuples_in, comparing, linking}
 use Rattle.content.specs.Items.{head_rules, inner_rules, digest}
-use Rattle.intake.specs.declared.Asked.{Asked}
-use Rattle.intake.specs.declared.Asked.TheVariants.{Refused}
+use Rattle.intake.specs.Asked.{Asked}
+use Rattle.intake.specs.Asked.{Refused}
 use Rattle.intake.specs.declared.Tally.{Tally}
-use Rattle.intake.specs.declared.Turned.{Turned}
-use Rattle.intake.specs.declared.Turned.TheVariants.{On, Done}
+use Rattle.intake.specs.inner.Turned.{Turned}
+use Rattle.intake.specs.inner.Turned.{On, Done}
 use Rattle.intake.specs.Check.{Course, begin, Turn, stop, go, turn_on, check_from}
 use Rattle.intake.specs.Asking.{course_to, channel_nth, channel_for, sounder_nth, parents_in}
 

@@ -1,5 +1,5 @@
 -- A linked ping at a place of an accepted file, by its bytes; and the channels that are kept of the tuples before a place. Assumes nothing.
-use Rattle.std.specs.Prelude.{◌≡◌, ℕ, ◌+◌, ◌-◌, ◌≤◌, Bool, true, false, List, ◌++◌, length, take, drop}
+use Rattle.std.specs.Prelude.{Option, Some, None, ◌≡◌, ℕ, ◌+◌, ◌-◌, ◌≤◌, Bool, true, false, List, ◌++◌, length, take, drop}
 use Rattle.std.proofs.Math.Option.{some, none}
 use Rattle.layout.specs.Types.{shape_of, is_ping}
 use Rattle.frame.specs.Frames.{tup_at}
@@ -12,8 +12,6 @@ use Rattle.content.specs.Items.{digest}
 use Rattle.pings.specs.inner.Handing.{part_samples, SoundPart}
 use Rattle.quantities.specs.Quantities.{quantity_of}
 use Rattle.quantities.specs.inner.Codes.{family_of}
-use Rattle.linked.specs.declared.Found.{Found}
-use Rattle.linked.specs.declared.Found.TheVariants as found
 use Rattle.linked.specs.declared.Spot.{Spot}
 use Rattle.linked.specs.Linked.{Linked, linked_of, standing}
 
@@ -47,9 +45,9 @@ pub record FoundPing (f : List ℕ) (p : ℕ) (x : Spot) : Type 0 where
   pub here : SpotHere f x
   pub says : SaysPing f x.at x.msb x.whole x.code linked.ping
 
-abbrev pub FoundAt : List ℕ → ℕ → Found → Type 0
-FoundAt f p (found.Ping x) = FoundPing f p x
-FoundAt f p found.Nowhere = standing p (linked_of f) ≡ none
+abbrev pub FoundAt : List ℕ → ℕ → Option Spot → Type 0
+FoundAt f p (Some x) = FoundPing f p x
+FoundAt f p None = standing p (linked_of f) ≡ none
 
 -- ---- what the tuple at a place declares
 abbrev pub new_here : Bool → List ℕ → ℕ → List Channel

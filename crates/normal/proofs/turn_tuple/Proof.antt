@@ -4,6 +4,7 @@ use mathlib.Core.Bool.{Bool, ◌&&◌}
 use native.Mathlib.Omega.{arith}
 use borrow.Author.Rules.{rules}
 use lib.ListN.{drop}
+use Rattle.layout.specs.Views.{as_answer}
 use Rattle.layout.specs.Types.{shape_of}
 use Rattle.frame.specs.Frames.{len_at}
 use Rattle.frame.specs.Files.{mark, is_msb}
@@ -37,7 +38,7 @@ returns-2 : tie.Need-returns-then-is_unturnable
 returns-2 c =
     let u = c.before.before in
     let k = u.before.before.before in
-    rw c.refuse-then-is_unturnable.ensures
+    rw (ap as_answer c.refuse-then-is_unturnable.ensures)
     (single_unturnable _ _ _ _ _ k.is_msb-msb.ensures k.length_at-whole.ensures k.kind_at-code.ensures
     (omega arith) (sym (turns u) ∙ c.if-is_unturnable.true))
 
@@ -46,7 +47,7 @@ returns-3 c =
     let measured = c.before.before.before in
     let u = measured.before.before in
     let k = u.before.before.before in
-    rw c.refuse-then-out-bytes.ensures
+    rw (ap as_answer c.refuse-then-out-bytes.ensures)
     (single_no_room _ _ _ _ _ k.is_msb-msb.ensures k.length_at-whole.ensures k.kind_at-code.ensures
     (omega arith) (sym (turns u) ∙ measured.if-is_unturnable.false) _
     measured.measure_form-form.ensures.bytes c.if-out-bytes.true)
@@ -71,7 +72,7 @@ returns-4 c =
     let u = measured.before.before in
     let k = u.before.before.before in
     let start = k.before.before.before.before.before in
-    rw c.accept.ensures
+    rw (ap as_answer c.accept.ensures)
     (single_written _ start.args.out.now _ _ _ k.is_msb-msb.ensures k.length_at-whole.ensures
     k.kind_at-code.ensures (omega arith) (sym (turns u) ∙ measured.if-is_unturnable.false) _
     measured.measure_form-form.ensures.bytes fits.if-out-bytes.false _ _ stored.store4.ensures written.write_form.ensures.1)
@@ -87,7 +88,7 @@ turn_tuple_spec =
     (λ c κs. search rules)
     (λ c.
     let k = c.before.before in
-    rw c.refuse.ensures (single_behind _ _ _ _ _ k.is_msb-msb.ensures k.length_at-whole.ensures k.kind_at-code.ensures (omega arith)))
+    rw (ap as_answer c.refuse.ensures) (single_behind _ _ _ _ _ k.is_msb-msb.ensures k.length_at-whole.ensures k.kind_at-code.ensures (omega arith)))
     (λ c κs. search rules)
     (λ c κs. search rules)
     (λ c κs. search rules)

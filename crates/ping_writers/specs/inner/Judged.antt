@@ -2,8 +2,8 @@
 use Rattle.std.specs.Prelude.{ℕ, ◌+◌, ◌*◌, ◌%◌, min, Bool, true, false, not, ◌&&◌, List, [], ◌∷◌, ltb, eqb, length}
 use Rattle.std.proofs.Math.Option.{Option}
 use Rattle.rules.specs.Rules.{Rule, ◌⇒◌, first_of}
-use Rattle.layout.specs.declared.Answer.{Answer}
-use Rattle.layout.specs.declared.Answer.TheVariants.{Refused}
+use Rattle.layout.specs.Answer.{Answer}
+use Rattle.layout.specs.Answer.{Refused}
 use Rattle.layout.specs.Answers.{accepting}
 use Rattle.layout.specs.Families.{wide, narrow, value_bytes, radix_of}
 use Rattle.samples.specs.inner.Lists.{numbered}

@@ -5,8 +5,8 @@ use Prim.Native.Nat.{ℕ, ◌≤◌}
 use borrow.Author.Rules.{rules}
 use lib.IntN.{ℤ}
 use lib.ListN.{length}
-use Rattle.layout.specs.declared.Answer.{Answer}
-use Rattle.layout.specs.declared.Answer.TheVariants.{Refused}
+use Rattle.layout.specs.Answer.{Answer}
+use Rattle.layout.specs.Answer.{Refused}
 use Rattle.samples.specs.Words.{Sample}
 use Rattle.samples.specs.inner.Narrow.{AngleRoom}
 use Rattle.pings.specs.inner.Handing.{HandedAngles}

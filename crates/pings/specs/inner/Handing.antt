@@ -3,7 +3,7 @@
 use Rattle.std.specs.Prelude.{◌≡◌, ℕ, ◌-◌, ◌%◌, ◌≤◌, Bool, true, List, [], ℤ, length, take, drop}
 use Rattle.std.proofs.Math.Option.{Option, none}
 use Rattle.order.specs.Order.{num_of}
-use Rattle.layout.specs.declared.Answer.{Answer}
+use Rattle.layout.specs.Answer.{Answer}
 use Rattle.layout.specs.Answers.{left_by}
 use Rattle.layout.specs.Families.{Family, wide, value_bytes, radix_of}
 use Rattle.layout.specs.Types.{Shape, indexed, row, uncompressed, compressed, unlisted, shape_of, is_ping}

@@ -1,8 +1,8 @@
 -- Readings laid one by one over a window of silence; what handing them over leaves; and a page of them. Assumes nothing.
 use Rattle.std.specs.Prelude.{◌≡◌, ℕ, ◌-◌, true, false, not, cond, List, [], ◌∷◌, map, eqb, leb, Float, ℤ, length, set}
 use Rattle.rules.specs.Rules.{Rule, ◌⇒◌, first_of}
-use Rattle.layout.specs.declared.Answer.{Answer}
-use Rattle.layout.specs.declared.Answer.TheVariants.{Accepted, Refused}
+use Rattle.layout.specs.Answer.{Answer}
+use Rattle.layout.specs.Answer.{Accepted, Refused}
 use Rattle.layout.specs.declared.Counts.{Counts}
 use Rattle.layout.specs.Answers.{left_by}
 use Rattle.layout.specs.Types.{shape_of}

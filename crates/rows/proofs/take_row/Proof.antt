@@ -75,9 +75,9 @@ inside d = (opened_in d.requires, opened-long d.requires)
 
 returns : tie.Need-returns-then-numbers-many
 returns c =
-    let m = c.before in
+    let m = c.before.before in
     let d = start m.before in
-    untaken d.requires d.args.numbers.now _ (many-told m) c.if-numbers-many.true
+    rw c.refuse.ensures (untaken d.requires d.args.numbers.now _ (many-told m) c.if-numbers-many.true)
 
 read-listed-requires : tie.Need-read_listed-requires
 read-listed-requires c κs =
@@ -118,6 +118,7 @@ take_row_spec =
     (λ c κs. search rules)
     (λ c κs. listed c)
     (λ c. search rules)
+    (λ c κs. search rules)
     returns
     (λ c. let d = start c.before.before in omega (arith, (inside d).0, (inside d).1, d.well_formed.0.0))
     read-listed-requires

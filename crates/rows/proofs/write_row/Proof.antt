@@ -12,8 +12,8 @@ use mir.Facts.{to_z-of_z}
 use lib.ListN.{length, get_or}
 use Rattle.order.specs.Order.{pattern_of}
 use Rattle.order.proofs.Signed.{pattern-signed}
-use Rattle.layout.specs.declared.Answer.{Answer}
-use Rattle.layout.specs.declared.Answer.TheVariants.{Refused}
+use Rattle.layout.specs.Answer.{Answer}
+use Rattle.layout.specs.Answer.{Refused}
 use Rattle.layout.specs.Fields.{Field, size, many, bare_size}
 use Rattle.layout.specs.Types.{shape_of, lengths_of, least_of, step_of, more_of, fitting}
 use Rattle.layout.specs.inner.Codes.{place_in, measures, measured}

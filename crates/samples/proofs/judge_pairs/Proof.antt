@@ -1,5 +1,5 @@
 -- `samples::judge_pairs` meets its contract: at most 32,764 pairs fit, and the rule's test is what `drops` says. Assumes nothing.
-use mathlib.Core.Path.{◌≡◌, sym, ap₂, ◌∙◌}
+use mathlib.Core.Path.{ap, ◌≡◌, sym, ap₂, ◌∙◌}
 use mathlib.Core.Bool.{Bool, false}
 use mathlib.Core.List.{List, [], ◌∷◌}
 use Prim.Native.Nat.{ℕ, ◌+◌, ◌*◌, ◌≤◌}
@@ -8,8 +8,9 @@ use borrow.Author.Rules.{rules}
 use borrow.Author.Tests.{le-ltb}
 use lib.Dec.{ltb}
 use lib.ListN.{length}
+use Rattle.layout.specs.Views.{as_verdict}
 use Rattle.rules.specs.Rules.{◌⇒◌}
-use Rattle.layout.specs.declared.Verdict.{Verdict}
+use Rattle.layout.specs.Verdict.{Verdict}
 use Rattle.layout.specs.Answers.{judged, ◌byte◌}
 use Rattle.layout.specs.Families.{wide}
 use Rattle.samples.specs.Words.{all_samples}
@@ -36,7 +37,7 @@ returns c =
     let find = c.before in
     let drops = find.before.before in
     let start = drops.before.before in
-    c.fault_at.ensures
+    ap as_verdict c.fault_at.ensures
     ∙ (λ i. said (few start.args.msb start.args.part.now start.requires i)
     ((sym find.if-drops.true ∙ drops.drops.ensures) i) (find.find_drop.ensures.0 i))
 

@@ -9,8 +9,9 @@ use borrow.Author.Rules.{rules}
 use borrow.Author.Tests.{lt-ltb, le-ltb}
 use lib.Dec.{ltb}
 use lib.ListN.{length}
+use Rattle.layout.specs.Views.{as_verdict}
 use Rattle.rules.specs.Rules.{◌⇒◌}
-use Rattle.layout.specs.declared.Verdict.{Verdict}
+use Rattle.layout.specs.Verdict.{Verdict}
 use Rattle.layout.specs.Answers.{judged, ◌byte◌}
 use Rattle.layout.specs.Families.{sample_bytes}
 use Rattle.samples.specs.Words.{all_samples}
@@ -46,7 +47,7 @@ all_said c full t p l d e = λ i. said ((l ∙ ap (ltb most) (many c)) i) (d i) 
 returns : tie.Need-returns-then-part-sample_bytes-gt-MOST
 returns c =
     let rule = c.before in
-    c.fault.ensures ∙ all_said rule.before true _ _ (sym (lt-ltb most _ rule.if-part-sample_bytes-gt-MOST.true)) refl refl
+    ap as_verdict c.fault.ensures ∙ all_said rule.before true _ _ (sym (lt-ltb most _ rule.if-part-sample_bytes-gt-MOST.true)) refl refl
 
 -- the place is in the part, or just behind it
 add-fault-at : tie.Need-overflow_add-find_drop
@@ -57,7 +58,7 @@ returns-2 c =
     let find = c.before in
     let drops = find.before.before in
     let few = drops.before in
-    c.fault_at.ensures
+    ap as_verdict c.fault_at.ensures
     ∙ all_said few.before false true _ (sym (le-ltb most _ few.if-part-sample_bytes-gt-MOST.false)) (sym find.if-drops.true ∙ drops.drops.ensures)
     find.find_drop.ensures.0
 

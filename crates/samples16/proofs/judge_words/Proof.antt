@@ -10,6 +10,7 @@ use borrow.Author.Tests.{lt-ltb, le-ltb, eq-eqb, ne_eqb}
 use mir.Val.{bool_byte}
 use lib.Dec.{ltb, eqb}
 use lib.ListN.{length, take}
+use Rattle.layout.specs.Views.{as_verdict}
 use Rattle.layout.specs.Families.{Family, narrow}
 use Rattle.samples.specs.Words.{all_words}
 use Rattle.samples.specs.inner.Narrow.{words_by}
@@ -91,7 +92,7 @@ good c =
 returns : tie.Need-returns-then-values-gt-MOST
 returns c =
     let w = c.before.before in
-    c.fault.ensures
+    ap as_verdict c.fault.ensures
     ∙ said w true _ _ _ (sym (lt-ltb most _ c.if-values-gt-MOST.true) ∙ ap (ltb most) (valued w)) refl refl refl
 
 -- the place is in the part
@@ -107,7 +108,7 @@ returns-2 c =
     let w = rule.before in
     let p = placed find in
     let there = lt-ltb (first_bad (lettered w) (these w)) (length (these w)) (omega (arith, c.if-at-end.true, p, ended w)) in
-    c.fault_at.ensures ∙ said w false true _ _ (few rule) (sym there) p refl
+    ap as_verdict c.fault_at.ensures ∙ said w false true _ _ (few rule) (sym there) p refl
 
 returns-4 : tie.Need-returns
 returns-4 c =

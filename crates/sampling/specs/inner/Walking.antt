@@ -1,5 +1,5 @@
 -- A ping's samples one at a time: what is left of them at a place of the bytes that hold them. Assumes nothing.
-use Rattle.std.specs.Prelude.{◌≡◌, ℕ, ◌+◌, ◌-◌, ◌*◌, ◌≤◌, Bool, cond, List, [], ◌∷◌, map, ℤ, length, take, drop}
+use Rattle.std.specs.Prelude.{◌≡◌, ℕ, ◌+◌, ◌-◌, ◌*◌, ◌≤◌, Bool, Option, Some, None, List, [], ◌∷◌, map, ℤ, length, take, drop}
 use Rattle.order.specs.Order.{signed_of}
 use Rattle.layout.specs.Families.{Family, value_bytes, sample_bytes, radix_of}
 use Rattle.layout.specs.Types.{Shape, indexed, row, uncompressed, compressed, unlisted, shape_of}
@@ -10,7 +10,6 @@ use Rattle.samples.specs.Values.{meant, revalued}
 use Rattle.pings.specs.inner.Handing.{part_samples, part_width}
 use Rattle.sampling.specs.declared.Span.{Span}
 use Rattle.sampling.specs.declared.Stepped.{Stepped}
-use Rattle.sampling.specs.declared.Valued.{Valued}
 
 -- a sample as it is handed over: its number, and its value of w bytes with its sign
 abbrev pub Handed : Type 0
@@ -45,9 +44,13 @@ pub record SpanOf (k : ℕ) (o : Bool) (part : List ℕ) (r : Span) : Type 0 whe
   pub within : r.end ≤ length part
   pub holds : left_in (shape_of k) o 0 (take (r.end - r.from) (drop r.from part)) ≡ part_samples (shape_of k) o part
 
--- ---- one step: a sample, or a run of samples below threshold; and what is left behind it
+-- ---- one step: a sample, or none for a run of samples below threshold; and what is left behind it
+abbrev pub standing : {A : Type 0} → Option A → List A → List A
+standing (Some x) left = x ∷ left
+standing None left = left
+
 abbrev pub stepped : Stepped → List Handed → List Handed
-stepped r left = cond r.sampled ((r.number, r.value) ∷ left) left
+stepped r left = standing r.sample left
 
 -- past a word at sample n, whichever words stand behind it
 abbrev pub words_left : Family → ℕ → List ℕ → List Handed
@@ -70,11 +73,8 @@ values_handed s = map (λ (x : Handed). x.1) s
 abbrev pub values_left : Shape → Bool → List ℕ → List ℤ
 values_left q o r = values_handed (handed_left q o 0 r)
 
-abbrev pub valued : Valued → List ℤ → List ℤ
-valued r left = cond r.sampled (r.value ∷ left) left
+pub record WordValued (f : Family) (word : ℕ) (r : Option ℤ) : Type 0 where
+  pub left : (ws : List ℕ) → values_handed (words_left f 0 (word ∷ ws)) ≡ standing r (values_handed (words_left f 0 ws))
 
-pub record WordValued (f : Family) (word : ℕ) (r : Valued) : Type 0 where
-  pub left : (ws : List ℕ) → values_handed (words_left f 0 (word ∷ ws)) ≡ valued r (values_handed (words_left f 0 ws))
-
-pub record ValuedTo (k : ℕ) (o : Bool) (held : List ℕ) (at : ℕ) (r : Valued) : Type 0 where
-  pub left : values_left (shape_of k) o (drop at held) ≡ valued r (values_left (shape_of k) o (drop (at + width_of (shape_of k)) held))
+pub record ValuedTo (k : ℕ) (o : Bool) (held : List ℕ) (at : ℕ) (r : Option ℤ) : Type 0 where
+  pub left : values_left (shape_of k) o (drop at held) ≡ standing r (values_left (shape_of k) o (drop (at + width_of (shape_of k)) held))

@@ -21,12 +21,12 @@ abbrev looked : tie.After-is_ping → tie.After-says_of
 looked c = c.before.before.before
 
 -- what the type says, in an arm of the match
-said : (c : tie.After-says_of) {a : Says} → c.says_of.result ≡ a → says_of (start c).args.code ≡ a
+said : (c : tie.After-says_of) {a : Says} → c.says_of.result ≡ a → says_of (start c).args.tuple.code ≡ a
 said c e = sym c.says_of.ensures ∙ e
 
 -- the channel that an attitude names
 named : (c : tie.After-named_at-named) → let a = (start c.before.before).args in
-    c.named_at-named.result.0 ≡ (named_at a.msb a.file.now a.at).0
+    c.named_at-named.result.0 ≡ (named_at a.msb a.file.now a.tuple.at).0
 named c = ap (λ (x : SoftwareChannel). x.0) c.named_at-named.ensures
 
 returns : tie.Need-returns-then-named

@@ -1,6 +1,6 @@
 -- What the code keeps of the tuples before a place: the channels declared, the last threshold and the last attitude of each, and the last
 -- attitude for all. Assumes nothing.
-use Rattle.std.specs.Prelude.{◌≡◌, ℕ, ◌+◌, ◌≤◌, ◌<◌, true, false, cond, List, [], ◌∷◌, ltb, length, get_or, set, replicate}
+use Rattle.std.specs.Prelude.{◌≡◌, ℕ, ◌+◌, ◌≤◌, ◌<◌, true, false, cond, List, [], ◌∷◌, ltb, length, get_or, set, replicate, Option, Some, None}
 use Rattle.layout.specs.declared.SoftwareChannel.{SoftwareChannel}
 use Rattle.links.specs.Links.{place_of, id_of, most_channels}
 use Rattle.links.specs.inner.Tables.{channel_of, channel_row, channels_in}
@@ -85,28 +85,25 @@ Stands Other at = Unit {0}
 abbrev pub later : ℕ → ℕ → ℕ
 later a b = cond (ltb a b) b a
 
-abbrev pub untold : Told
-untold = record { ping = false; threshold = 0; attitude = 0 }
-
-abbrev pub told_by : Role → ℕ → Held → List (List ℕ) → Told
-told_by (Ping c) i h ls =
-    record { ping = true; threshold = threshold_in (get_or ls i []); attitude = later (attitude_in (get_or ls i [])) h.every }
-told_by (Threshold c) i h ls = untold
-told_by (Attitude c) i h ls = untold
-told_by ForAll i h ls = untold
-told_by (Declares c) i h ls = untold
-told_by Other i h ls = untold
+abbrev pub told_by : Role → ℕ → Held → List (List ℕ) → Option Told
+told_by (Ping c) i h ls = Some (record { threshold = threshold_in (get_or ls i []); attitude = later (attitude_in (get_or ls i [])) h.every })
+told_by (Threshold c) i h ls = None
+told_by (Attitude c) i h ls = None
+told_by ForAll i h ls = None
+told_by (Declares c) i h ls = None
+told_by Other i h ls = None
 
 -- the row of a ping at a place, and no row of any other tuple
 abbrev pub row_told : ℕ → Told → Row
 row_told at t = record { ping = at; threshold = t.threshold; attitude = t.attitude }
 
-abbrev pub rows_told : ℕ → Told → List Row
-rows_told at t = cond t.ping (row_told at t ∷ []) []
+abbrev pub rows_told : ℕ → Option Told → List Row
+rows_told at (Some t) = row_told at t ∷ []
+rows_told at None = []
 
 -- which has room in all three slices
-abbrev pub RowRoom : Told → ℕ → ℕ → ℕ → ℕ → Type 0
-RowRoom t row pings thresholds attitudes = t.ping ≡ true → (row < pings) × (row < thresholds) × (row < attitudes)
+abbrev pub RowRoom : Option Told → ℕ → ℕ → ℕ → ℕ → Type 0
+RowRoom told row pings thresholds attitudes = (t : Told) → told ≡ Some t → (row < pings) × (row < thresholds) × (row < attitudes)
 
 -- ---- what the writing wants: an accepted file, and room for a row of each ping
 pub record Roomy (f : List ℕ) (pings thresholds attitudes : ℕ) : Type 0 where

@@ -8,6 +8,7 @@ use lib.IntN.{ℤ}
 use lib.ListN.{length}
 use lib.Seq.{sets}
 use Prim.Native.Nat.{ℕ}
+use Rattle.layout.specs.Views.{as_answer}
 use Rattle.order.specs.Order.{pattern_of}
 use Rattle.layout.specs.Types.{shape_of}
 use Rattle.tuples.specs.Writers.{plain_bytes}

@@ -1,5 +1,5 @@
 -- What the words and the samples of a file weigh: a ping's own rules can be told from the sum over its part of the file. Assumes nothing.
-use Rattle.std.specs.Prelude.{ℕ, zero, suc, ◌+◌, ◌*◌, ◌≤◌, Bool, not, List, leb, take, drop}
+use Rattle.std.specs.Prelude.{◌≡◌, ℕ, zero, suc, ◌+◌, ◌*◌, ◌≤◌, Bool, not, List, leb, take, drop}
 use mir.Val.{bool_byte}
 use Rattle.order.specs.Order.{num_of}
 use Rattle.layout.specs.Families.{Family, wide, narrow, encoded, narrow_angles, number_bytes, value_bytes, sample_bytes, radix_of, is_bad}
@@ -26,6 +26,11 @@ by_words f o bs = word_weight f (num_of o (take (value_bytes f) bs))
 -- a sample: 1 where the number of the next isn't above its own
 unfoldable pub by_drops : Family → Bool → List ℕ → ℕ
 by_drops f o bs = bool_byte (leb (num_of o (take (number_bytes f) (drop (sample_bytes f) bs))) (num_of o (take (number_bytes f) bs)))
+
+-- of n numbers, which R tells at their places, and one more, how many the next isn't above
+unfoldable pub Dropped : (ℕ → ℕ → Type 0) → ℕ → ℕ → Type 0
+Dropped R zero r = r ≡ 0
+Dropped R (suc n) r = (x : ℕ) × (y : ℕ) × (s : ℕ) × R n x × R (n + 1) y × Dropped R n s × (r ≡ s + bool_byte (leb y x))
 
 -- ---- by what is weighed
 abbrev pub weight_by : Kind → Bool → List ℕ → ℕ

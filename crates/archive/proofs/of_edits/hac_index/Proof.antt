@@ -3,6 +3,7 @@ use mathlib.Core.Path.{◌≡◌}
 use mathlib.Core.List.{List}
 use Prim.Native.Nat.{ℕ}
 use borrow.Author.Rules.{rules}
+use Rattle.layout.specs.Views.{as_answer}
 use Rattle.edits.specs.Edits.{Indexed, indexed-settled}
 use Rattle.archive.specs.Saying.{Said, said_settled}
 use Rattle.archive.specs.Numbers.{five}
@@ -21,7 +22,7 @@ returns-2 c =
     let k = t.before.before.before in
     let e = k.before.before.before in
     let a = e.args in
-    answer-told (Indexed a.file.now a.out.now) a.answer.now a.out.now k.index.result _ _ _
+    answer-told (Indexed a.file.now a.out.now) a.answer.now a.out.now (as_answer k.index.result) _ _ _
     e.if-answer-lt-HEAD.false k.index.ensures t.tell_answer.ensures
 
 pub hac_index_spec : {M : Type 1} → statement M

@@ -3,7 +3,8 @@ use mathlib.Core.Path.{◌≡◌}
 use mathlib.Core.List.{List}
 use Prim.Native.Nat.{ℕ}
 use borrow.Author.Rules.{rules}
-use Rattle.layout.specs.declared.Answer.{Answer}
+use Rattle.layout.specs.Views.{as_answer}
+use Rattle.layout.specs.Answer.{Answer}
 use Rattle.energy.specs.Energy.{EnergiesTold, energies-settled}
 use Rattle.archive.specs.Saying.{Said, said_settled}
 use Rattle.archive.specs.Numbers.{five}
@@ -32,7 +33,7 @@ returns-2 c =
     let k = told t in
     let e = asking k in
     let a = (start e.before).args in
-    answer-told _ a.answer.now (a.places.now, a.energies.now, a.codes.now) k.energies.result _ _ _ e.if-answer-lt-HEAD.false
+    answer-told _ a.answer.now (a.places.now, a.energies.now, a.codes.now) (as_answer k.energies.result) _ _ _ e.if-answer-lt-HEAD.false
     k.energies.ensures t.tell_answer.ensures
 
 pub hac_energies_spec : {M : Type 1} → statement M

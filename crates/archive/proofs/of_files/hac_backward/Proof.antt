@@ -3,6 +3,7 @@ use mathlib.Core.Path.{◌≡◌, refl}
 use mathlib.Core.List.{List}
 use Prim.Native.Nat.{ℕ}
 use borrow.Author.Rules.{rules}
+use Rattle.frame.specs.Views.{as_step}
 use Rattle.frame.specs.Steps.{step_numbers, step_fields, SteppedBackward, backward-settled}
 use Rattle.archive.specs.Saying.{SaidAlone, alone-settled}
 use Rattle.archive.specs.Numbers.{told}
@@ -22,7 +23,7 @@ returns-2 c =
     let k = t.before in
     let e = k.before.before in
     let a = e.args in
-    let s = k.backward.result in
+    let s = (as_step k.backward.result) in
     alone-told 4 (told step_numbers step_fields) (SteppedBackward a.file.now a.place) a.answer.now s
     (told step_numbers step_fields s) _ _
     e.if-answer-lt-STEP.false (step-short s) k.backward.ensures refl t.tell_step.ensures.0 t.tell_step.ensures.1

@@ -3,6 +3,7 @@ use mathlib.Core.Path.{◌≡◌}
 use mathlib.Core.List.{List}
 use Prim.Native.Nat.{ℕ}
 use borrow.Author.Rules.{rules}
+use Rattle.layout.specs.Views.{as_answer}
 use Rattle.intake.specs.Check.{Checked, checked-settled}
 use Rattle.archive.specs.Saying.{SaidAlone, alone-settled}
 use Rattle.archive.specs.Numbers.{five}
@@ -19,7 +20,7 @@ returns-2 c =
     let k = t.before in
     let e = k.before.before in
     let a = e.args in
-    alone-answer (Checked a.file.now) a.answer.now k.check.result _ _ e.if-answer-lt-HEAD.false k.check.ensures
+    alone-answer (Checked a.file.now) a.answer.now (as_answer k.check.result) _ _ e.if-answer-lt-HEAD.false k.check.ensures
     t.tell_answer.ensures
 
 pub hac_check_spec : {M : Type 1} → statement M

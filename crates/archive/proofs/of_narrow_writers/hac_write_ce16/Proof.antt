@@ -6,6 +6,7 @@ use mathlib.Core.Option.{Option}
 use Prim.Native.Nat.{ℕ}
 use borrow.Author.Rules.{rules}
 use lib.IntN.{ℤ}
+use Rattle.layout.specs.Views.{as_answer}
 use Rattle.layout.specs.Families.{encoded}
 use Rattle.tuples.specs.Writers.{written-settled}
 use Rattle.pings.specs.declared.PingHeader.{PingHeader}
@@ -35,9 +36,9 @@ returns-2 c =
     let header : ℤ → PingHeader = λ z.
     header_with a.time_fraction a.time_cpu a.software_channel_identifier a.transmitter_mode a.ping_number z in
     let W : PingHeader → ℤ → Option ℕ → Type 0 = λ h z n.
-    WrittenC encoded a.msb h z a.numbers.now a.values.now n a.out.now k.write_ce16.result
+    WrittenC encoded a.msb h z a.numbers.now a.values.now n a.out.now (as_answer k.write_ce16.result)
     k.write_ce16.new.out in
-    answer-told _ a.answer.now a.out.now k.write_ce16.result _ _ _ e.if-answer-lt-HEAD.false
+    answer-told _ a.answer.now a.out.now (as_answer k.write_ce16.result) _ _ _ e.if-answer-lt-HEAD.false
     (subst (W (header a.detected_bottom_range) a.tuple_attribute) l.handed_length-length.ensures
     (of_same (λ (h : PingHeader) (z : ℤ). W h z (handed_length l.handed_length-length.result)) header s.ranges.detected_bottom_range
     s.ranges.tuple_attribute g.header_of-header.ensures k.write_ce16.ensures))

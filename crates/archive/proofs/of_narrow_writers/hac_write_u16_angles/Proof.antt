@@ -5,6 +5,7 @@ use mathlib.Core.List.{List}
 use Prim.Native.Nat.{ℕ}
 use borrow.Author.Rules.{rules}
 use lib.IntN.{ℤ}
+use Rattle.layout.specs.Views.{as_answer}
 use Rattle.layout.specs.Families.{narrow_angles}
 use Rattle.tuples.specs.Writers.{written-settled}
 use Rattle.pings.specs.declared.PingHeader.{PingHeader}
@@ -29,11 +30,11 @@ returns-2 c =
     let e = g.before in
     let s = e.before.before.before.before in
     let a = s.args in
-    answer-told _ a.answer.now a.out.now k.write_u16_angles.result _ _ _ e.if-answer-lt-HEAD.false
+    answer-told _ a.answer.now a.out.now (as_answer k.write_u16_angles.result) _ _ _ e.if-answer-lt-HEAD.false
     (of_same
     (λ (h : PingHeader) (z : ℤ).
     WrittenA narrow_angles a.msb h z a.numbers.now a.alongship.now a.athwartship.now a.out.now
-    k.write_u16_angles.result k.write_u16_angles.new.out)
+    (as_answer k.write_u16_angles.result) k.write_u16_angles.new.out)
     (header_with a.time_fraction a.time_cpu a.software_channel_identifier a.transmitter_mode a.ping_number)
     s.ranges.detected_bottom_range s.ranges.tuple_attribute g.header_of-header.ensures k.write_u16_angles.ensures)
     t.tell_answer.ensures

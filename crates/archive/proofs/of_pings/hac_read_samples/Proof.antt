@@ -4,7 +4,8 @@ use mathlib.Core.List.{List}
 use Prim.Native.Nat.{ℕ}
 use borrow.Author.Rules.{rules}
 use lib.IntN.{ℤ}
-use Rattle.layout.specs.declared.Answer.{Answer}
+use Rattle.layout.specs.Views.{as_answer}
+use Rattle.layout.specs.Answer.{Answer}
 use Rattle.pings.specs.Readers.{SamplesRead, samples-settled}
 use Rattle.archive.specs.Saying.{Said, said_settled}
 use Rattle.archive.specs.Numbers.{five}
@@ -23,7 +24,7 @@ returns-2 c =
     let k = t.before.before.before.before in
     let e = k.before.before.before.before in
     let a = e.args in
-    answer-told _ a.answer.now (a.numbers.now, a.values.now) k.read_samples.result _ _ _ e.if-answer-lt-HEAD.false
+    answer-told _ a.answer.now (a.numbers.now, a.values.now) (as_answer k.read_samples.result) _ _ _ e.if-answer-lt-HEAD.false
     k.read_samples.ensures
     t.tell_answer.ensures
 

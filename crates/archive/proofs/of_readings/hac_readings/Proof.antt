@@ -4,7 +4,8 @@ use mathlib.Core.List.{List}
 use Prim.Native.Nat.{ℕ}
 use borrow.Author.Rules.{rules}
 use lib.Ieee.{Float}
-use Rattle.layout.specs.declared.Answer.{Answer}
+use Rattle.layout.specs.Views.{as_answer}
+use Rattle.layout.specs.Answer.{Answer}
 use Rattle.readings.specs.Readings.{ReadingsTold, readings-settled}
 use Rattle.archive.specs.Saying.{Said, said_settled}
 use Rattle.archive.specs.Numbers.{five}
@@ -33,7 +34,7 @@ returns-2 c =
     let k = told t in
     let e = asking k in
     let a = (start e.before).args in
-    answer-told _ a.answer.now (a.cases.now, a.doubles.now) k.readings.result _ _ _ e.if-answer-lt-HEAD.false
+    answer-told _ a.answer.now (a.cases.now, a.doubles.now) (as_answer k.readings.result) _ _ _ e.if-answer-lt-HEAD.false
     k.readings.ensures t.tell_answer.ensures
 
 pub hac_readings_spec : {M : Type 1} → statement M

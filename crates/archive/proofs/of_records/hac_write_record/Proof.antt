@@ -4,6 +4,7 @@ use mathlib.Core.Bool.{Bool}
 use mathlib.Core.List.{List}
 use Prim.Native.Nat.{ℕ}
 use borrow.Author.Rules.{rules}
+use Rattle.layout.specs.Views.{as_answer}
 use Rattle.tuples.specs.Writers.{written-settled}
 use Rattle.rows.specs.Writers.{RowWritten}
 use Rattle.archive.specs.Saying.{Said, said_settled}
@@ -25,7 +26,7 @@ returns-2 c =
     let e = k.before.before.before in
     let a = e.args in
     answer-told (RowWritten a.code a.numbers.now a.text.now a.msb a.out.now) a.answer.now a.out.now
-    k.write_row.result _ _ _
+    (as_answer k.write_row.result) _ _ _
     e.if-answer-lt-HEAD.false k.write_row.ensures t.tell_answer.ensures
 
 pub hac_write_record_spec : {M : Type 1} → statement M

@@ -5,12 +5,13 @@ use Rattle.order.proofs.Laws.{bytes_of_lem}
 use Rattle.hexlines.specs.Lines.{bytes}
 use Rattle.hexlines.specs.Programs.{tuple_program}
 use Rattle.hexlines.proofs.Stores.{put_same}
+use Rattle.layout.specs.Views.{as_answer}
 use Rattle.hexlines.proofs.Programs.{Answered, tuple-answered}
 use Rattle.hexlines.proofs.single.print.Statement.{statement}
 use Rattle.hexlines.proofs.single.print.Tie as tie
 
 answers : (c : tie.After-normalise_tuple-answer)
-    → Answered (tuple_program (bytes c.args.file.now)) c.normalise_tuple-answer.result
+    → Answered (tuple_program (bytes c.args.file.now)) (as_answer c.normalise_tuple-answer.result)
     c.normalise_tuple-answer.new.out
 answers c =
     let known = c.before.before.before in

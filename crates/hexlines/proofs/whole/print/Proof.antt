@@ -5,12 +5,13 @@ use Rattle.order.proofs.Laws.{bytes_of_lem}
 use Rattle.hexlines.specs.Lines.{bytes}
 use Rattle.hexlines.specs.Programs.{file_program}
 use Rattle.hexlines.proofs.Stores.{put_same}
+use Rattle.layout.specs.Views.{as_answer}
 use Rattle.hexlines.proofs.Programs.{Answered, file-answered}
 use Rattle.hexlines.proofs.whole.print.Statement.{statement}
 use Rattle.hexlines.proofs.whole.print.Tie as tie
 
 answers : (c : tie.After-normalise-answer)
-    → Answered (file_program (bytes c.args.file.now)) c.normalise-answer.result
+    → Answered (file_program (bytes c.args.file.now)) (as_answer c.normalise-answer.result)
     c.normalise-answer.new.out
 answers c =
     let known = c.before.before.before in

@@ -3,8 +3,8 @@ use borrow.Author.Rules.{rules}
 use Rattle.ping_writers.proofs.judging.is_short.Statement.{statement}
 use Rattle.ping_writers.proofs.judging.is_short.Tie as tie
 
-returns-2 : tie.Need-returns-in-Samples
-returns-2 c = rw (c.in-Samples.is, c.behind.ensures.0)
+returns-2 : tie.Need-returns-in-Some
+returns-2 c = rw (c.in-Some.is, c.behind.ensures.0)
 
 pub is_short_spec : {M : Type 1} → statement M
 is_short_spec =

@@ -6,8 +6,10 @@ use borrow.Author.Rules.{rules}
 use borrow.Author.Tests.{lt-ltb, le-ltb, eq-eqb, ne_eqb}
 use lib.Dec.{ltb, eqb}
 use lib.ListN.{length}
+use Rattle.layout.specs.declared.codes.Code.TheVariants.{NoWord}
+use Rattle.layout.proofs.Views.{refused-as}
 use Rattle.rules.specs.Rules.First.{none, here, pass}
-use Rattle.layout.specs.declared.Answer.TheVariants.{Refused}
+use Rattle.layout.specs.Answer.{Refused}
 use Rattle.samples.specs.inner.Lists.{numbered}
 use Rattle.samples.specs.Runs.{quiet}
 use Rattle.samples.specs.Judging.{first_drop, too_short}
@@ -23,7 +25,7 @@ use Rattle.ping_writers.proofs.judging.judge_packed.Tie as tie
 returns : tie.Need-returns-then-n-values
 returns c =
     let a = c.args in
-    rw (c.refuse.ensures, c.smaller.ensures)
+    rw (c.refuse.ensures, c.min.ensures)
     (packed_said (width_by a.wide) (radix_by a.wide) a.numbers.now a.values a.wordless (handed_length a.length) a.room
     (here (ap not (ne_eqb (length a.numbers.now) a.values c.if-n-values.true))))
 
@@ -196,7 +198,7 @@ judge_packed_spec =
     packed_said (width_by a.wide) (radix_by a.wide) a.numbers.now a.values a.wordless (handed_length a.length) a.room
     (pass (equal_by equal) (pass (few-by few) (pass (some-by some) (pass (rising-by rise)
     (here (lt-ltb a.wordless (length a.numbers.now) (search rules))))))) in
-    cc)
+    refused-as {k = NoWord} {p = a.wordless} _ said (search rules))
     (λ c κs. search rules)
     (λ c κs. search rules)
     returns-6

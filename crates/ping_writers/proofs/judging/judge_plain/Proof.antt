@@ -1,11 +1,14 @@
 -- `ping_writers::judging::judge_plain` meets its contract: the first rule that is broken, or the ping's size. Assumes nothing.
-use mathlib.Core.Path.{◌≡◌, ◌∙◌}
+use mathlib.Core.Path.{ap, ◌≡◌, ◌∙◌}
 use Prim.Native.Nat.{◌+◌, ◌*◌, ◌%◌, ◌≤◌}
 use native.Mathlib.Omega.{arith}
 use borrow.Author.Rules.{rules}
 use borrow.Author.Tests.{lt-ltb, le-ltb, eq-eqb, ne_eqb}
+use Rattle.layout.specs.declared.codes.Code.TheVariants.{NoSamples}
+use Rattle.layout.proofs.Views.{refused-as}
+use Rattle.layout.specs.Views.{as_answer}
 use Rattle.rules.specs.Rules.First.{none, here, pass}
-use Rattle.layout.specs.declared.Answer.TheVariants.{Refused}
+use Rattle.layout.specs.Answer.{Refused}
 use Rattle.ping_writers.specs.inner.Judged.{plain_size, plain_answer}
 use Rattle.ping_writers.proofs.Plain.{plain-said, bytes-few}
 use Rattle.ping_writers.proofs.judging.judge_plain.Statement.{statement}
@@ -14,13 +17,13 @@ use Rattle.ping_writers.proofs.judging.judge_plain.Tie as tie
 returns : tie.Need-returns-then-not-equal
 returns c =
     let a = c.args in
-    c.refuse.ensures ∙ plain-said a.equal a.n a.first a.sample a.room (here c.if-not-equal.true-raw)
+    ap as_answer c.refuse.ensures ∙ plain-said a.equal a.n a.first a.sample a.room (here c.if-not-equal.true-raw)
 
 returns-2 : tie.Need-returns-then-n-gt-MOST
 returns-2 c =
     let equal = c.before.before in
     let a = equal.args in
-    c.refuse-then-n-gt-MOST.ensures
+    ap as_answer c.refuse-then-n-gt-MOST.ensures
     ∙ plain-said a.equal a.n a.first a.sample a.room
     (pass equal.if-not-equal.false-raw (here (lt-ltb 32764 a.n c.if-n-gt-MOST.true)))
 
@@ -30,7 +33,7 @@ returns-4 c =
     let few = some.before in
     let equal = few.before in
     let a = equal.args in
-    c.refuse-then-first-n.ensures
+    ap as_answer c.refuse-then-first-n.ensures
     ∙ plain-said a.equal a.n a.first a.sample a.room
     (pass equal.if-not-equal.false-raw (pass (le-ltb 32764 a.n few.if-n-gt-MOST.false)
     (pass (ne_eqb a.n 0 (search rules)) (here (lt-ltb a.first a.n c.if-first-n.true)))))
@@ -65,7 +68,7 @@ returns-5 c =
     let few = some.before in
     let equal = few.before in
     let a = equal.args in
-    c.refuse-then-room-whole.ensures
+    ap as_answer c.refuse-then-room-whole.ensures
     ∙ plain-said a.equal a.n a.first a.sample a.room
     (pass equal.if-not-equal.false-raw (pass (le-ltb 32764 a.n few.if-n-gt-MOST.false)
     (pass (ne_eqb a.n 0 (search rules)) (pass (le-ltb a.first a.n rise.if-first-n.false)
@@ -98,7 +101,7 @@ judge_plain_spec =
     let said : Refused 22 0 ≡ plain_answer a.equal a.n a.first a.sample a.room =
     plain-said a.equal a.n a.first a.sample a.room
     (pass c.if-not-equal.false-raw (pass (le-ltb 32764 a.n c.if-n-gt-MOST.false) (here (eq-eqb a.n 0 (search rules))))) in
-    cc)
+    refused-as {k = NoSamples} {p = 0} _ said (search rules))
     (λ c κs. search rules)
     returns-4
     mul-bytes

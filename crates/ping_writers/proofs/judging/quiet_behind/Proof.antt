@@ -10,12 +10,12 @@ use Rattle.ping_writers.proofs.judging.quiet_behind.Tie as tie
 
 sub-result : tie.Need-overflow_sub-result
 sub-result c =
-    let long = rw c.in-Samples.is at c.requires in
-    omega (arith, c.behind.ensures.0, ltb-false c.in-Samples.all (behind 0 (numbered c.args.numbers.now) + 1) long)
+    let long = rw c.in-Some.is at c.requires in
+    omega (arith, c.behind.ensures.0, ltb-false c.in-Some.all (behind 0 (numbered c.args.numbers.now) + 1) long)
 
-returns-2 : tie.Need-returns-in-Samples
+returns-2 : tie.Need-returns-in-Some
 returns-2 c =
-    (rw (c.in-Samples.is, c.behind.ensures.0), omega arith)
+    (rw (c.in-Some.is, c.behind.ensures.0), omega arith)
 
 pub quiet_behind_spec : {M : Type 1} → statement M
 quiet_behind_spec =

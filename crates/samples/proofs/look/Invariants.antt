@@ -1,0 +1,14 @@
+-- The values counted and those from this word on are all values; and so for the words outside the limits. Assumes nothing.
+use Rattle.std.proofs.Common.{◌≡◌, ◌+◌, ◌≤◌, ◌||◌}
+use Rattle.layout.specs.Families.{wide}
+use Rattle.samples.specs.Runs.{radix, values}
+use Rattle.samples.specs.Judging.{any_bad}
+use Rattle.samples.proofs.Chunks.{words_on}
+use Rattle.samples.proofs.look.Given as goal
+
+abbrev pub invariant-loop-bytes : goal.invariant-loop-bytes
+invariant-loop-bytes l = record {
+  few : l.values ≤ l.bytes-index;
+  counted : l.values + values radix (words_on l.msb l.words l.bytes-index) ≡ values radix (words_on l.msb l.words 0);
+  seen : (l.bad || any_bad wide (words_on l.msb l.words l.bytes-index)) ≡ any_bad wide (words_on l.msb l.words 0);
+}

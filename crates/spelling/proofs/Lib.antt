@@ -1,0 +1,3 @@
+pub mod Left
+pub mod Turns
+pub mod Handed
