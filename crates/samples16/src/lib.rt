@@ -234,8 +234,9 @@ struct Seen {
     bad: bool,
 }
 
-// Looks at the words of a block. Values are counted in 16 bits, as wide as a word, so that the compiler looks at eight at once, which was
-// measured three times as fast as in 32: hence blocks.
+// Looks at the words of a block. Values and words outside the limits are counted in 16 bits, as wide as a word, so that the compiler looks
+// at eight at once, which was measured three times as fast as in 32, and half as much again as fast as with a flag for words outside the
+// limits: hence blocks.
 fn see(words: &[[u8; WORD]], msb: bool, encoded: bool) -> Seen
     requires { length words.now ≤ 16384 }
     ensures values_value { result.values ≡ values 256 (map (num_of msb) words.now) }
@@ -244,15 +245,15 @@ fn see(words: &[[u8; WORD]], msb: bool, encoded: bool) -> Seen
 {
     let most = most_bad(encoded);
     let mut values: u16 = 0;
-    let mut bad = false;
+    let mut bad: u16 = 0;
     for bytes in words {
         let word = word_in(bytes, msb);
         values += !is_run(word) as u16;
-        bad |= is_bad(word, most);
+        bad += is_bad(word, most) as u16;
     }
     Seen {
         values: u32::from(values),
-        bad,
+        bad: bad != 0,
     }
 }
 
