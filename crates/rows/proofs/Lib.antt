@@ -3,3 +3,4 @@ pub mod Reading
 pub mod Writing
 pub mod Views
 pub mod Parts
+pub mod Told

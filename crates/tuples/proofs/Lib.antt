@@ -4,3 +4,4 @@ pub mod Storing
 pub mod Writing
 pub mod Places
 pub mod Codes
+pub mod Told
