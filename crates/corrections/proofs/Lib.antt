@@ -1,3 +1,4 @@
 pub mod Wanted
 pub mod Choices
 pub mod Parts
+pub mod Told
