@@ -4,3 +4,4 @@ pub mod Echoes
 pub mod Fills
 pub mod Answers
 pub mod Results
+pub mod Settled

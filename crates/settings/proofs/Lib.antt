@@ -4,3 +4,4 @@ pub mod Governing
 pub mod Counted
 pub mod Fills
 pub mod Answers
+pub mod Settled
