@@ -13,3 +13,4 @@ pub mod Calls
 pub mod Places
 pub mod Holding
 pub mod Edits
+pub mod Told
