@@ -4,3 +4,4 @@ pub mod Units
 pub mod Laying
 pub mod Handing
 pub mod Results
+pub mod Told
