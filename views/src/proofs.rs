@@ -2,6 +2,7 @@
 //! constants, the record of the numbers and the numbers of the record come to, with the list of types opened.
 
 mod read;
+mod told;
 mod write;
 
 use crate::table::Record;
@@ -14,6 +15,7 @@ pub fn files(records: &[Record]) -> Vec<File> {
     for record in records {
         let proofs = [read::proof(record), write::proof(record)];
         files.extend(proofs.map(|proof| file(record, proof)));
+        files.extend(told::files(record));
     }
     files
 }

@@ -83,7 +83,7 @@ const NAMES: [&str; 12] = [
 
 /// The name of a law about a record: `event_settled`, `run-start-settled`. A dash stands between two names alone, as tools/snake.py
 /// spells all that the crates declare.
-fn law(record: &Record, what: &str) -> String {
+pub fn law(record: &Record, what: &str) -> String {
     let words = record.module.split('_').chain([what]);
     let mut law = String::new();
     let mut named = false;

@@ -5,3 +5,4 @@ pub mod Handed
 pub mod Records
 pub mod Apart
 pub mod Pings
+pub mod Told

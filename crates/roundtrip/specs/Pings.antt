@@ -1,14 +1,19 @@
 -- Pings that the writers take, by the program's types and by the rules; and a ping that is read back. Over the family. Assumes nothing.
 use Rattle.std.specs.Prelude.{◌≡◌, ℕ, ◌+◌, ◌*◌, ◌^◌, ◌≤◌, false, not, ◌&&◌, List, [], ◌∷◌, ◌++◌, eqb, ℤ, length, drop}
 use Rattle.std.proofs.Math.Option.{Option, none}
+use Rattle.std.specs.Prelude.{Result, Ok}
+use Rattle.layout.specs.declared.Counts.{Counts}
+use Rattle.layout.specs.declared.Refusal.{Refusal}
 use Rattle.layout.specs.Answer.{Answer}
-use Rattle.layout.specs.Answers.{accepting}
+use Rattle.layout.specs.Answers.{accepting, counts}
+use Rattle.layout.specs.Views.{as_answer}
 use Rattle.layout.specs.Families.{Family, number_bytes, value_bytes}
 use Rattle.samples.specs.Words.{Below}
 use Rattle.samples.specs.Lists.{handed_bytes, paired, angled}
 use Rattle.samples.specs.Values.{words_for}
 use Rattle.samples.specs.Judging.{most, first_drop, first_wordless, too_short}
 use Rattle.content.specs.Forms.{has_length}
+use Rattle.pings.specs.declared.Ping.{Ping}
 use Rattle.pings.specs.declared.PingHeader.{PingHeader}
 use Rattle.pings.specs.declared.PingKind.{PingKind}
 use Rattle.pings.specs.PingRead.{PingRead}
@@ -16,6 +21,7 @@ use Rattle.pings.specs.PingRead.{Read}
 use Rattle.pings.specs.Headers.{told_length}
 use Rattle.pings.specs.Readers.{samples_at, SamplesRead, AnglesRead}
 use Rattle.pings.specs.Fields.{PingAt}
+use Rattle.pings.specs.Views.{as_ping}
 use Rattle.roundtrip.specs.Held.{InRange, U16, U32, I32}
 
 -- ---- what the program's types give
@@ -85,4 +91,25 @@ pub record AnglesBack (h : PingHeader) (a : ℤ) (ns : List ℕ) (xs ys : List �
   pub handed : (numbers ms : List ℕ) (alongship athwartship us ws : List ℤ) (r : Answer) → length ns ≤ length numbers
       → length ns ≤ length alongship → length ns ≤ length athwartship → AnglesRead file p numbers alongship athwartship r ms us ws
       → (r ≡ accepting 1 (length ns)) × (ms ≡ ns ++ drop (length ns) numbers) × (us ≡ xs ++ drop (length ns) alongship)
+      × (ws ≡ ys ++ drop (length ns) athwartship)
+
+-- ---- the same of what the code hands back
+abbrev pub Given : PingHeader → ℤ → PingKind → ℕ → Option ℕ → List ℕ → ℕ → Type 0
+Given h a kind n l file p =
+    (out : Result Ping Refusal) → PingAt file p (as_ping out)
+    → out ≡ Ok (record { header = h; attribute = a; kind = kind; values = n; length = told_length l })
+
+pub record PingGiven (h : PingHeader) (a : ℤ) (ns : List ℕ) (vs : List ℤ) (l : Option ℕ) (kind : PingKind) (file : List ℕ) (p : ℕ)
+    : Type 0 where
+  pub fields : Given h a kind (length ns) l file p
+  pub handed : (numbers ms : List ℕ) (values us : List ℤ) (r : Result Counts Refusal) → length ns ≤ length numbers
+      → length ns ≤ length values → SamplesRead file p numbers values (as_answer r) ms us
+      → (r ≡ Ok (counts 1 (length ns))) × (ms ≡ ns ++ drop (length ns) numbers) × (us ≡ vs ++ drop (length ns) values)
+
+pub record AnglesGiven (h : PingHeader) (a : ℤ) (ns : List ℕ) (xs ys : List ℤ) (kind : PingKind) (file : List ℕ) (p : ℕ) : Type 0 where
+  pub fields : Given h a kind (length ns) none file p
+  pub handed : (numbers ms : List ℕ) (alongship athwartship us ws : List ℤ) (r : Result Counts Refusal) → length ns ≤ length numbers
+      → length ns ≤ length alongship → length ns ≤ length athwartship
+      → AnglesRead file p numbers alongship athwartship (as_answer r) ms us ws
+      → (r ≡ Ok (counts 1 (length ns))) × (ms ≡ ns ++ drop (length ns) numbers) × (us ≡ xs ++ drop (length ns) alongship)
       × (ws ≡ ys ++ drop (length ns) athwartship)

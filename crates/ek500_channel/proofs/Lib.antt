@@ -1,0 +1,2 @@
+-- Made from views/records.txt by views/make.
+pub mod Told

@@ -1,0 +1,36 @@
+-- Made from views/records.txt by views/make.
+-- What reading hands back is settled by what the view says of it, and so by the promises of reading and writing. Assumes nothing.
+use mathlib.Core.Path.{◌≡◌, refl, ap}
+use mathlib.Core.Bool.{Bool}
+use mathlib.Core.List.{List}
+use Prim.Native.Nat.{ℕ}
+use Rattle.std.specs.Prelude.{Result, Ok, Err}
+use Rattle.layout.specs.declared.Counts.{Counts}
+use Rattle.layout.specs.declared.Refusal.{Refusal}
+use Rattle.layout.specs.Views.{as_answer}
+use Rattle.layout.proofs.Told.{refusal_by, refusal_back, same_seen}
+use Rattle.tuples.proofs.Told.{written_told}
+use Rattle.signature.specs.declared.Signature.{Signature}
+use Rattle.signature.specs.SignatureRead.{SignatureRead, Read, Refused}
+use Rattle.signature.specs.Signature.{as_read, SignatureAt, signature-settled, SignatureWritten}
+
+abbrev read_by : SignatureRead → Result Signature Refusal
+read_by (Read r) = Ok r
+read_by (Refused c p) = Err (refusal_by c p)
+
+read_back : (r : Result Signature Refusal) → read_by (as_read r) ≡ r
+read_back (Ok r) = refl
+read_back (Err r) = ap Err (refusal_back r)
+
+pub same_read : (r s : Result Signature Refusal) → as_read r ≡ as_read s → r ≡ s
+same_read = same_seen as_read read_by read_back
+
+-- ---- two outcomes that a promise allows are one, with the memory that it leaves
+pub signature_told : {f : List ℕ} {p : ℕ} (r t : Result Signature Refusal) → SignatureAt f p (as_read r)
+    → SignatureAt f p (as_read t) → r ≡ t
+signature_told r t a b = same_read r t (signature-settled a b)
+
+pub signature_written_told : (o : Bool) (x : Signature) (out : List ℕ) (r s : Result Counts Refusal)
+    {left kept : List ℕ} → SignatureWritten o x out (as_answer r) left
+    → SignatureWritten o x out (as_answer s) kept → (r ≡ s) × (left ≡ kept)
+signature_written_told o x out r s a b = written_told r s a b
