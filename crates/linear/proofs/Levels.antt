@@ -11,10 +11,21 @@ use lib.ListN.{get_or}
 use lib.IntN.{ℤ, pos, negsuc}
 use lib.Signed.{le_z, lt_z}
 use Rattle.rules.proofs.Bools.{both_true, and_false}
-use Rattle.std.specs.Int.{div_ceil}
 use Rattle.layout.specs.Families.{Family}
 use Rattle.linear.specs.Roots.{roots}
-use Rattle.linear.specs.Linear.{steps_of, tens_of, scaled, linear_at, linear_below, millionths, negated, depth_of, is_inside, linear_of}
+use Rattle.linear.specs.Linear.{
+  steps_of,
+  tens_of,
+  rest_of,
+  scaled,
+  linear_at,
+  linear_below,
+  millionths,
+  negated,
+  depth_of,
+  is_inside,
+  linear_of,
+}
 use Rattle.linear.specs.Results.{Stepped}
 use Rattle.linear.proofs.Rule.{steps_fall}
 
@@ -35,20 +46,18 @@ steps-most s h = le_trans (steps_fall 0 s zero-le h) loudest
 pub below-most : (d : ℕ) → d ≤ 150000000 → linear_below d ≤ 100000000000000
 below-most d h = steps-most (steps_of d) (omega arith)
 
--- as the code tells it: by the tens t, an entry e and a power p of ten, with its bound
-module _ (s : ℕ) {t e p : ℕ} (h : s ≤ 3000) (tens : t ≡ div_ceil s 200) (entry : e ≡ get_or roots (200 * t - s) 0) where
-  pub told-up : t ≤ 8 → p ≡ 10 ^ (8 - t) → (e * p ≡ linear_at s) × (e * p ≤ 100000000000000)
+-- as the code tells it: by an entry e and a power p of ten, with its bound
+module _ (s : ℕ) {e p : ℕ} (h : s ≤ 3000) (entry : e ≡ get_or roots (rest_of s) 0) where
+  pub told-up : tens_of s ≤ 8 → p ≡ 10 ^ (8 - tens_of s) → (e * p ≡ linear_at s) × (e * p ≤ 100000000000000)
   unfolding linear_at scaled
   told-up g power =
-      let a : t ≡ tens_of s = omega arith in
-      let r : e * p ≡ linear_at s = rw (entry, power, a) (rw (le-leb (tens_of s) 8 (omega arith), scaled)) in
+      let r : e * p ≡ linear_at s = rw (entry, power) (rw (le-leb _ _ g, scaled)) in
       (r, rw r (steps-most s h))
 
-  pub told-down : 8 < t → p ≡ 10 ^ (t - 8) → (e / p ≡ linear_at s) × (e / p ≤ 100000000000000)
+  pub told-down : 8 < tens_of s → p ≡ 10 ^ (tens_of s - 8) → (e / p ≡ linear_at s) × (e / p ≤ 100000000000000)
   unfolding linear_at scaled
   told-down g power =
-      let a : t ≡ tens_of s = omega arith in
-      let r : e / p ≡ linear_at s = rw (entry, power, a) (rw (lt-leb (tens_of s) 8 (omega arith), scaled)) in
+      let r : e / p ≡ linear_at s = rw (entry, power) (rw (lt-leb _ _ g, scaled)) in
       (r, rw r (steps-most s h))
 
 -- ---- of a stored value: what is inside lies at most 150 dB below 0

@@ -1,4 +1,4 @@
--- Laws of the table: its rule, and that more steps below 0 dB never give more, each by one test that is computed over all places. Assumes
+-- Laws of the tables: their rules, and that more steps below 0 dB never give more, each by one test that is computed over all places. Assumes
 -- nothing.
 use Prim.Native.Nat.{ℕ, zero, suc, ◌+◌, ◌^◌, ◌≤◌, ◌<◌}
 use mathlib.Core.Path.{◌≡◌, refl, ap, ◌∙◌}
@@ -18,12 +18,13 @@ use native.Mathlib.Nat.{
 use native.Mathlib.Numerals.{add-one}
 use native.Mathlib.Decide.{le_ind}
 use native.Mathlib.Omega.{arith}
-use borrow.Author.Tests.{leb-true, ltb-true}
-use lib.Dec.{leb, ltb}
+use borrow.Author.Tests.{leb-true, ltb-true, eqb-true}
+use lib.Dec.{leb, ltb, eqb}
 use lib.ListN.{length, get_or}
 use Rattle.rules.proofs.Bools.{both_true}
 use Rattle.linear.specs.Roots.{roots, Largest}
 use Rattle.linear.specs.Linear.{scaled, linear_at}
+use Rattle.linear.specs.inner.Values.{powers_of_ten}
 
 -- a test that passes at all numbers below n passes at each
 abbrev below : (ℕ → Bool) → ℕ → Bool
@@ -75,6 +76,20 @@ all_small = refl
 pub entry-small : (k : ℕ) → k < 200 → get_or roots k 0 < 10 ^ 7
 unfolding small
 entry-small k h = ltb-true (entry_at k) 10000000 (each small 200 all_small k h)
+
+-- ---- each power of ten stands at its exponent
+power : ℕ → Bool
+power n = eqb (get_or powers_of_ten n 0) (10 ^ n) && leb (get_or powers_of_ten n 0) 100000000
+
+all-powers : below power 9 ≡ true
+unfolding power powers_of_ten
+all-powers = refl
+
+pub power-at : (n : ℕ) → n ≤ 8 → (get_or powers_of_ten n 0 ≡ 10 ^ n) × (get_or powers_of_ten n 0 ≤ 100000000)
+unfolding power
+power-at n h =
+    let b = both_true (eqb (get_or powers_of_ten n 0) (10 ^ n)) _ (each power 9 all-powers n (omega arith)) in
+    (eqb-true _ _ b.0, leb-true _ _ b.1)
 
 -- ---- more steps below 0 dB never give more
 falling : ℕ → Bool

@@ -5,7 +5,7 @@ ghost use Rattle.std.specs.Prelude.{◌≡◌, ◌*◌, ◌^◌, ◌≤◌, ◌<
 ghost use Rattle.quantities.specs.inner.Codes.{family_of};
 ghost use Rattle.linear.specs.Roots.{roots};
 ghost use Rattle.linear.specs.Linear.{linear_at, linear_below, millionths, negated};
-ghost use Rattle.linear.specs.inner.Values.{all_values};
+ghost use Rattle.linear.specs.inner.Values.{powers_of_ten, all_values};
 
 use layout::types;
 
@@ -47,12 +47,33 @@ const ROOTS: [u32; 200] = [
     8912509, 9015711, 9120108, 9225714, 9332543, 9440608, 9549925, 9660508, 9772372, 9885530,
 ];
 
+// The powers of ten from the 0th to the eighth.
+const POWERS: [u64; 9] = [
+    1,
+    10,
+    100,
+    1_000,
+    10_000,
+    100_000,
+    1_000_000,
+    10_000_000,
+    100_000_000,
+];
+
 // The table, to be lent to all that use it: a constant array at a place that isn't known when compiled is laid on the stack at each use.
 #[tactic(auto, unfolding(crate::specs::Roots::roots))]
 fn table() -> [u32; 200]
     ensures { result ≡ roots }
 {
     ROOTS
+}
+
+// The powers of ten, to be lent likewise.
+#[tactic(auto, unfolding(crate::specs::inner::Values::powers_of_ten))]
+fn powers() -> [u64; 9]
+    ensures { result ≡ powers_of_ten }
+{
+    POWERS
 }
 
 // An entry of the table.
@@ -63,18 +84,27 @@ fn entry(table: &[u32; 200], k: usize) -> u64
     u64::from(table[k])
 }
 
+// A power of ten, looked up: with `10u64.pow(..)` at each of the levels a program on a small file takes a quarter more time.
+fn power(powers: &[u64; 9], n: u64) -> u64
+    requires { (powers.now ≡ powers_of_ten) × (n ≤ 8) }
+    ensures { (result ≡ 10 ^ n) × (result ≤ 100000000) }
+{
+    powers[n as usize]
+}
+
 // The linear value so many steps below 0 dB.
-fn linear_at(table: &[u32; 200], steps: u64) -> u64
-    requires { (table.now ≡ roots) × (steps ≤ 3000) }
+fn linear_at(table: &[u32; 200], powers: &[u64; 9], steps: u64) -> u64
+    requires tables { (table.now ≡ roots) × (powers.now ≡ powers_of_ten) }
+    requires steps_bound { steps ≤ 3000 }
     ensures { (result ≡ linear_at steps) × (result ≤ 100000000000000) }
 {
-    let tens = steps.div_ceil(STEPS);
+    let tens = (steps + (STEPS - 1)) / STEPS;
     let k = (STEPS * tens - steps) as usize;
     let e = entry(table, k);
     if tens <= SHIFT {
-        return e * 10u64.pow((SHIFT - tens) as u32);
+        return e * power(powers, SHIFT - tens);
     }
-    e / 10u64.pow((tens - SHIFT) as u32)
+    e / power(powers, tens - SHIFT)
 }
 
 // The linear values of all levels, to be lent to all that use them.
@@ -83,8 +113,9 @@ pub fn fill_values(values: &mut [u64; LEVELS])
     ensures { values.new ≡ all_values }
 {
     let table = table();
+    let powers = powers();
     for (steps, value) in values.iter_mut().enumerate() {
-        *value = linear_at(&table, steps as u64);
+        *value = linear_at(&table, &powers, steps as u64);
     }
 }
 
