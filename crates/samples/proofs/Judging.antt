@@ -13,7 +13,7 @@ use borrow.Author.Tests.{lt-ltb, lt-leb, leb-true, leb-false, eqb-true, eqb-fals
 use Rattle.rules.proofs.Bools.{and_false}
 use Rattle.layout.specs.Families.{Family, value_bytes, radix_of, sample_bytes, is_bad}
 use Rattle.samples.specs.Words.{Sample, sample_of}
-use Rattle.samples.specs.Runs.{is_run, ends_from, values}
+use Rattle.samples.specs.Runs.{is_run, ends_from, values, first_bad}
 use Rattle.samples.specs.Values.{front, has_space}
 use Rattle.samples.specs.Judging.{first_drop, any_bad}
 use Rattle.samples.proofs.Words.{some_bytes, word_at, words_from, from_cons, rest_of, rest-next}
@@ -63,6 +63,14 @@ module _ (k : ℕ) (pos : 0 < k) (o : Bool) (part : List ℕ) (p w : ℕ) (h : k
   pub next : words_from k o part p ≡ w ∷ words_from k o part (p + k)
   next = rw e (from_cons k o part p pos (omega arith))
 
+  -- the first bad word is this one, or the first behind it
+  module _ (f : Family) where
+    pub bad-there : is_bad f w ≡ true → first_bad f (words_from k o part p) ≡ 0
+    bad-there t = ap (first_bad f) next ∙ bad-here f w _ t
+
+    pub bad-behind : is_bad f w ≡ false → first_bad f (words_from k o part p) ≡ first_bad f (words_from k o part (p + k)) + 1
+    bad-behind t = ap (first_bad f) next ∙ bad-later f w _ t
+
 -- ---- samples: the number x at p, and the samples from behind it on
 module _ (f : Family) (o : Bool) (part : List ℕ) (p x : ℕ) (h : sample_bytes f ≤ length part - p)
     (e : x ≡ (sample_of f o (drop p part)).0) where
@@ -75,6 +83,13 @@ module _ (f : Family) (o : Bool) (part : List ℕ) (p x : ℕ) (h : sample_bytes
   pub next_sample : rest_of f o part p ≡ here ∷ behind
   next_sample =
       rest-next f o part p (omega (arith, some_bytes f)) ∙ ap (λ (y : ℕ). (y, (sample_of f o (drop p part)).1) ∷ behind) (sym e)
+
+  -- the first number that falls below n, or not above the one before it, is this one, or the first behind it
+  pub fall_there : (n : ℕ) → x < n → first_drop n (rest_of f o part p) ≡ 0
+  fall_there n t = ap (first_drop n) next_sample ∙ drop_here n here behind (lt-leb n x t)
+
+  pub fall_behind : (n : ℕ) → n ≤ x → first_drop n (rest_of f o part p) ≡ first_drop (x + 1) behind + 1
+  fall_behind n t = ap (first_drop n) next_sample ∙ drop-later n here behind t
 
 -- ---- the space behind words, by the number of value words and whether the last word is a run
 front-values : (R w : ℕ) (ws : List ℕ) → values R (w ∷ ws) ≡ values R (front (w ∷ ws)) + bool_byte (not (ends_from R false (w ∷ ws)))
