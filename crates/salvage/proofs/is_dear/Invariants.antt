@@ -2,5 +2,5 @@
 use Rattle.std.proofs.Common.{◌*◌, ◌≤◌}
 use Rattle.salvage.proofs.is_dear.Given as goal
 
-abbrev pub invariant-loop-at : goal.invariant-loop-at
-invariant-loop-at l = l.bytes ≤ 65536 * l.at
+abbrev pub invariant-loop-i : goal.invariant-loop-i
+invariant-loop-i l = l.bytes ≤ 262144 * l.i
