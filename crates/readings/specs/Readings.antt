@@ -16,7 +16,6 @@ use Rattle.quantities.specs.declared.Quantity.{Quantity}
 use Rattle.quantities.specs.Quantities.{quantity_of}
 use Rattle.linked.specs.Linked.{Linked, Sought, sought, refused, sought_at}
 use Rattle.layout.specs.Views.{as_answer}
-use Rattle.layout.proofs.Told.{same_answer}
 use Rattle.readings.specs.declared.Page.{Page}
 use Rattle.readings.specs.declared.Reading.{Reading}
 use Rattle.readings.specs.declared.Reading.TheVariants.{Silent}
@@ -98,7 +97,3 @@ page_by (Refused c p) rs = replicate page_size Silent
 pub record PageTold (f : List ℕ) (p first : ℕ) (r : Page) : Type 0 where
   pub answer : Tells Answers.numbers (as_answer r.answer) (readings_answer f p page_size)
   pub readings : r.readings ≡ map shown (page_by (readings_answer f p page_size) (window_at f p first page_size))
-
-pub page_settled : {f : List ℕ} {p first : ℕ} {r s : Page} → PageTold f p first r → PageTold f p first s
-    → (r.answer ≡ s.answer) × (r.readings ≡ s.readings)
-page_settled {r = r} {s = s} a b = (same_answer r.answer s.answer (a.answer.is ∙ sym b.answer.is), a.readings ∙ sym b.readings)
