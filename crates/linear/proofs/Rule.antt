@@ -1,5 +1,5 @@
--- Laws of the tables: their rules, and that more steps below 0 dB never give more, each by one test that is computed over all places. Assumes
--- nothing.
+-- Laws of the tables: their rules, and that more steps below 0 dB never give more, each by one test that is computed over all places.
+-- Assumes nothing.
 use Prim.Native.Nat.{ℕ, zero, suc, ◌+◌, ◌^◌, ◌≤◌, ◌<◌}
 use mathlib.Core.Path.{◌≡◌, refl, ap, ◌∙◌}
 use mathlib.Core.Bool.{Bool, true, ◌&&◌}
