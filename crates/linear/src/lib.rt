@@ -84,7 +84,8 @@ fn entry(table: &[u32; 200], k: usize) -> u64
     u64::from(table[k])
 }
 
-// A power of ten, looked up: with `10u64.pow(..)` at each of the levels a program on a small file takes a quarter more time.
+// A power of ten, looked up: with `10u64.pow(..)` at each of the levels, and `div_ceil` beside it, a ping's energy in a small file took a
+// quarter more time.
 fn power(powers: &[u64; 9], n: u64) -> u64
     requires { (powers.now ≡ powers_of_ten) × (n ≤ 8) }
     ensures { (result ≡ 10 ^ n) × (result ≤ 100000000) }

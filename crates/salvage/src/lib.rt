@@ -84,7 +84,7 @@ fn is_dear(file: &[u8], msb: bool) -> bool
     let end = (file.len() + 1).saturating_sub(frame::LEAST);
     let places = end.saturating_sub(frame::MARKED).div_ceil(STRIDE);
     let mut bytes = 0;
-    // places are counted: with `step_by`, which passes the bytes between them one by one, a file took 74 million instructions, so 45
+    // places are counted: `step_by` passes the bytes between them one by one, which a long file pays (docs/LOOK-BACK.md)
     for i in 0..places {
         bytes += seeming(file, frame::MARKED + STRIDE * i, msb);
     }
