@@ -1,7 +1,7 @@
 -- Laws of words and samples of two bytes, as the code tells them apart. Assumes nothing.
 use mathlib.Core.Path.{◌≡◌, refl, sym, ap, subst, ◌∙◌}
 use mathlib.Core.Logic.{◌⊎◌, ⊎_elim}
-use mathlib.Core.Bool.{Bool, true, false, not, ◌&&◌, ◌||◌, or-true, or-false}
+use mathlib.Core.Bool.{Bool, true, false, not, ◌&&◌, ◌||◌}
 use mathlib.Core.List.{List, [], ◌∷◌, ◌++◌, map}
 use Prim.Native.Nat.{ℕ, zero, suc, ◌+◌, ◌-◌, ◌*◌, ◌/◌, ◌%◌, ◌^◌, ◌≤◌, ◌<◌}
 use native.Mathlib.Nat.{zero-add, suc-add, mod-eq_of_lt, mul-le-mul, pow-le-pow_right, mul-div_cancel_left}
@@ -56,11 +56,6 @@ pub outside : (b : Bool) (w last : ℕ) (r : Bool) → r ≡ (leb 0x7f00 w && le
 unfolding is_bad
 outside true w last r e m = e ∙ ap (λ (n : ℕ). leb 0x7f00 w && leb w n) m
 outside false w last r e m = e ∙ ap (λ (n : ℕ). leb 0x7f00 w && leb w n) m
-
--- where some were counted, or this one is counted, some are
-pub some_more : (d : ℕ) (b : Bool) → not (eqb (d + bool_byte b) 0) ≡ (not (eqb d 0) || b)
-some_more d true = rw (ne_eqb (d + 1) 0 (λ e. omega arith)) (sym (or-true (not (eqb d 0))))
-some_more d false = let z : d + 0 ≡ d = omega arith in ap (λ (i : ℕ). not (eqb i 0)) z ∙ sym (or-false (not (eqb d 0)))
 
 -- ---- CE-16 counts
 -- without an exponent a count is its mantissa

@@ -234,9 +234,8 @@ struct Seen {
     bad: bool,
 }
 
-// Looks at the words of a block. Values and words outside the limits are counted in 16 bits, as wide as a word, so that the compiler looks
-// at eight at once, which was measured three times as fast as in 32, and half as much again as fast as with a flag for words outside the
-// limits: hence blocks.
+// Looks at the words of a block. Values are counted in 16 bits, as wide as a word, so that the compiler looks at eight at once, which was
+// measured three times as fast as in 32: hence blocks.
 fn see(words: &[[u8; WORD]], msb: bool, encoded: bool) -> Seen
     requires { length words.now ≤ 16384 }
     ensures values_value { result.values ≡ values 256 (map (num_of msb) words.now) }
@@ -245,19 +244,21 @@ fn see(words: &[[u8; WORD]], msb: bool, encoded: bool) -> Seen
 {
     let most = most_bad(encoded);
     let mut values: u16 = 0;
-    let mut bad: u16 = 0;
+    let mut bad = false;
     for bytes in words {
         let word = word_in(bytes, msb);
         values += !is_run(word) as u16;
-        bad += is_bad(word, most) as u16;
+        bad |= is_bad(word, most);
     }
     Seen {
         values: u32::from(values),
-        bad: bad != 0,
+        bad,
     }
 }
 
-// Looks at all words, block by block.
+// Looks at all words, block by block. Inlined, as `judge_words` is: so the compiler knows whether they are CE-16's, and whether words
+// outside the limits are asked for. By calls a CE-16 ping was checked in half as many instructions again.
+#[inline(always)]
 fn look(part: &[u8], msb: bool, encoded: bool) -> Seen
     requires part_len { length part.now % 2 ≡ 0 }
     requires part_len_bound { length part.now ≤ 262108 }
@@ -328,6 +329,7 @@ fn find_bad(part: &[u8], msb: bool, encoded: bool) -> usize
 
 // What the rules say of a C-16 or a CE-16 ping's words, of which its number of samples counts the values: the part of the file that they
 // fill, with a space behind them where there is one. A space is none of them, though it may look like a word outside the limits.
+#[inline(always)]
 pub fn judge_words(part: &[u8], msb: bool, count: u32, encoded: bool) -> Verdict
     requires in_bounds { 2 ≤ length part.now }
     requires part_len { length part.now % 2 ≡ 0 }
